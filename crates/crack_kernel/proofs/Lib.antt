@@ -1,0 +1,3 @@
+pub mod PartMoves
+pub mod PartChanges
+pub mod PivotOrder

@@ -1,0 +1,261 @@
+//! The pivots of a column, by rising value.
+
+ghost use Rattle.std.specs.Prelude.{◌≡◌, ◌+◌, ◌<◌, ◌≤◌, ◌^◌, [], ◌∷◌, ◌↔◌, true, false, drop, map, length, All, Contains, IsPermutation, IsTrue, IsFalse, IsOk, OnOk, MatchOption, vec_len, vec_capacity};
+ghost use Rattle.crack_kernel.specs.PivotList.{IsRising, IsNewValue, RisesPast, IsPieceOf, moved, shifted, closed_up};
+
+use std::alloc::{AllocError, Allocator};
+use std::marker::Model;
+
+/// The greatest number of pivots: a search among them takes at most 13 steps.
+pub const MAX_PIVOTS: usize = 4096;
+
+/// The pivots of a column: pairs of a value and a place, by strictly rising value.
+///
+/// The rows before a pivot's place have scores below its value, the rows from its place on have
+/// not. The rows themselves stand elsewhere, so it is for the owner of both to keep that.
+#[derive(Drop)]
+pub struct Pivots<A: Allocator> {
+    list: Vec<(i64, usize), A>,
+}
+
+impl<A: Allocator> Model for Pivots<A> {
+    ghost use Rattle.std.specs.Prelude.{◌≤◌, ◌-◌, length, vec_capacity, vec_len};
+    ghost use Rattle.crack_kernel.specs.PivotList.{PivotList, IsRising};
+
+    ghost Value = { PivotList };
+
+    ghost view = { λ p. record { list = p.list.items; spare = vec_capacity p.list - vec_len p.list } };
+
+    ghost invariant = { λ p. IsRising p.list.items × (length p.list.items ≤ 4096) };
+}
+
+impl<A: Allocator> Pivots<A> {
+    /// No pivots. It takes no memory.
+    pub fn new(alloc: A) -> Self
+        ensures { result.list ≡ [] }
+    {
+        Pivots {
+            list: Vec::new(alloc),
+        }
+    }
+
+    /// How many pivots there are.
+    pub fn len(&self) -> usize
+        ensures len { result ≡ length self.now.list }
+        ensures few { result ≤ 4096 }
+    {
+        self.list.len()
+    }
+
+    /// Whether there is no pivot.
+    pub fn is_empty(&self) -> bool
+        ensures { IsTrue result ↔ (self.now.list ≡ []) }
+    {
+        self.list.is_empty()
+    }
+
+    /// The pivots in order, each a value and a place.
+    pub fn list(&self) -> &[(i64, usize)]
+        ensures value { result.now ≡ self.now.list }
+        ensures rising { IsRising self.now.list }
+        ensures few { length self.now.list ≤ 4096 }
+    {
+        &self.list
+    }
+
+    /// How many pivots have a value up to `v`: the index of the first pivot above `v`.
+    pub fn count_upto(&self, v: i64) -> usize
+        ensures { RisesPast v self.now.list result }
+    {
+        count_upto(&self.list, v)
+    }
+
+    /// The place of the pivot with the value `v`, if there is one.
+    pub fn find(&self, v: i64) -> Option<usize>
+        ensures { MatchOption result (IsNewValue v self.now.list) (λ place. Contains self.now.list (v, place)) }
+    {
+        find(&self.list, v)
+    }
+
+    /// The piece in which a row of the score `v` stands, among `rows_len` rows: where it begins
+    /// and where it ends.
+    pub fn piece_of(&self, v: i64, rows_len: usize) -> (usize, usize)
+        ensures { IsPieceOf v self.now.list rows_len result }
+    {
+        piece_of(&self.list, v, rows_len)
+    }
+
+    /// Makes room for `n` more pivots.
+    pub fn reserve(&mut self, n: usize) -> Result<(), AllocError>
+        ensures list { self.new.list ≡ self.old.list }
+        ensures room { OnOk result (n ≤ self.new.spare) }
+        ensures spare { self.old.spare ≤ self.new.spare }
+        ensures succeeds { n ≤ self.old.spare → IsOk result }
+    {
+        self.list.reserve(n)
+    }
+
+    /// Adds a pivot at its place in the order. It takes no memory.
+    pub fn add(&mut self, v: i64, place: usize)
+        requires room { 0 < self.old.spare }
+        requires few { length self.old.list < 4096 }
+        requires new { IsNewValue v self.old.list }
+        ensures list { IsPermutation ((v, place) ∷ self.old.list) self.new.list }
+        ensures rising { IsRising self.new.list }
+        ensures spare { self.new.spare + 1 ≡ self.old.spare }
+    {
+        add(&mut self.list, v, place);
+    }
+
+    /// Moves the places of the pivots from the index `from_index` on one up or one down.
+    pub fn shift(&mut self, from_index: usize, up: bool)
+        requires from { from_index ≤ length self.old.list }
+        requires low { IsFalse up → All (λ p. 0 < p.1) (drop from_index self.old.list) }
+        requires high { IsTrue up → All (λ p. p.1 + 1 < 2 ^ 64) (drop from_index self.old.list) }
+        ensures list { self.new.list ≡ shifted from_index up self.old.list }
+        ensures spare { self.new.spare ≡ self.old.spare }
+    {
+        shift(&mut self.list, from_index, up);
+    }
+
+    /// Puts the places where they belong once the rows from the place `from` on and before the
+    /// place `to` are taken out and those behind have closed up.
+    pub fn close_up(&mut self, from: usize, to: usize)
+        requires { from ≤ to }
+        ensures list { self.new.list ≡ map (λ p. (p.0, closed_up from to p.1)) self.old.list }
+        ensures spare { self.new.spare ≡ self.old.spare }
+    {
+        close_up(&mut self.list, from, to);
+    }
+
+    /// Drops all pivots. The room stays.
+    pub fn clear(&mut self)
+        ensures list { self.new.list ≡ [] }
+        ensures spare { self.new.spare ≡ self.old.spare + length self.old.list }
+    {
+        self.list.clear();
+    }
+}
+
+/// How many pivots have a value up to `v`.
+fn count_upto(list: &[(i64, usize)], v: i64) -> usize
+    requires { IsRising list.now }
+    ensures { RisesPast v list.now result }
+{
+    list.partition_point(|pivot| pivot.0 <= v)
+}
+
+/// The place of the pivot with the value `v`, if there is one.
+fn find(list: &[(i64, usize)], v: i64) -> Option<usize>
+    requires { IsRising list.now }
+    ensures { MatchOption result (IsNewValue v list.now) (λ place. Contains list.now (v, place)) }
+{
+    let index = count_upto(list, v);
+    if index == 0 {
+        return None;
+    }
+    let (value, place) = list[index - 1];
+    if value == v { Some(place) } else { None }
+}
+
+/// The piece in which a row of the score `v` stands.
+fn piece_of(list: &[(i64, usize)], v: i64, rows_len: usize) -> (usize, usize)
+    requires { IsRising list.now }
+    ensures { IsPieceOf v list.now rows_len result }
+{
+    let index = count_upto(list, v);
+    let start = if index == 0 { 0 } else { list[index - 1].1 };
+    let end = if index < list.len() {
+        list[index].1
+    } else {
+        rows_len
+    };
+    (start, end)
+}
+
+/// Adds a pivot at its place in the order.
+fn add<A: Allocator>(list: &mut Vec<(i64, usize), A>, v: i64, place: usize)
+    requires rising { IsRising list.old.items }
+    requires room { vec_len list.old < vec_capacity list.old }
+    requires new { IsNewValue v list.old.items }
+    ensures list { IsPermutation ((v, place) ∷ list.old.items) list.new.items }
+    ensures rising { IsRising list.new.items }
+    ensures len { vec_len list.new ≡ vec_len list.old + 1 }
+    ensures capacity { vec_capacity list.new ≡ vec_capacity list.old }
+{
+    let index = count_upto(list, v);
+    if list.insert(index, (v, place)).is_err() {
+        unreachable!();
+    }
+}
+
+/// Moves the places from the index `from_index` on.
+fn shift<A: Allocator>(list: &mut Vec<(i64, usize), A>, from_index: usize, up: bool)
+    requires from { from_index ≤ length list.old.items }
+    requires low { IsFalse up → All (λ p. 0 < p.1) (drop from_index list.old.items) }
+    requires high { IsTrue up → All (λ p. p.1 + 1 < 2 ^ 64) (drop from_index list.old.items) }
+    ensures list { list.new.items ≡ shifted from_index up list.old.items }
+    ensures len { vec_len list.new ≡ vec_len list.old }
+    ensures capacity { vec_capacity list.new ≡ vec_capacity list.old }
+{
+    let moving = &mut list[from_index..];
+    if up {
+        raise(moving);
+    } else {
+        lower(moving);
+    }
+}
+
+/// Moves each place one up.
+fn raise(pivots: &mut [(i64, usize)])
+    requires { All (λ p. p.1 + 1 < 2 ^ 64) pivots.old }
+    ensures { pivots.new ≡ map (moved true) pivots.old }
+{
+    for pivot in pivots.iter_mut() {
+        pivot.1 += 1;
+    }
+}
+
+/// Moves each place one down.
+fn lower(pivots: &mut [(i64, usize)])
+    requires { All (λ p. 0 < p.1) pivots.old }
+    ensures { pivots.new ≡ map (moved false) pivots.old }
+{
+    for pivot in pivots.iter_mut() {
+        pivot.1 -= 1;
+    }
+}
+
+/// Moves each place by the rows that are gone below it.
+fn close_up<A: Allocator>(list: &mut Vec<(i64, usize), A>, from: usize, to: usize)
+    requires { from ≤ to }
+    ensures list { list.new.items ≡ map (λ p. (p.0, closed_up from to p.1)) list.old.items }
+    ensures len { vec_len list.new ≡ vec_len list.old }
+    ensures capacity { vec_capacity list.new ≡ vec_capacity list.old }
+{
+    close_places(&mut list[..], from, to);
+}
+
+/// Moves each place by the rows that are gone below it.
+fn close_places(pivots: &mut [(i64, usize)], from: usize, to: usize)
+    requires { from ≤ to }
+    ensures { pivots.new ≡ map (λ p. (p.0, closed_up from to p.1)) pivots.old }
+{
+    for pivot in pivots.iter_mut() {
+        pivot.1 = closed_up(pivot.1, from, to);
+    }
+}
+
+/// A place, once the rows between two places are gone.
+fn closed_up(place: usize, from: usize, to: usize) -> usize
+    requires { from ≤ to }
+    ensures { result ≡ closed_up from to place }
+{
+    if place <= from {
+        place
+    } else if place < to {
+        from
+    } else {
+        place - (to - from)
+    }
+}

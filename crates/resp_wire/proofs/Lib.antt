@@ -1,0 +1,9 @@
+pub mod Tools
+pub mod Numbers
+pub mod Items
+pub mod Grows
+pub mod Streams
+pub mod Stepping
+pub mod Answering
+pub mod Ends
+pub mod LawProofs

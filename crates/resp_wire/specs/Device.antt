@@ -1,0 +1,20 @@
+-- What the calls of a source or a drain do to the bytes that it tells and to its counts.
+use Rattle.std.specs.Prelude.{ℕ, ◌+◌, ◌-◌, ◌^◌, ◌<◌, ◌≤◌, ◌⊎◌, min, List, [], take, Result, Ok, Err}
+
+-- the front of the bytes that a call moved: so many where it is Ok, and none where it failed
+abbrev pub moved : {E : Type 0} → Result ℕ E → List ℕ → List ℕ
+moved (Ok n) bytes = take n bytes
+moved (Err _) bytes = []
+
+-- a count of 64 bits after one more, which stays at its greatest
+abbrev pub risen : ℕ → ℕ
+risen n = min (n + 1) (2 ^ 64 - 1)
+
+-- the count of failures after a call with this result
+abbrev pub failures_after : {T E : Type 0} → ℕ → Result T E → ℕ
+failures_after n (Ok _) = n
+failures_after n (Err _) = risen n
+
+-- a count rose, or stands at its greatest, which counts as risen
+abbrev pub Rose : ℕ → ℕ → Type 0
+Rose old new = (old < new) ⊎ (2 ^ 64 ≤ new + 1)

@@ -1,0 +1,16 @@
+-- A decoder's fields, and what they stand for.
+use Rattle.std.specs.Prelude.{◌≡◌, ◌+◌, ◌-◌, ◌<◌, ◌≤◌, ◌^◌, ◌++◌, length, drop, All}
+use Rattle.resp_wire.specs.declared.decoder.Decoder.TheInside.{Inside}
+use Rattle.resp_wire.specs.Spelling.{IsWord}
+use Rattle.resp_wire.specs.Wire.{Wire, begun}
+
+abbrev pub wire_of : {A : Type 0} → Inside A → Wire
+wire_of d = record { held = begun d.count d.words.items ++ drop d.start d.bytes.items; taken = d.taken; fault = d.fault }
+
+pub record IsSound {A : Type 0} (d : Inside A) : Type 0 where
+  pub start : d.start ≤ length d.bytes.items
+  pub count : d.count ≤ 1027
+  pub few : length d.words.items ≤ d.count
+  pub each : All IsWord d.words.items
+  pub begun_is : d.begun ≡ length (begun d.count d.words.items)
+  pub room : d.taken + (d.begun + (length d.bytes.items - d.start)) < 2 ^ 64

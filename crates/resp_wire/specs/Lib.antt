@@ -1,0 +1,10 @@
+pub mod Spelling
+pub mod Reading
+pub mod Stream
+pub mod Response
+pub mod Faults
+pub mod Wire
+pub mod Device
+pub mod Gives
+pub mod Steps
+pub mod Fields

@@ -1,0 +1,46 @@
+-- A stream of bytes: its items from the front as far as they are whole, the rest behind them, and the
+-- fault of that rest. `longest` and `cut` in src/laws.rt say what these are without this recursion.
+use Rattle.std.specs.Prelude.{ℕ, zero, suc, List, [], ◌∷◌, length, Option, Some, None, Result, Ok, Err}
+use Rattle.resp_wire.specs.declared.fault.ProtocolFault.{ProtocolFault}
+use Rattle.resp_wire.specs.declared.fault.Stop.{Stop}
+use Rattle.resp_wire.specs.declared.fault.Stop.TheVariants.{Short, Wrong}
+use Rattle.resp_wire.specs.Spelling.{Item, Ask, SkipZero, SkipMinus}
+use Rattle.resp_wire.specs.Reading.{item_at}
+
+-- an item, in front of what more gives behind it
+abbrev pub in_front : (List ℕ → List Item × List ℕ) → List ℕ → Result (Item × List ℕ) Stop → List Item × List ℕ
+in_front more bytes (Ok first) = (first.0 ∷ (more first.1).0, (more first.1).1)
+in_front more bytes (Err stop) = ([], bytes)
+
+-- the first n items, or as many as are whole, and what is left
+unfoldable pub split_items : ℕ → List ℕ → List Item × List ℕ
+split_items zero bytes = ([], bytes)
+split_items (suc n) bytes = in_front (split_items n) bytes (item_at bytes)
+
+-- the requests among items
+abbrev pub asked : List Item → List (List (List ℕ))
+asked [] = []
+asked (Ask words ∷ items) = words ∷ asked items
+asked (SkipZero ∷ items) = asked items
+asked (SkipMinus ∷ items) = asked items
+
+-- all whole items: an item has a byte or more, so there are no more items than bytes
+unfoldable pub items : List ℕ → List Item
+items bytes = (split_items (length bytes) bytes).0
+
+-- the requests of a stream
+unfoldable pub requests : List ℕ → List (List (List ℕ))
+requests bytes = asked (items bytes)
+
+-- the bytes behind its last whole item
+unfoldable pub rest : List ℕ → List ℕ
+rest bytes = (split_items (length bytes) bytes).1
+
+abbrev pub fault_of : {X : Type 0} → Result X Stop → Option ProtocolFault
+fault_of (Ok x) = None
+fault_of (Err Short) = None
+fault_of (Err (Wrong f)) = Some f
+
+-- None where the rest may still become an item
+unfoldable pub fault : List ℕ → Option ProtocolFault
+fault bytes = fault_of (item_at (rest bytes))

@@ -1,0 +1,210 @@
+//! The devices that bytes come from and go to.
+//!
+//! A device counts its calls and its failures, and tells its bytes where it knows them: a file or a socket
+//! doesn't, memory does. Where bytes are told, a call that fails moves none.
+
+ghost use Rattle.std.specs.Prelude.{◌≡◌, ℕ, ◌<◌, ◌≤◌, List, Option, None, Ok, IfOk, length};
+ghost use Rattle.std.specs.Io.KnownBytes.{append_known, prepend_known, IsAtEnd};
+ghost use Rattle.resp_wire.specs.Device.{moved, risen, failures_after};
+
+use std::error::Error;
+use std::fmt;
+use std::io::{ErrorKind, Read, Result as IoResult, Write};
+
+/// A call of a device failed.
+#[derive(Clone, Copy, Debug, PartialEq, Eq)]
+pub struct Failed;
+
+impl fmt::Display for Failed {
+    fn fmt<W: fmt::Write>(&self, f: &mut fmt::Formatter<W>) -> fmt::Result {
+        f.write_str("the device failed")
+    }
+}
+
+impl Error for Failed {}
+
+/// Where bytes come from.
+pub trait ByteSource {
+    /// The bytes that are left, where they are known.
+    ghost told: { Self → Option (List ℕ) };
+
+    /// The number of calls. At 2^64 - 1 it stays, and counts as risen.
+    ghost calls: { Self → ℕ };
+
+    /// The number of calls that failed, counted in the same way.
+    ghost failures: { Self → ℕ };
+
+    /// Reads into the front of the buffer, and gives the number of bytes. 0 for a buffer that is not empty
+    /// says that the end is reached.
+    fn read(&mut self, buffer: &mut [u8]) -> Result<usize, Failed>
+        ensures count { IfOk result (λ n. n ≤ length buffer.old) }
+        ensures told { told self.old ≡ prepend_known (moved result buffer.new) (told self.new) }
+        ensures end { result ≡ Ok 0 → 0 < length buffer.old → IsAtEnd (told self.new) }
+        ensures calls { calls self.new ≡ risen (calls self.old) }
+        ensures failures { failures self.new ≡ failures_after (failures self.old) result };
+}
+
+/// Where bytes go.
+pub trait ByteDrain {
+    /// The bytes that were taken, where they are known.
+    ghost told: { Self → Option (List ℕ) };
+
+    /// The number of calls. At 2^64 - 1 it stays, and counts as risen.
+    ghost calls: { Self → ℕ };
+
+    /// The number of calls that failed, counted in the same way.
+    ghost failures: { Self → ℕ };
+
+    /// Takes bytes from the front of a piece, of one that is not empty at least one, and gives their number.
+    fn write(&mut self, piece: &[u8]) -> Result<usize, Failed>
+        ensures count { IfOk result (λ n. n ≤ length piece.now) }
+        ensures some { IfOk result (λ n. 0 < length piece.now → 0 < n) }
+        ensures told { told self.new ≡ append_known (told self.old) (moved result piece.now) }
+        ensures calls { calls self.new ≡ risen (calls self.old) }
+        ensures failures { failures self.new ≡ failures_after (failures self.old) result };
+
+    /// Sends on what the device holds back.
+    fn flush(&mut self) -> Result<(), Failed>
+        ensures told { told self.new ≡ told self.old }
+        ensures calls { calls self.new ≡ risen (calls self.old) }
+        ensures failures { failures self.new ≡ failures_after (failures self.old) result };
+}
+
+/// How often a call that a signal interrupted is made before it counts as failed.
+const ATTEMPTS: u32 = 100;
+
+fn is_interrupted<T>(answer: &IoResult<T>) -> bool {
+    match answer {
+        Ok(_) => false,
+        Err(error) => error.kind() == ErrorKind::Interrupted,
+    }
+}
+
+fn read_uninterrupted<R: Read>(reader: &mut R, buffer: &mut [u8]) -> IoResult<usize>
+    ensures { IfOk result (λ n. n ≤ length buffer.old) }
+{
+    for _ in 1..ATTEMPTS {
+        let answer = reader.read(buffer);
+        if !is_interrupted(&answer) {
+            return answer;
+        }
+    }
+    reader.read(buffer)
+}
+
+fn write_uninterrupted<W: Write>(writer: &mut W, piece: &[u8]) -> IoResult<usize>
+    ensures { IfOk result (λ n. n ≤ length piece.now) }
+{
+    for _ in 1..ATTEMPTS {
+        let answer = writer.write(piece);
+        if !is_interrupted(&answer) {
+            return answer;
+        }
+    }
+    writer.write(piece)
+}
+
+fn flush_uninterrupted<W: Write>(writer: &mut W) -> IoResult<()> {
+    for _ in 1..ATTEMPTS {
+        let answer = writer.flush();
+        if !is_interrupted(&answer) {
+            return answer;
+        }
+    }
+    writer.flush()
+}
+
+/// A reader of std's. Its bytes are not known. A read that a signal interrupted is made again, a hundred
+/// times at the most; all of these are one call.
+#[derive(Drop)]
+pub struct Reading<R> {
+    inner: R,
+    calls: u64,
+    failures: u64,
+}
+
+impl<R: Read> Reading<R> {
+    pub fn new(inner: R) -> Self
+        ensures calls { ⟦<Reading<R> as ByteSource>⟧.calls result ≡ 0 }
+        ensures failures { ⟦<Reading<R> as ByteSource>⟧.failures result ≡ 0 }
+    {
+        Reading {
+            inner,
+            calls: 0,
+            failures: 0,
+        }
+    }
+}
+
+impl<R: Read> ByteSource for Reading<R> {
+    ghost told = { λ s. None };
+
+    ghost calls = { λ s. s.calls };
+
+    ghost failures = { λ s. s.failures };
+
+    fn read(&mut self, buffer: &mut [u8]) -> Result<usize, Failed> {
+        self.calls = self.calls.saturating_add(1);
+        match read_uninterrupted(&mut self.inner, buffer) {
+            Ok(n) => Ok(n),
+            Err(_) => {
+                self.failures = self.failures.saturating_add(1);
+                Err(Failed)
+            }
+        }
+    }
+}
+
+/// A writer of std's. Its bytes are not known, and a write of no byte counts as a failure. A call that a
+/// signal interrupted is made again, a hundred times at the most; all of these are one call.
+#[derive(Drop)]
+pub struct Writing<W> {
+    inner: W,
+    calls: u64,
+    failures: u64,
+}
+
+impl<W: Write> Writing<W> {
+    pub fn new(inner: W) -> Self
+        ensures calls { ⟦<Writing<W> as ByteDrain>⟧.calls result ≡ 0 }
+        ensures failures { ⟦<Writing<W> as ByteDrain>⟧.failures result ≡ 0 }
+    {
+        Writing {
+            inner,
+            calls: 0,
+            failures: 0,
+        }
+    }
+
+    fn fail(&mut self) -> Failed
+        ensures calls { self.new.calls ≡ self.old.calls }
+        ensures failures { self.new.failures ≡ risen self.old.failures }
+    {
+        self.failures = self.failures.saturating_add(1);
+        Failed
+    }
+}
+
+impl<W: Write> ByteDrain for Writing<W> {
+    ghost told = { λ s. None };
+
+    ghost calls = { λ s. s.calls };
+
+    ghost failures = { λ s. s.failures };
+
+    fn write(&mut self, piece: &[u8]) -> Result<usize, Failed> {
+        self.calls = self.calls.saturating_add(1);
+        match write_uninterrupted(&mut self.inner, piece) {
+            Ok(n) if n > 0 || piece.is_empty() => Ok(n),
+            _ => Err(self.fail()),
+        }
+    }
+
+    fn flush(&mut self) -> Result<(), Failed> {
+        self.calls = self.calls.saturating_add(1);
+        match flush_uninterrupted(&mut self.inner) {
+            Ok(()) => Ok(()),
+            Err(_) => Err(self.fail()),
+        }
+    }
+}

@@ -1,0 +1,103 @@
+//! Requests and replies, written.
+
+ghost use Rattle.std.specs.Prelude.{◌≡◌, ◌≤◌, [], ◌++◌, ◌∷◌, length, take, OnOk, OnErr};
+ghost use Rattle.std.specs.List.{flat_map};
+ghost use Rattle.resp_wire.specs.Spelling.{line, argument, request};
+ghost use Rattle.resp_wire.specs.Response.{response_of, encoded};
+
+use crate::bytes::Bytes;
+use crate::reply::Reply;
+use crate::request::Request;
+use itoa::Buffer;
+use std::alloc::{AllocError, Allocator};
+
+/// A mark, a number, and the end of the line.
+fn put_number<A: Allocator>(out: &mut Vec<u8, A>, mark: u8, n: usize) -> Result<(), AllocError>
+    ensures ok { OnOk result (out.new.items ≡ out.old.items ++ mark ∷ line n) }
+    ensures kept { take (length out.old.items) out.new.items ≡ out.old.items }
+    ensures longer { length out.old.items ≤ length out.new.items }
+{
+    let mut buffer = Buffer::new();
+    out.push(mark)?;
+    out.extend_from_slice(buffer.format(n).as_bytes())?;
+    out.extend_from_slice(b"\r\n")
+}
+
+/// A mark, a text, and the end of the line.
+fn put_text<A: Allocator>(out: &mut Vec<u8, A>, mark: u8, text: &[u8]) -> Result<(), AllocError>
+    ensures ok { OnOk result (out.new.items ≡ out.old.items ++ mark ∷ (text.now ++ 13 ∷ 10 ∷ [])) }
+    ensures kept { take (length out.old.items) out.new.items ≡ out.old.items }
+    ensures longer { length out.old.items ≤ length out.new.items }
+{
+    out.push(mark)?;
+    out.extend_from_slice(text)?;
+    out.extend_from_slice(b"\r\n")
+}
+
+/// A bulk string.
+fn put_bulk<A: Allocator>(out: &mut Vec<u8, A>, bytes: &[u8]) -> Result<(), AllocError>
+    ensures ok { OnOk result (out.new.items ≡ out.old.items ++ argument bytes.now) }
+    ensures kept { take (length out.old.items) out.new.items ≡ out.old.items }
+    ensures longer { length out.old.items ≤ length out.new.items }
+{
+    put_number(out, b'$', bytes.len())?;
+    out.extend_from_slice(bytes)?;
+    out.extend_from_slice(b"\r\n")
+}
+
+/// An array of bulk strings.
+fn put_array<A: Allocator>(out: &mut Vec<u8, A>, list: &[Bytes<A>]) -> Result<(), AllocError>
+    ensures ok { OnOk result (out.new.items ≡ out.old.items ++ 42 ∷ (line (length list.now) ++ flat_map argument list.now)) }
+    ensures kept { take (length out.old.items) out.new.items ≡ out.old.items }
+    ensures longer { length out.old.items ≤ length out.new.items }
+{
+    put_number(out, b'*', list.len())?;
+    for bytes in list {
+        put_bulk(out, bytes.as_slice())?;
+    }
+    Ok(())
+}
+
+fn put_reply<A: Allocator>(reply: &Reply<A>, out: &mut Vec<u8, A>) -> Result<(), AllocError>
+    ensures ok { OnOk result (out.new.items ≡ out.old.items ++ encoded (response_of reply.now)) }
+    ensures kept { take (length out.old.items) out.new.items ≡ out.old.items }
+    ensures longer { length out.old.items ≤ length out.new.items }
+{
+    match reply {
+        Reply::Int(n) => put_text(out, b':', Buffer::new().format(*n).as_bytes()),
+        Reply::Bulk(bytes) => put_bulk(out, bytes.as_slice()),
+        Reply::Null => out.extend_from_slice(b"$-1\r\n"),
+        Reply::List(list) => put_array(out, list.as_slice()),
+        Reply::Simple(text) => put_text(out, b'+', text.as_bytes()),
+        Reply::Fault(text) => put_text(out, b'-', text.as_bytes()),
+    }
+}
+
+/// Writes a request at the end of the bytes. Where memory runs out they are as before.
+pub fn write_request<A: Allocator>(
+    wanted: &Request<A>,
+    out: &mut Vec<u8, A>,
+) -> Result<(), AllocError>
+    ensures ok { OnOk result (out.new.items ≡ out.old.items ++ request wanted.now) }
+    ensures err { OnErr result (out.new.items ≡ out.old.items) }
+{
+    let had = out.len();
+    let written = put_array(out, wanted.words());
+    if written.is_err() {
+        out.truncate(had);
+    }
+    written
+}
+
+/// Writes a reply at the end of the bytes. Where memory runs out they are as before.
+pub fn write_reply<A: Allocator>(reply: &Reply<A>, out: &mut Vec<u8, A>) -> Result<(), AllocError>
+    ensures ok { OnOk result (out.new.items ≡ out.old.items ++ encoded (response_of reply.now)) }
+    ensures err { OnErr result (out.new.items ≡ out.old.items) }
+{
+    let had = out.len();
+    let written = put_reply(reply, out);
+    if written.is_err() {
+        out.truncate(had);
+    }
+    written
+}

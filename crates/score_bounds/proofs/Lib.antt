@@ -1,0 +1,4 @@
+mod Numerals
+mod Cuts
+mod Points
+mod Grammar

@@ -1,0 +1,16 @@
+//! Texts of scores, ranges of scores, and the cuts that part a column of scores at a range.
+//!
+//! Scores are signed whole numbers of 64 bits. A range is given by two bounds, as the command
+//! page of ZRANGEBYSCORE has them; a cut is a place between scores, as in Database Cracking
+//! (CIDR 2007).
+#![tactic(auto)]
+
+mod bounds;
+pub mod laws;
+mod texts;
+
+pub use bounds::{Bound, Cut, Range};
+pub use texts::{read_integer, read_score, write_score};
+
+#[cfg(test)]
+mod tests;
