@@ -1,0 +1,5 @@
+pub mod Talk
+pub mod Session
+pub mod Sending
+pub mod Serving
+pub mod Owners

@@ -1,0 +1,60 @@
+//! What runs commands.
+
+ghost use Rattle.std.specs.Prelude.{Result};
+ghost use Rattle.resp_wire.specs.Response.{Response, response_of};
+ghost use Rattle.zset_core.specs.Meaning.{Asked};
+ghost use Rattle.zset_core.specs.declared.refusal.Refusal.{Refusal as RefusalValue};
+ghost use Rattle.session_core.specs.Owners.{IsIdle, OwnerAnswers};
+ghost use Rattle.session_core.specs.Talk.{answer_of, Turn};
+
+use resp_wire::{Reply, Request};
+use std::alloc::Allocator;
+use std::hash::BuildHasher;
+use zset_core::{Command, OneOwner, Refusal};
+
+/// What runs commands: one owner of sets, with an append file or without, or a worker on a shared table.
+/// `R` is the runtime, for those that wait for others.
+pub trait Exec<R, A: Allocator> {
+    /// It may run a command now.
+    ghost settled: { Self → Type 0 };
+
+    /// Old state, command, answer, new state.
+    ghost allows: { Self → Asked → Result Response RefusalValue → Self → Type 0 };
+
+    /// Runs one command.
+    fn run(&mut self, rt: &R, command: &Command<A>) -> Result<Reply<A>, Refusal>
+        requires { settled self.old }
+        ensures settled { settled self.new }
+        ensures allowed { allows self.old command.now (answer_of result) self.new };
+}
+
+/// One owner of sets: a command is answered by its definition, or refused with all sets as they were.
+impl<R, H: BuildHasher + Clone + Drop, A: Allocator + Copy> Exec<R, A> for OneOwner<H, A> {
+    ghost settled = { IsIdle };
+
+    ghost allows = { OwnerAnswers };
+
+    fn run(&mut self, _rt: &R, command: &Command<A>) -> Result<Reply<A>, Refusal> {
+        OneOwner::run(self, command)
+    }
+}
+
+/// The reply to a request.
+pub fn respond<R, A: Allocator + Copy, E: Exec<R, A>>(
+    rt: &R,
+    alloc: A,
+    exec: &mut E,
+    request: Request<A>,
+) -> Reply<A>
+    requires { E.settled exec.old }
+    ensures settled { E.settled exec.new }
+    ensures turn { Turn E.allows exec.old request (response_of result) exec.new }
+{
+    match Command::read(alloc, request) {
+        Err(refusal) => Reply::Fault(refusal.text()),
+        Ok(command) => match exec.run(rt, &command) {
+            Err(refusal) => Reply::Fault(refusal.text()),
+            Ok(reply) => reply,
+        },
+    }
+}

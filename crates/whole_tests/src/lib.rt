@@ -1,0 +1,14 @@
+//! The tests that cross crates: worked examples, bytes in and bytes out, through a session over one owner of
+//! sets. This crate has nothing but tests.
+#![tactic(auto)]
+
+#[cfg(test)]
+mod commands;
+#[cfg(test)]
+mod memory;
+#[cfg(test)]
+mod sessions;
+#[cfg(test)]
+mod talking;
+#[cfg(test)]
+mod wire;

@@ -1,0 +1,28 @@
+-- How the program ends: its exit status, and the lines on standard error.
+use Rattle.std.specs.Prelude.{◌≡◌, ℕ, List, [], ◌∷◌, Option, None, Some, Result, Ok, Err}
+use Rattle.resp_wire.specs.Faults.{number_of}
+use Rattle.zset_core.specs.Meaning.{Asked}
+use Rattle.zset_core.specs.declared.refusal.Refusal.{Refusal}
+use Rattle.resp_wire.specs.Response.{Response}
+use Rattle.session_core.specs.declared.fault.Ended.{Ended}
+use Rattle.session_core.specs.declared.fault.SessionFault.{SessionFault}
+use Rattle.session_core.specs.declared.fault.SessionFault.TheVariants as ends
+use Rattle.session_core.specs.Session.{Served}
+use Rattle.zcrackd.specs.declared.finish.Line.{Line}
+use Rattle.zcrackd.specs.declared.finish.Line.TheVariants as lines
+use Rattle.zcrackd.specs.declared.finish.Finish.{Finish}
+
+-- a session that ended so: status 0 at the end of the input, 4 for want of memory, else 1 with one line
+abbrev pub finish_of : Result Ended SessionFault → Finish
+finish_of (Ok ended) = record { status = 0; lines = None ∷ None ∷ [] }
+finish_of (Err ends.NoMemory) = record { status = 4; lines = Some lines.OutOfMemory ∷ None ∷ [] }
+finish_of (Err ends.ReadFault) = record { status = 1; lines = Some lines.ReadFault ∷ None ∷ [] }
+finish_of (Err (ends.WriteFault out)) = record { status = 1; lines = Some (lines.WriteFaultAfter out) ∷ None ∷ [] }
+finish_of (Err (ends.Wire fault)) = record { status = 1; lines = Some (lines.ProtocolFault (number_of fault)) ∷ None ∷ [] }
+finish_of (Err ends.TooManyReads) = record { status = 1; lines = Some lines.ReadTooOften ∷ None ∷ [] }
+
+-- a session was served, and the program ends by how it ended
+pub record Finishes {S : Type 0} (allows : S → Asked → Result Response Refusal → S → Type 0) (start : S) (source₀ source₁ drain₀ drain₁ : Option (List ℕ)) (finish : Finish) (here : S) : Type 0 where
+  pub result : Result Ended SessionFault
+  pub served : Served allows start source₀ source₁ drain₀ drain₁ result here
+  pub finish_is : finish ≡ finish_of result

@@ -1,0 +1,12 @@
+mod Options
+mod Pairs
+mod Adding
+mod Asked
+mod ReadingLaws
+pub mod Bridge
+pub mod Staging
+pub mod PairSteps
+pub mod Places
+pub mod Gathering
+pub mod Order
+pub mod Worlds

@@ -1,0 +1,24 @@
+use Rattle.std.proofs.Common.{◌≡◌, ◌∙◌, ◌<◌, ◌≤◌, ◌^◌, sym, ap, subst, refl, rules, arith, List, ℕ, ℤ, pos, length, w64, to_z}
+use Rattle.std.proofs.lemmas.Int.{to_z_pos}
+use Rattle.resp_wire.specs.Response.{Integer}
+use Rattle.zset_core.specs.Form.{scored}
+use Rattle.zset_core.specs.Sets.{Members}
+use Rattle.zset_core.specs.Step.{put_all, count_all, remove_all}
+use Rattle.zset_core.specs.Kept.{next, members_by, bytes_of}
+use Rattle.zset_core.proofs.Staging.{members_same}
+use Rattle.zset_core.proofs.plan.plan_add.Goals as goal
+
+pub returns-in-Ok-clause-ok : goal.returns-in-Ok-clause-ok
+returns-in-Ok-clause-ok g c =
+    let old = c.args.members.now.entries in
+    let ps = scored c.args.scores.now c.args.words.now in
+    let same = members_same old c.requires.settled in
+    let small : c.in-Ok.count < 9223372036854775808 = search rules in
+    record {
+      kept = c.len-kept.ensures.len;
+      grows = c.stage_all.ensures.grows;
+      waiting = c.stage_all.ensures.waiting;
+      members_are = ap (λ gone. remove_all (members_by next c.stage_all.new.members.entries) (bytes_of gone)) c.new.ensures.items
+          ∙ c.in-Ok.ensures.next ∙ ap (λ (m : Members). put_all c.args.flags m ps) same;
+      reply_is = ap Integer (to_z_pos w64 c.in-Ok.count small ∙ ap pos (c.in-Ok.ensures.count ∙ ap (λ (m : Members). count_all c.args.flags c.args.changed m ps) same));
+    }

@@ -1,0 +1,16 @@
+use Rattle.std.proofs.Common.{◌≡◌, ◌∙◌, sym, ap, subst, refl, List, ℕ}
+use Rattle.zset_core.specs.Step.{remove_all}
+use Rattle.zset_core.specs.Kept.{next, members_by, bytes_of, IsWaiting}
+use Rattle.zset_core.proofs.Staging.{members_same, Grows-self, IsWaiting-none}
+use Rattle.zset_core.proofs.plan.plan_nothing.Goals as goal
+
+pub returns : goal.returns
+returns g c =
+    let es = c.args.members.now.entries in
+    record {
+      kept = c.len.ensures.len;
+      grows = Grows-self es;
+      waiting = subst (λ (ps : List ℕ). IsWaiting ps es) (sym c.new.ensures.items) (IsWaiting-none es c.requires);
+      members_are = ap (λ gone. remove_all (members_by next es) (bytes_of gone)) c.new-2.ensures.items ∙ members_same es c.requires;
+      reply_is = refl;
+    }

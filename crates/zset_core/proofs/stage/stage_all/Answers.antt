@@ -1,0 +1,30 @@
+use Rattle.std.proofs.Common.{◌≡◌, ◌≤◌, ◌∙◌, ◌+◌, ◌*◌, sym, ap, rules, arith, ℤ, pos, drop, get_or, SFits, w64, to_z, of_z, to_z-of_z}
+use Rattle.zset_core.specs.Form.{scored}
+use Rattle.zset_core.specs.Step.{counted}
+use Rattle.zset_core.specs.Kept.{next, members_by}
+use Rattle.zset_core.proofs.PairSteps.{pairs_step, put_step, count_step, counted_one}
+use Rattle.zset_core.proofs.Staging.{Grows-then}
+use Rattle.zset_core.proofs.stage.stage_all.Goals as goal
+
+pub loop-index-preserved : goal.loop-index-preserved
+loop-index-preserved g c =
+    let i = c.loop-index.index in
+    let ss = c.args.scores.now in
+    let ws = c.args.words.now in
+    let f : SFits w64 (get_or ss i (pos 0)) = search rules in
+    let z : ℤ = to_z w64 (of_z w64 (get_or ss i (pos 0))) in
+    let m = c.as_slice-member.result.now in
+    let ps = scored (drop i ss) (drop (2 * i) ws) in
+    let rest = scored (drop (i + 1) ss) (drop (2 * (i + 1)) ws) in
+    let old = members_by next c.loop-index.members.entries in
+    let new = members_by next c.stage_one.new.members.entries in
+    let within = c.loop-index-test.true in
+    let is = pairs_step ss ws i z m c.index-words-index.result within c.requires.pairs (to_z-of_z f) c.as_slice-member.ensures c.index-words-index.is in
+    let one = c.counted_in-count.ensures ∙ ap (counted c.args.changed) c.in_ok-what.ensures.outcome in
+    record {
+      few = omega (arith, c.loop-index.invariant.few, c.counted_in-count.ensures, counted_one c.args.changed c.in_ok-what.what);
+      count = count_step c.args.flags c.args.changed old new z m ps rest c.loop-index.count c.counted_in-count.result _ is c.in_ok-what.ensures.next one c.loop-index.invariant.count;
+      next = put_step c.args.flags old new z m ps rest _ is c.in_ok-what.ensures.next c.loop-index.invariant.next;
+      waiting = c.stage_one.ensures.waiting;
+      grows = Grows-then c.args.members.now.entries c.loop-index.members.entries c.stage_one.new.members.entries c.loop-index.invariant.grows c.stage_one.ensures.grows;
+    }

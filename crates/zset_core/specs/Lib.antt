@@ -1,0 +1,16 @@
+pub mod Sets
+pub mod Meaning
+pub mod Step
+pub mod World
+pub mod View
+pub mod Form
+pub mod Reading
+pub mod Asking
+pub mod Refusals
+pub mod Kept
+pub mod Planned
+pub mod Viewed
+pub mod Refused
+pub mod Gathered
+pub mod Listed
+pub mod Owned

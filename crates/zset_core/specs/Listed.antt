@@ -1,0 +1,20 @@
+-- Pairs of the program: scores with the bytes of members that stand elsewhere.
+use Rattle.std.specs.Prelude.{ℕ, Bool, ℤ, List, map}
+use Rattle.std.specs.List.{filter}
+use Rattle.std.specs.Borrow.{Bor}
+use Rattle.zset_core.specs.Sets.{Pair}
+use Rattle.zset_core.specs.Kept.{Entry, held}
+
+-- a score, and a member's bytes
+abbrev pub Shown : Type 0
+Shown = ℤ × Bor (List ℕ)
+
+abbrev pub pair_of : Shown → Pair
+pair_of p = (p.0, p.1.now)
+
+abbrev pub pairs_of : List Shown → List Pair
+pairs_of ps = map pair_of ps
+
+-- the pairs of entries whose score passes a test, in the entries' order
+abbrev pub picked : {A : Type 0} → (ℤ → Bool) → List (Entry A) → List Pair
+picked {A} test entries = filter (λ p. test p.0) (map (λ (e : Entry A). (held e.1, e.0.items)) entries)

@@ -1,0 +1,40 @@
+-- What callers see of a set and of an owner: the members, and, while a command is prepared, what it asks for and what its commit will leave and reply.
+use Rattle.std.specs.Prelude.{◌≡◌, ℕ, List, Option, None, Some}
+use Rattle.std.specs.Coded.{Coded, coded_ℕ, coded_ℤ, coded_list}
+use Rattle.std.specs.FinMap as fin
+use Rattle.resp_wire.specs.Response.{Response}
+use Rattle.zset_core.specs.Sets.{Members}
+use Rattle.zset_core.specs.Meaning.{Meaning}
+use Rattle.zset_core.specs.Step.{step}
+use Rattle.zset_core.specs.World.{World}
+
+-- what a commit will leave and reply, and what was asked for
+pub record Next : Type 0 where
+  pub meaning : Meaning
+  pub members : Members
+  pub reply : Response
+
+-- a set; `next` is there while it is prepared
+pub record SetView : Type 0 where
+  pub members : Members
+  pub next : Option Next
+
+-- what a set shows that has prepared a command
+abbrev pub Shows : Option (Members × Response) → Meaning → Option Next → Type 0
+Shows None meaning shown = ⊥
+Shows (Some result) meaning shown = shown ≡ Some (record { meaning = meaning; members = result.0; reply = result.1 })
+
+abbrev pub IsReady : Members → Meaning → Option Next → Type 0
+IsReady members meaning shown = Shows (step members meaning) meaning shown
+
+-- sets by key; `next` is there while one of them is prepared, with its key
+pub record OwnerView : Type 0 where
+  pub world : World
+  pub next : Option (List ℕ × Next)
+
+-- codes, by which a proof tells such values apart
+abbrev pub coded_members : Coded Members
+coded_members = fin.code (coded_list coded_ℕ) coded_ℤ
+
+abbrev pub coded_world : Coded World
+coded_world = fin.code (coded_list coded_ℕ) coded_members

@@ -1,0 +1,100 @@
+//! Commands.
+
+ghost use Rattle.std.specs.Prelude.{◌≡◌, ◌≢◌, IfOk, IfErr, Ok, Err};
+ghost use Rattle.std.specs.Option.{option_copied};
+ghost use Rattle.zset_core.specs.Asking.{asked, is_creating};
+ghost use Rattle.zset_core.specs.Form.{meaning_of, IsWhole};
+ghost use Rattle.zset_core.specs.Meaning.{key_of, is_writing};
+ghost use Rattle.zset_core.specs.declared.refusal.Refusal.TheVariants as refusals;
+
+use crate::form::Form;
+use crate::reading::{read_form, word};
+use crate::refusal::Refusal;
+use resp_wire::Request;
+use std::alloc::Allocator;
+use std::marker::Model;
+
+/// A command: a request that was read. It keeps its request.
+#[derive(Drop)]
+#[derive_where(Debug)]
+pub struct Command<A: Allocator> {
+    request: Request<A>,
+    form: Form<A>,
+}
+
+impl<A: Allocator> Model for Command<A> {
+    ghost use Rattle.std.specs.Prelude.{◌≡◌, Ok};
+    ghost use Rattle.zset_core.specs.Asking.{asked};
+    ghost use Rattle.zset_core.specs.Form.{meaning_of, IsWhole};
+    ghost use Rattle.zset_core.specs.Meaning.{Asked};
+
+    ghost Value = { Asked };
+
+    ghost view = { λ c. record { words = c.request; meaning = meaning_of c.request c.form } };
+
+    ghost invariant = { λ c. IsWhole c.request c.form × (asked c.request ≡ Ok (meaning_of c.request c.form)) };
+}
+
+impl<A: Allocator + Copy> Command<A> {
+    /// Reads a request.
+    ///
+    /// # Errors
+    ///
+    /// The first of the refusals 2 to 10 whose condition holds; [`Refusal::NoMemory`] where a growth is refused.
+    pub fn read(alloc: A, request: Request<A>) -> Result<Self, Refusal>
+        ensures ok { IfOk result (λ command. (command.words ≡ request) × (asked request ≡ Ok command.meaning)) }
+        ensures err { IfErr result (λ refusal. refusal ≢ refusals.NoMemory → asked request ≡ Err refusal) }
+    {
+        let form = read_form(alloc, request.words())?;
+        Ok(Command { request, form })
+    }
+}
+
+impl<A: Allocator> Command<A> {
+    /// The request that was read.
+    pub fn request(&self) -> &Request<A>
+        ensures request { result.now ≡ self.now.words }
+        ensures read { asked self.now.words ≡ Ok self.now.meaning }
+    {
+        &self.request
+    }
+
+    /// What was kept of the request's words.
+    pub(crate) fn form(&self) -> &Form<A>
+        ensures whole { IsWhole self.now.words result.now }
+        ensures meaning { self.now.meaning ≡ meaning_of self.now.words result.now }
+    {
+        &self.form
+    }
+
+    /// The key of the set that the command asks for, None for PING.
+    pub fn key(&self) -> Option<&[u8]>
+        ensures { option_copied result ≡ key_of self.now.meaning }
+    {
+        match &self.form {
+            Form::Ping => None,
+            _ => Some(word(self.request.words(), 1)),
+        }
+    }
+
+    /// Whether the command is one of those that change sets: ZADD and ZREM.
+    pub fn writes(&self) -> bool
+        ensures { result ≡ is_writing self.now.meaning }
+    {
+        match &self.form {
+            Form::Add { .. } | Form::Increase { .. } | Form::Remove => true,
+            Form::Ping | Form::Score | Form::Card | Form::Count { .. } | Form::ListRange { .. } =>
+                false,
+        }
+    }
+
+    /// Whether the command makes a set where its key has none: ZADD without XX.
+    pub fn creates(&self) -> bool
+        ensures { result ≡ is_creating self.now.meaning }
+    {
+        match &self.form {
+            Form::Add { flags, .. } | Form::Increase { flags, .. } => !flags.xx,
+            _ => false,
+        }
+    }
+}

@@ -1,0 +1,156 @@
+//! Listings: pairs by rising score, equal scores by the bytes of their members.
+ghost use Rattle.std.specs.Prelude.{◌≡◌, ◌<◌, ◌^◌, ◌++◌, ◌∷◌, [], filter, length, OnOk, IfOk};
+ghost use Rattle.score_bounds.specs.Bounds.{is_in};
+ghost use Rattle.zset_core.specs.Sets.{listing};
+ghost use Rattle.zset_core.specs.Step.{from_offset, at_most, limited, elements};
+ghost use Rattle.zset_core.specs.Kept.{held, members_by};
+ghost use Rattle.zset_core.specs.Listed.{pairs_of, picked};
+
+use crate::limit::Limit;
+use crate::slot::Slot;
+use crate::told::score_bytes;
+use indexmap::IndexMap;
+use resp_wire::{Bytes, BytesList};
+use score_bounds::Range;
+use std::alloc::{AllocError, Allocator};
+use std::hash::BuildHasher;
+
+/// A pair, where its score is in the range.
+fn pick<'a, A: Allocator + Copy>(
+    picked: &mut Vec<(i64, &'a [u8]), A>,
+    range: &Range,
+    score: i64,
+    member: &'a [u8],
+) -> Result<(), AllocError>
+    ensures { OnOk result (pairs_of picked.new.items ≡ pairs_of picked.old.items ++ filter (λ p. is_in range.now p.0) ((score, member.now) ∷ [])) }
+{
+    if range.contains(score) {
+        picked.push((score, member))?;
+    }
+    Ok(())
+}
+
+/// The pairs of the entries in a range, in the entries' order.
+fn pairs_in<'a, H: BuildHasher, A: Allocator + Copy>(
+    alloc: A,
+    members: &'a IndexMap<Vec<u8, A>, Slot, H, A>,
+    range: &Range,
+) -> Result<Vec<(i64, &'a [u8]), A>, AllocError>
+    ensures { IfOk result (λ pairs. pairs_of pairs.items ≡ picked (is_in range.now) members.now.entries) }
+{
+    let mut pairs = Vec::new(alloc);
+    for place in 0..members.len() {
+        match members.get_index(place) {
+            None => unreachable!(),
+            Some((member, slot)) => pick(&mut pairs, range, slot.held, member.as_slice())?,
+        }
+    }
+    Ok(pairs)
+}
+
+/// The listing of a range.
+pub fn listing_of<'a, H: BuildHasher, A: Allocator + Copy>(
+    alloc: A,
+    members: &'a IndexMap<Vec<u8, A>, Slot, H, A>,
+    range: &Range,
+) -> Result<Vec<(i64, &'a [u8]), A>, AllocError>
+    ensures { IfOk result (λ pairs. pairs_of pairs.items ≡ listing (is_in range.now) (members_by held members.now.entries)) }
+{
+    let _count = members.len();
+    let mut pairs = pairs_in(alloc, members, range)?;
+    pairs.sort()?;
+    Ok(pairs)
+}
+
+/// The number of members with scores in a range.
+pub fn count_in<H: BuildHasher, A: Allocator + Copy>(
+    members: &IndexMap<Vec<u8, A>, Slot, H, A>,
+    range: &Range,
+) -> usize
+    ensures count { result ≡ length (listing (is_in range.now) (members_by held members.now.entries)) }
+    ensures few { result < 2 ^ 63 }
+{
+    let mut count: usize = 0;
+    for place in 0..members.len() {
+        match members.get_index(place) {
+            None => unreachable!(),
+            Some((_, slot)) => count += usize::from(range.contains(slot.held)),
+        }
+    }
+    count
+}
+
+/// The pairs from an offset on, none where it is negative.
+fn after_offset<'a, 'b>(pairs: &'b [(i64, &'a [u8])], offset: i64) -> &'b [(i64, &'a [u8])]
+    ensures { pairs_of result.now ≡ from_offset offset (pairs_of pairs.now) }
+{
+    if offset < 0 {
+        return &pairs[..0];
+    }
+    let start = offset as usize;
+    if start < pairs.len() {
+        &pairs[start..]
+    } else {
+        &pairs[..0]
+    }
+}
+
+/// As many of the first pairs as a count says, all where it is negative.
+fn within_count<'a, 'b>(pairs: &'b [(i64, &'a [u8])], count: i64) -> &'b [(i64, &'a [u8])]
+    ensures { pairs_of result.now ≡ at_most count (pairs_of pairs.now) }
+{
+    if count < 0 {
+        return pairs;
+    }
+    let end = count as usize;
+    if end < pairs.len() {
+        &pairs[..end]
+    } else {
+        pairs
+    }
+}
+
+/// The pairs that LIMIT asks for, all without it.
+pub fn limit_to<'a, 'b>(
+    pairs: &'b [(i64, &'a [u8])],
+    limit: &Option<Limit>,
+) -> &'b [(i64, &'a [u8])]
+    ensures { pairs_of result.now ≡ limited limit.now (pairs_of pairs.now) }
+{
+    match limit {
+        None => pairs,
+        Some(limit) => within_count(after_offset(pairs, limit.offset), limit.count),
+    }
+}
+
+/// The elements of one pair: its member, with WITHSCORES also its score.
+fn put_elements<A: Allocator + Copy>(
+    alloc: A,
+    list: &mut Vec<Bytes<A>, A>,
+    with_scores: bool,
+    score: i64,
+    member: &[u8],
+) -> Result<(), AllocError>
+    ensures { OnOk result (list.new.items ≡ list.old.items ++ elements with_scores ((score, member.now) ∷ [])) }
+{
+    list.push(Bytes::new(Vec::from_slice(alloc, member)?))?;
+    if with_scores {
+        list.push(score_bytes(alloc, score)?)?;
+    }
+    Ok(())
+}
+
+/// The elements of a reply that lists pairs.
+pub fn elements_of<A: Allocator + Copy>(
+    alloc: A,
+    pairs: &[(i64, &[u8])],
+    with_scores: bool,
+) -> Result<BytesList<A>, AllocError>
+    ensures { IfOk result (λ list. list ≡ elements with_scores (pairs_of pairs.now)) }
+{
+    let mut list = Vec::new(alloc);
+    for (score, member) in pairs {
+        put_elements(alloc, &mut list, with_scores, *score, member)?;
+    }
+    Ok(BytesList::new(list))
+}

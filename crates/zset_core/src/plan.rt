@@ -1,0 +1,212 @@
+//! What is prepared in a set, and how the plan for it is made.
+ghost use Rattle.std.specs.Prelude.{◌≡◌, ◌*◌, ◌-◌, ◌<◌, length, pos, IfOk, IfErr, OnOk, OnErr, IsTrue};
+ghost use Rattle.std.specs.FinMap as map;
+ghost use Rattle.resp_wire.specs.Response.{Integer, response_of};
+ghost use Rattle.zset_core.specs.Step.{outcome_of, put_one, put_all, count_all, remove_all, told, increase, step};
+ghost use Rattle.zset_core.specs.Meaning.{is_writing};
+ghost use Rattle.zset_core.specs.Form.{scored};
+ghost use Rattle.zset_core.specs.Kept.{held, next, members_by, IsSettled, IsBack, IsWaiting, Grows};
+ghost use Rattle.zset_core.specs.Planned.{Prepares, Plans, left_by};
+ghost use Rattle.zset_core.specs.Refused.{IsRefused};
+
+use crate::command::Command;
+use crate::form::Form;
+use crate::gather::gather;
+use crate::pair::{Flags, sum};
+use crate::refusal::Refusal;
+use crate::slot::Slot;
+use crate::stage::{roll_back, score_of, settle, stage_all, stage_one, take_out};
+use crate::told::tell;
+use indexmap::IndexMap;
+use resp_wire::{Bytes, Reply};
+use std::alloc::{AllocError, Allocator};
+use std::hash::BuildHasher;
+
+/// What a commit does to the entries of a set.
+#[derive(Drop)]
+pub struct Plan<A: Allocator> {
+    /// How many entries stand whatever becomes of the plan. New members stand behind them.
+    pub kept: usize,
+    /// The places whose members get another score.
+    pub touched: Vec<usize, A>,
+    /// The members that leave.
+    pub removed: Vec<Vec<u8, A>, A>,
+    pub reply: Reply<A>,
+}
+
+/// The plan of a ZADD.
+pub fn plan_add<H: BuildHasher, A: Allocator + Copy>(
+    alloc: A,
+    members: &mut IndexMap<Vec<u8, A>, Slot, H, A>,
+    flags: Flags,
+    changed: bool,
+    scores: &[i64],
+    words: &[Bytes<A>],
+) -> Result<Plan<A>, AllocError>
+    requires settled { IsSettled members.old.entries }
+    requires pairs { length words.now ≡ 2 * length scores.now }
+    ensures ok { IfOk result (λ plan. Prepares members.old.entries members.new.entries plan (put_all flags (members_by held members.old.entries) (scored scores.now words.now)) (Integer (pos (count_all flags changed (members_by held members.old.entries) (scored scores.now words.now))))) }
+    ensures err { OnErr result (IsBack members.old.entries members.new.entries) }
+{
+    let kept = members.len();
+    let mut touched = Vec::new(alloc);
+    match stage_all(alloc, members, &mut touched, flags, changed, scores, words) {
+        Ok(count) => Ok(Plan {
+            kept,
+            touched,
+            removed: Vec::new(alloc),
+            reply: Reply::Int(count as i64),
+        }),
+        Err(refused) => {
+            roll_back(members, touched.as_slice(), kept);
+            Err(refused)
+        }
+    }
+}
+
+/// Stages one pair, and makes the reply to INCR.
+fn stage_told<H: BuildHasher, A: Allocator + Copy>(
+    alloc: A,
+    members: &mut IndexMap<Vec<u8, A>, Slot, H, A>,
+    touched: &mut Vec<usize, A>,
+    flags: Flags,
+    score: i64,
+    member: &[u8],
+) -> Result<Reply<A>, AllocError>
+    requires { IsWaiting touched.old.items members.old.entries }
+    ensures reply { IfOk result (λ reply. response_of reply ≡ told (outcome_of flags (map.get (members_by next members.old.entries) member.now) score) score) }
+    ensures next { OnOk result (members_by next members.new.entries ≡ put_one flags (members_by next members.old.entries) member.now score) }
+    ensures grows { Grows members.old.entries members.new.entries }
+    ensures waiting { IsWaiting touched.new.items members.new.entries }
+{
+    let what = stage_one(alloc, members, touched, flags, score, member)?;
+    tell(alloc, what, score)
+}
+
+/// The plan that gives a member a score, as ZADD with INCR does once the sum is formed.
+fn plan_score<H: BuildHasher, A: Allocator + Copy>(
+    alloc: A,
+    members: &mut IndexMap<Vec<u8, A>, Slot, H, A>,
+    flags: Flags,
+    score: i64,
+    member: &[u8],
+) -> Result<Plan<A>, AllocError>
+    requires { IsSettled members.old.entries }
+    ensures ok { IfOk result (λ plan. Prepares members.old.entries members.new.entries plan (put_one flags (members_by held members.old.entries) member.now score) (told (outcome_of flags (map.get (members_by held members.old.entries) member.now) score) score)) }
+    ensures err { OnErr result (IsBack members.old.entries members.new.entries) }
+{
+    let kept = members.len();
+    let mut touched = Vec::new(alloc);
+    match stage_told(alloc, members, &mut touched, flags, score, member) {
+        Ok(reply) => Ok(Plan {
+            kept,
+            touched,
+            removed: Vec::new(alloc),
+            reply,
+        }),
+        Err(refused) => {
+            roll_back(members, touched.as_slice(), kept);
+            Err(refused)
+        }
+    }
+}
+
+/// The plan that changes nothing.
+fn plan_nothing<H: BuildHasher, A: Allocator + Copy>(
+    alloc: A,
+    members: &IndexMap<Vec<u8, A>, Slot, H, A>,
+    reply: Reply<A>,
+) -> Plan<A>
+    requires { IsSettled members.now.entries }
+    ensures { Prepares members.now.entries members.now.entries result (members_by held members.now.entries) (response_of reply) }
+{
+    Plan {
+        kept: members.len(),
+        touched: Vec::new(alloc),
+        removed: Vec::new(alloc),
+        reply,
+    }
+}
+
+/// The plan of a ZADD with INCR.
+pub fn plan_increase<H: BuildHasher, A: Allocator + Copy>(
+    alloc: A,
+    members: &mut IndexMap<Vec<u8, A>, Slot, H, A>,
+    flags: Flags,
+    given: i64,
+    member: &[u8],
+) -> Result<Plan<A>, Refusal>
+    requires { IsSettled members.old.entries }
+    ensures ok { IfOk result (λ plan. Plans members.old.entries members.new.entries plan (increase flags (members_by held members.old.entries) member.now given)) }
+    ensures err { OnErr result (IsBack members.old.entries members.new.entries) }
+    ensures refused { IfErr result (λ refusal. IsRefused refusal (increase flags (members_by held members.old.entries) member.now given)) }
+{
+    let old = score_of(members, member);
+    if flags.bars(old) {
+        return Ok(plan_nothing(alloc, members, Reply::Null));
+    }
+    match sum(old, given) {
+        None => Err(Refusal::ScoreOverflow),
+        Some(score) => Ok(plan_score(alloc, members, flags, score, member)?),
+    }
+}
+
+/// The plan of a ZREM.
+pub fn plan_remove<H: BuildHasher, A: Allocator + Copy>(
+    alloc: A,
+    members: &IndexMap<Vec<u8, A>, Slot, H, A>,
+    names: &[Bytes<A>],
+) -> Result<Plan<A>, AllocError>
+    requires { IsSettled members.now.entries }
+    ensures { IfOk result (λ plan. Prepares members.now.entries members.now.entries plan (remove_all (members_by held members.now.entries) names.now) (Integer (pos (map.len (members_by held members.now.entries) - map.len (remove_all (members_by held members.now.entries) names.now))))) }
+{
+    let removed = gather(alloc, members, names)?;
+    let count = removed.len();
+    Ok(Plan {
+        kept: members.len(),
+        touched: Vec::new(alloc),
+        removed,
+        reply: Reply::Int(count as i64),
+    })
+}
+
+/// The plan of a command that changes sets. Where it is refused the entries are what they were.
+pub fn plan_for<H: BuildHasher, A: Allocator + Copy>(
+    alloc: A,
+    members: &mut IndexMap<Vec<u8, A>, Slot, H, A>,
+    command: &Command<A>,
+) -> Result<Plan<A>, Refusal>
+    requires settled { IsSettled members.old.entries }
+    requires writing { IsTrue (is_writing command.now.meaning) }
+    ensures ok { IfOk result (λ plan. Plans members.old.entries members.new.entries plan (step (members_by held members.old.entries) command.now.meaning)) }
+    ensures err { OnErr result (IsBack members.old.entries members.new.entries) }
+    ensures refused { IfErr result (λ refusal. IsRefused refusal (step (members_by held members.old.entries) command.now.meaning)) }
+{
+    let words = command.request().words();
+    match command.form() {
+        Form::Add { flags, changed, first, scores } => {
+            let pairs = &words[*first..];
+            Ok(plan_add(alloc, members, *flags, *changed, scores.as_slice(), pairs)?)
+        }
+        Form::Increase { flags, given, member } => {
+            plan_increase(alloc, members, *flags, *given, words[*member].as_slice())
+        }
+        Form::Remove => Ok(plan_remove(alloc, members, &words[2..])?),
+        _ => unreachable!(),
+    }
+}
+
+/// What the plan says is done to the entries. It takes no memory.
+pub fn carry_out<H: BuildHasher, A: Allocator + Copy>(
+    members: &mut IndexMap<Vec<u8, A>, Slot, H, A>,
+    plan: Plan<A>,
+) -> Reply<A>
+    requires { IsWaiting plan.touched.items members.old.entries }
+    ensures members { members_by held members.new.entries ≡ left_by members.old.entries plan }
+    ensures settled { IsSettled members.new.entries }
+    ensures reply { result ≡ plan.reply }
+{
+    settle(members, plan.touched.as_slice());
+    take_out(members, plan.removed.as_slice());
+    plan.reply
+}

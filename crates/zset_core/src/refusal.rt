@@ -1,0 +1,125 @@
+//! Why a command is refused.
+
+ghost use Rattle.std.specs.Prelude.{◌≡◌};
+ghost use Rattle.zset_core.specs.Refusals.{number_of, text_of};
+ghost use Rattle.zset_core.specs.declared.refusal.Refusal.TheVariants as refusals;
+
+use std::alloc::AllocError;
+use thiserror::Error;
+
+/// Why a command is refused, in the order in which the causes are looked for. After a refusal the members of
+/// every set are as they were. The texts and numbers are this project's own.
+#[derive(Clone, Copy, Debug, PartialEq, Eq, Error)]
+pub enum Refusal {
+    /// A growth was refused at that point of the work.
+    #[error("ERR 1 out of memory")]
+    NoMemory,
+    /// No command has this name.
+    #[error("ERR 2 unknown command")]
+    UnknownCommand,
+    /// The command takes another number of words.
+    #[error("ERR 3 wrong number of arguments")]
+    WrongArity,
+    /// A score without a member, or a word where an option is wanted.
+    #[error("ERR 4 syntax error")]
+    Syntax,
+    /// NX and XX in one command.
+    #[error("ERR 5 NX and XX exclude each other")]
+    NxAndXx,
+    /// Two of GT, LT and NX in one command.
+    #[error("ERR 6 GT, LT and NX exclude each other")]
+    GtLtNx,
+    /// INCR with another number of pairs than one.
+    #[error("ERR 7 INCR takes one pair")]
+    IncrPair,
+    /// A word that spells no score where one is wanted.
+    #[error("ERR 8 score is not a whole number of 64 bits")]
+    BadScore,
+    /// A word that spells no bound where one is wanted.
+    #[error("ERR 9 min or max is not a score bound")]
+    BadBound,
+    /// A word of LIMIT that spells no integer.
+    #[error("ERR 10 LIMIT takes two whole numbers")]
+    BadInteger,
+    /// Every place of the table bears another key's name.
+    #[error("ERR 11 no place left for a key")]
+    TableFull,
+    /// The place has had all the runs that it is given.
+    #[error("ERR 12 place is spent")]
+    Spent,
+    /// An increased score would lie outside 64 bits.
+    #[error("ERR 13 score out of range")]
+    ScoreOverflow,
+    /// An append failed in an earlier call.
+    #[error("ERR 14 append file failed earlier")]
+    LogBroken,
+    /// The append file has as many records as it is given.
+    #[error("ERR 15 append file is full")]
+    LogFull,
+    /// The append failed in this call.
+    #[error("ERR 16 append file failed")]
+    LogRefused,
+    /// A place and the pass that asks it do not belong together.
+    #[error("ERR 17 place and pass disagree")]
+    OutOfStep,
+}
+
+impl Refusal {
+    /// The refusal's number, 1 to 17.
+    pub fn number(&self) -> u8
+        ensures { result ≡ number_of self.now }
+    {
+        match self {
+            Refusal::NoMemory => 1,
+            Refusal::UnknownCommand => 2,
+            Refusal::WrongArity => 3,
+            Refusal::Syntax => 4,
+            Refusal::NxAndXx => 5,
+            Refusal::GtLtNx => 6,
+            Refusal::IncrPair => 7,
+            Refusal::BadScore => 8,
+            Refusal::BadBound => 9,
+            Refusal::BadInteger => 10,
+            Refusal::TableFull => 11,
+            Refusal::Spent => 12,
+            Refusal::ScoreOverflow => 13,
+            Refusal::LogBroken => 14,
+            Refusal::LogFull => 15,
+            Refusal::LogRefused => 16,
+            Refusal::OutOfStep => 17,
+        }
+    }
+
+    /// The text of the error reply, behind the `-`.
+    pub fn text(&self) -> &'static str
+        ensures { result.now ≡ text_of self.now }
+    {
+        match self {
+            Refusal::NoMemory => "ERR 1 out of memory",
+            Refusal::UnknownCommand => "ERR 2 unknown command",
+            Refusal::WrongArity => "ERR 3 wrong number of arguments",
+            Refusal::Syntax => "ERR 4 syntax error",
+            Refusal::NxAndXx => "ERR 5 NX and XX exclude each other",
+            Refusal::GtLtNx => "ERR 6 GT, LT and NX exclude each other",
+            Refusal::IncrPair => "ERR 7 INCR takes one pair",
+            Refusal::BadScore => "ERR 8 score is not a whole number of 64 bits",
+            Refusal::BadBound => "ERR 9 min or max is not a score bound",
+            Refusal::BadInteger => "ERR 10 LIMIT takes two whole numbers",
+            Refusal::TableFull => "ERR 11 no place left for a key",
+            Refusal::Spent => "ERR 12 place is spent",
+            Refusal::ScoreOverflow => "ERR 13 score out of range",
+            Refusal::LogBroken => "ERR 14 append file failed earlier",
+            Refusal::LogFull => "ERR 15 append file is full",
+            Refusal::LogRefused => "ERR 16 append file failed",
+            Refusal::OutOfStep => "ERR 17 place and pass disagree",
+        }
+    }
+}
+
+impl From<AllocError> for Refusal {
+    ghost from_gives = { λ _ refusal. refusal ≡ refusals.NoMemory };
+
+    fn from(_error: AllocError) -> Refusal {
+        Refusal::NoMemory
+    }
+}

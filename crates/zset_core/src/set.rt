@@ -1,0 +1,180 @@
+//! One sorted set.
+ghost use Rattle.std.specs.Prelude.{◌≡◌, ◌↔◌, false, Some, None, IsSome, IfSome, IfOk, IfErr, OnOk, OnErr, IsTrue, take, option_map};
+ghost use Rattle.std.specs.FinMap as map;
+ghost use Rattle.indexmap.specs.IndexMap.{IsUnique};
+ghost use Rattle.zset_core.specs.Kept.{held, slot_at, same_bytes};
+ghost use Rattle.zset_core.specs.Viewed.{kept_of};
+ghost use Rattle.zset_core.specs.Meaning.{is_writing, key_of};
+ghost use Rattle.zset_core.specs.Refused.{IsRefused};
+ghost use Rattle.zset_core.specs.Step.{step};
+ghost use Rattle.zset_core.specs.View.{IsReady};
+ghost use Rattle.resp_wire.specs.Response.{response_of};
+
+use crate::answer::answer_from;
+use crate::command::Command;
+use crate::plan::{Plan, carry_out, plan_for};
+use crate::refusal::Refusal;
+use crate::slot::Slot;
+use crate::stage::roll_back;
+use indexmap::IndexMap;
+use resp_wire::Reply;
+use std::alloc::{AllocError, Allocator};
+use std::hash::BuildHasher;
+use std::marker::Model;
+use std::snapshot::Snapshot;
+
+/// What is prepared, and the command that it was prepared for.
+#[derive(Drop)]
+struct Prepared<A: Allocator> {
+    asked: Snapshot<Command<A>>,
+    plan: Plan<A>,
+}
+
+/// A sorted set: members with scores. While a command is prepared in it, the members are those from before,
+/// and a contract sees beside them what the commit will leave and reply.
+#[derive(Drop)]
+pub struct ZSet<H: BuildHasher, A: Allocator + Copy> {
+    alloc: A,
+    members: IndexMap<Vec<u8, A>, Slot, H, A>,
+    prepared: Option<Prepared<A>>,
+}
+
+impl<H: BuildHasher, A: Allocator + Copy> Model for ZSet<H, A> {
+    ghost use Rattle.zset_core.specs.View.{SetView};
+
+    ghost Value = { SetView };
+
+    ghost use Rattle.std.specs.Coded.{codes};
+    ghost use Rattle.zset_core.specs.View.{coded_members};
+
+    ghost coded = { Prim.hlevel (codes, coded_members) };
+
+    ghost use Rattle.zset_core.specs.Viewed.{view_of, IsSound};
+
+    ghost view = { λ z. view_of z.members.entries z.prepared };
+
+    ghost invariant = { λ z. IsSound z.members.entries z.prepared };
+}
+
+impl<H: BuildHasher, A: Allocator + Copy> ZSet<H, A> {
+    /// An empty set, whose map takes this hasher.
+    pub fn with_hasher(alloc: A, hasher: H) -> Self
+        ensures members { result.members ≡ map.empty }
+        ensures idle { result.next ≡ None }
+    {
+        ZSet {
+            alloc,
+            members: IndexMap::with_hasher(alloc, hasher),
+            prepared: None,
+        }
+    }
+
+    /// The number of members.
+    pub fn card(&self) -> usize
+        ensures { result ≡ map.len self.now.members }
+    {
+        kept_len(&self.members, &self.prepared)
+    }
+
+    /// The score of a member, if it is one.
+    pub fn score(&self, member: &[u8]) -> Option<i64>
+        ensures { result ≡ map.get self.now.members member.now }
+    {
+        let kept = kept_len(&self.members, &self.prepared);
+        score_before(&self.members, kept, member)
+    }
+
+    /// Whether a command is prepared.
+    pub fn is_prepared(&self) -> bool
+        ensures { IsTrue result ↔ IsSome self.now.next }
+    {
+        self.prepared.is_some()
+    }
+
+    /// Answers a command that reads the set of its key: ZSCORE, ZCARD, ZCOUNT, ZRANGEBYSCORE. Refused for want
+    /// of memory alone.
+    pub fn answer(&mut self, command: &Command<A>) -> Result<Reply<A>, AllocError>
+        requires idle { self.old.next ≡ None }
+        requires reading { is_writing command.now.meaning ≡ false }
+        requires keyed { IsSome (key_of command.now.meaning) }
+        ensures reply { IfOk result (λ reply. step self.old.members command.now.meaning ≡ Some (self.old.members, response_of reply)) }
+        ensures same { self.new ≡ self.old }
+    {
+        answer_from(self.alloc, &self.members, command)
+    }
+
+    /// Prepares a command that changes sets: takes all the memory that it needs, and leaves the members as they
+    /// are until `commit` or `drop_prepared`. Refused for want of memory, or where a sum of INCR is no score;
+    /// nothing is prepared then.
+    pub fn prepare(&mut self, command: &Command<A>) -> Result<(), Refusal>
+        requires idle { self.old.next ≡ None }
+        requires writing { IsTrue (is_writing command.now.meaning) }
+        ensures members { self.new.members ≡ self.old.members }
+        ensures ok { OnOk result (IsReady self.old.members command.now.meaning self.new.next) }
+        ensures refused { IfErr result (λ refusal. IsRefused refusal (step self.old.members command.now.meaning)) }
+        ensures err { OnErr result (self.new.next ≡ None) }
+    {
+        let plan = plan_for(self.alloc, &mut self.members, command)?;
+        let asked = Snapshot::of(command);
+        self.prepared = Some(Prepared { asked, plan });
+        Ok(())
+    }
+
+    /// Makes the prepared change, and gives its reply. It takes no memory.
+    pub fn commit(&mut self) -> Reply<A>
+        requires { IsSome self.old.next }
+        ensures made { IfSome self.old.next (λ next. (self.new.members ≡ next.members) × (response_of result ≡ next.reply)) }
+        ensures idle { self.new.next ≡ None }
+    {
+        match self.prepared.take() {
+            None => unreachable!(),
+            Some(prepared) => carry_out(&mut self.members, prepared.plan),
+        }
+    }
+
+    /// Lets the prepared change go: the set is as it was before it. It takes no memory.
+    pub fn drop_prepared(&mut self)
+        requires { IsSome self.old.next }
+        ensures members { self.new.members ≡ self.old.members }
+        ensures idle { self.new.next ≡ None }
+    {
+        if let Some(prepared) = self.prepared.take() {
+            roll_back(&mut self.members, prepared.plan.touched.as_slice(), prepared.plan.kept);
+        }
+    }
+}
+
+/// The number of entries that stand whatever becomes of what is prepared.
+fn kept_len<H: BuildHasher, A: Allocator + Copy>(
+    members: &IndexMap<Vec<u8, A>, Slot, H, A>,
+    prepared: &Option<Prepared<A>>,
+) -> usize
+    ensures kept { result ≡ kept_of members.now.entries prepared.now }
+    ensures unique { IsUnique same_bytes members.now }
+{
+    let len = members.len();
+    match prepared {
+        None => len,
+        Some(prepared) => prepared.plan.kept,
+    }
+}
+
+/// The score that a member has among the first entries.
+fn score_before<H: BuildHasher, A: Allocator + Copy>(
+    members: &IndexMap<Vec<u8, A>, Slot, H, A>,
+    kept: usize,
+    member: &[u8],
+) -> Option<i64>
+    ensures { result ≡ option_map held (slot_at (take kept members.now.entries) member.now) }
+{
+    match members.get_full(member) {
+        None => None,
+        Some((place, _, slot)) => {
+            if place < kept {
+                Some(slot.held)
+            } else {
+                None
+            }
+        }
+    }
+}
