@@ -2,11 +2,36 @@
 // a time, an owned byte string for each argument, sets in std's maps, replies to standard output.
 //
 //     baseline generate BYTES   writes the input of the bench
-//     baseline                  serves standard input
-use std::collections::HashMap;
+//     baseline ordered          serves standard input, the sets by key in order, as zcrackd keeps them
+//     baseline hashed           the same with the keys in a hash map
+use std::collections::{BTreeMap, HashMap};
 use std::io::{self, BufWriter, Read, Write};
 
 type Set = HashMap<Vec<u8>, i64>;
+
+/// Sets by key.
+trait Sets: Default {
+    fn at(&mut self, key: Vec<u8>) -> &mut Set;
+    fn find(&self, key: &[u8]) -> Option<&Set>;
+}
+
+impl Sets for HashMap<Vec<u8>, Set> {
+    fn at(&mut self, key: Vec<u8>) -> &mut Set {
+        self.entry(key).or_default()
+    }
+    fn find(&self, key: &[u8]) -> Option<&Set> {
+        self.get(key)
+    }
+}
+
+impl Sets for BTreeMap<Vec<u8>, Set> {
+    fn at(&mut self, key: Vec<u8>) -> &mut Set {
+        self.entry(key).or_default()
+    }
+    fn find(&self, key: &[u8]) -> Option<&Set> {
+        self.get(key)
+    }
+}
 
 struct Decoder {
     bytes: Vec<u8>,
@@ -60,7 +85,7 @@ fn integer(text: &[u8]) -> Option<i64> {
     std::str::from_utf8(text).ok()?.parse().ok()
 }
 
-fn answer(sets: &mut HashMap<Vec<u8>, Set>, mut words: Vec<Vec<u8>>, out: &mut impl Write) -> io::Result<()> {
+fn answer(sets: &mut impl Sets, mut words: Vec<Vec<u8>>, out: &mut impl Write) -> io::Result<()> {
     if words[0].eq_ignore_ascii_case(b"ZADD") && words.len() == 4 {
         let member = words.pop().unwrap();
         let score = integer(&words.pop().unwrap());
@@ -68,14 +93,14 @@ fn answer(sets: &mut HashMap<Vec<u8>, Set>, mut words: Vec<Vec<u8>>, out: &mut i
         let Some(score) = score else {
             return out.write_all(b"-ERR\r\n");
         };
-        let added = sets.entry(key).or_default().insert(member, score).is_none();
+        let added = sets.at(key).insert(member, score).is_none();
         write!(out, ":{}\r\n", u8::from(added))
     } else if words[0].eq_ignore_ascii_case(b"ZRANGEBYSCORE") && words.len() == 4 {
         let (Some(low), Some(high)) = (integer(&words[2]), integer(&words[3])) else {
             return out.write_all(b"-ERR\r\n");
         };
         let mut rows: Vec<(i64, &Vec<u8>)> = Vec::new();
-        if let Some(set) = sets.get(&words[1]) {
+        if let Some(set) = sets.find(&words[1]) {
             rows.extend(set.iter().filter(|(_, s)| low <= **s && **s <= high).map(|(m, s)| (*s, m)));
         }
         rows.sort();
@@ -91,11 +116,11 @@ fn answer(sets: &mut HashMap<Vec<u8>, Set>, mut words: Vec<Vec<u8>>, out: &mut i
     }
 }
 
-fn serve() -> io::Result<()> {
+fn serve<S: Sets>() -> io::Result<()> {
     let mut input = io::stdin().lock();
     let mut out = BufWriter::new(io::stdout().lock());
     let mut decoder = Decoder { bytes: Vec::new(), start: 0 };
-    let mut sets = HashMap::new();
+    let mut sets = S::default();
     let mut buffer = vec![0; 16384];
     loop {
         out.flush()?;
@@ -146,6 +171,7 @@ fn main() -> io::Result<()> {
     let arguments: Vec<String> = std::env::args().collect();
     match arguments.get(1).map(String::as_str) {
         Some("generate") => generate(arguments[2].parse().expect("a number of bytes")),
-        _ => serve(),
+        Some("hashed") => serve::<HashMap<Vec<u8>, Set>>(),
+        _ => serve::<BTreeMap<Vec<u8>, Set>>(),
     }
 }

@@ -1,0 +1,5 @@
+pub mod Pieces
+pub mod Content
+pub mod Cuts
+pub mod Sound
+pub mod Answers

@@ -1,0 +1,210 @@
+//! The column.
+
+ghost use Rattle.std.specs.Prelude.{◌≡◌, ◌+◌, ◌<◌, ◌≤◌, ℕ, [], ◌∷◌, true, false, length, count_by, slice_range, IfOk, IfSome, OnOk, OnErr};
+ghost use Rattle.crack_kernel.specs.Bags.{Test};
+ghost use Rattle.crack_kernel.specs.PivotList.{ObeysPivots};
+ghost use Rattle.ripple_column.specs.Answers.{AddsCuts, HoldsRange, IsAnswer, StandsStill, low_cut, high_cut, pivots_with_cuts};
+ghost use Rattle.ripple_column.specs.Content.{HasRow, IsUnchanged, NoneIn, Pends, SameContent, SameOutside, content_count, most_pending};
+ghost use Rattle.ripple_column.specs.Cuts.{is_before, values};
+
+use crate::cuts::is_before;
+use crate::merge::merge_all;
+use crate::pending::{pend, reserve_write};
+use crate::select::{select_between, settled_places};
+use crack_kernel::{Pivots, Row};
+use score_bounds::Range;
+use std::alloc::{AllocError, Allocator};
+use std::marker::Model;
+
+/// Rows that are cracked by queries, with insertions and deletions that wait.
+///
+/// The content is the bag of the rows, with the pending insertions and without the pending
+/// deletions. Between two pivots that follow one another the rows stand in no order.
+#[derive(Drop)]
+pub struct Column<A: Allocator> {
+    rows: Vec<Row<A>, A>,
+    pivots: Pivots<A>,
+    insertions: Vec<Row<A>, A>,
+    deletions: Vec<Row<A>, A>,
+}
+
+impl<A: Allocator> Model for Column<A> {
+    ghost use Rattle.ripple_column.specs.Content.{ColumnState};
+
+    ghost Value = { ColumnState };
+
+    ghost use Rattle.ripple_column.specs.Sound.{state, IsSound};
+
+    ghost view = { state };
+
+    ghost invariant = { λ c. IsSound (state c) };
+}
+
+impl<A: Allocator + Copy> Column<A> {
+    /// An empty column. It takes no memory.
+    pub fn new(alloc: A) -> Self
+        ensures rows { result.rows ≡ [] }
+        ensures pivots { result.pivots ≡ [] }
+        ensures insertions { result.insertions ≡ [] }
+        ensures deletions { result.deletions ≡ [] }
+    {
+        Column {
+            rows: Vec::new(alloc),
+            pivots: Pivots::new(alloc),
+            insertions: Vec::new(alloc),
+            deletions: Vec::new(alloc),
+        }
+    }
+
+    /// How many rows there are, pending ones aside.
+    pub fn len(&self) -> usize
+        ensures { result ≡ length self.now.rows }
+    {
+        self.rows.len()
+    }
+
+    /// How many insertions and how many deletions wait.
+    pub fn pending(&self) -> (usize, usize)
+        ensures insertions { result.0 ≡ length self.now.insertions }
+        ensures deletions { result.1 ≡ length self.now.deletions }
+    {
+        (self.insertions.len(), self.deletions.len())
+    }
+
+    /// The pivots in order, each a value and a place.
+    pub fn pivot_list(&self) -> &[(i64, usize)]
+        ensures pivots { result.now ≡ self.now.pivots }
+        ensures law { ObeysPivots self.now.pivots self.now.rows }
+    {
+        self.pivots.list()
+    }
+
+    /// The rows from the place `from` on and before the place `to`.
+    pub fn rows(&self, from: usize, to: usize) -> &[Row<A>]
+        requires order { from ≤ to }
+        requires within { to ≤ length self.now.rows }
+        ensures { result.now ≡ slice_range self.now.rows from to }
+    {
+        &self.rows[from..to]
+    }
+
+    /// Makes room for `n` more pending insertions and `n` more pending deletions. Where either
+    /// list would pass 2,048 rows, all that waits is merged first. Refused, it leaves the content.
+    pub fn reserve_write(&mut self, n: usize) -> Result<(), AllocError>
+        requires { n ≤ 1027 }
+        ensures content { SameContent self.old self.new }
+        ensures values { values self.new.pivots ≡ values self.old.pivots }
+        ensures room_insertions { OnOk result (n ≤ self.new.insert_spare) }
+        ensures room_deletions { OnOk result (n ≤ self.new.delete_spare) }
+        ensures unchanged { most_pending self.old + n ≤ 2048 → IsUnchanged self.old self.new }
+        ensures merged_insertions { OnOk result (2048 < most_pending self.old + n → self.new.insertions ≡ []) }
+        ensures merged_deletions { OnOk result (2048 < most_pending self.old + n → self.new.deletions ≡ []) }
+    {
+        reserve_write(
+            &mut self.rows,
+            &mut self.pivots,
+            &mut self.deletions,
+            &mut self.insertions,
+            n,
+        )
+    }
+
+    /// Adds `row` to the content: it waits as an insertion, or withdraws a deletion of it that
+    /// waits. It takes no memory.
+    pub fn insert(&mut self, row: Row<A>)
+        requires room { 0 < self.old.insert_spare }
+        ensures content { (p : Test) → content_count p self.new ≡ content_count p self.old + count_by p (row ∷ []) }
+        ensures pends { Pends row self.old.insertions self.new.insertions self.old.deletions self.new.deletions }
+        ensures rows { self.new.rows ≡ self.old.rows }
+        ensures pivots { self.new.pivots ≡ self.old.pivots }
+        ensures spare { self.old.insert_spare ≤ self.new.insert_spare + 1 }
+        ensures spare_deletions { self.old.delete_spare ≤ self.new.delete_spare }
+    {
+        pend(&mut self.insertions, &mut self.deletions, row);
+    }
+
+    /// Takes `row` out of the content: it waits as a deletion, or withdraws an insertion of it
+    /// that waits. It takes no memory.
+    pub fn delete(&mut self, row: Row<A>)
+        requires room { 0 < self.old.delete_spare }
+        requires there { HasRow self.old row }
+        ensures content { (p : Test) → content_count p self.old ≡ content_count p self.new + count_by p (row ∷ []) }
+        ensures pends { Pends row self.old.deletions self.new.deletions self.old.insertions self.new.insertions }
+        ensures rows { self.new.rows ≡ self.old.rows }
+        ensures pivots { self.new.pivots ≡ self.old.pivots }
+        ensures spare { self.old.delete_spare ≤ self.new.delete_spare + 1 }
+        ensures spare_insertions { self.old.insert_spare ≤ self.new.insert_spare }
+    {
+        pend(&mut self.deletions, &mut self.insertions, row);
+    }
+
+    /// Merges all that waits. Refused, it leaves the column as it was.
+    pub fn merge_all(&mut self) -> Result<(), AllocError>
+        ensures content { SameContent self.old self.new }
+        ensures values { values self.new.pivots ≡ values self.old.pivots }
+        ensures insertions { OnOk result (self.new.insertions ≡ []) }
+        ensures deletions { OnOk result (self.new.deletions ≡ []) }
+        ensures refused { OnErr result (IsUnchanged self.old self.new) }
+    {
+        merge_all(
+            &mut self.rows,
+            &mut self.pivots,
+            &mut self.deletions,
+            &mut self.insertions,
+        )
+    }
+
+    /// Where the rows with scores in the range stand: from the first place on and before the
+    /// second. What waits in the range is merged, and the cuts of the range become pivots; where
+    /// there would be more than 4,096 of them, the others are dropped. A range whose first cut is
+    /// not below its second holds no row, and is answered by (0, 0). Refused, it leaves the
+    /// column as it was.
+    pub fn select(&mut self, range: &Range) -> Result<(usize, usize), AllocError>
+        ensures content { SameContent self.old self.new }
+        ensures answer { IfOk result (λ answer. IsAnswer self.new range.now answer) }
+        ensures rows { IfOk result (λ answer. HoldsRange self.new range.now answer) }
+        ensures refused { OnErr result (IsUnchanged self.old self.new) }
+        ensures empty { is_before (low_cut range.now) (high_cut range.now) ≡ false → IsUnchanged self.old self.new × (result ≡ Ok (0, 0)) }
+        ensures waiting_insertions { SameOutside range.now self.old.insertions self.new.insertions }
+        ensures waiting_deletions { SameOutside range.now self.old.deletions self.new.deletions }
+        ensures pivots { OnOk result (is_before (low_cut range.now) (high_cut range.now) ≡ true → AddsCuts range.now self.old.pivots self.new.pivots) }
+
+        // With nothing to merge and no pivot dropped, a row moves only within a piece that is cracked.
+        ensures still { OnOk result (pivots_with_cuts range.now self.old.pivots ≤ 4096 → NoneIn range.now self.old.insertions → NoneIn range.now self.old.deletions → StandsStill range.now self.old self.new) }
+    {
+        let (first, second) = range.cuts();
+        select_between(
+            &mut self.rows,
+            &mut self.pivots,
+            &mut self.deletions,
+            &mut self.insertions,
+            range,
+            &first,
+            &second,
+        )
+    }
+
+    /// The answer of `select`, where the column is ready for it: nothing waits in the range, and
+    /// each of its cuts is a pivot or an end of the column; or the first cut is not below the
+    /// second.
+    pub fn ready(&self, range: &Range) -> Option<(usize, usize)>
+        ensures answer { IfSome result (λ answer. IsAnswer self.now range.now answer) }
+        ensures rows { IfSome result (λ answer. HoldsRange self.now range.now answer) }
+        ensures exact { (answer : ℕ × ℕ) → IsAnswer self.now range.now answer → result ≡ Some answer }
+    {
+        let len = self.rows.len();
+        let (first, second) = range.cuts();
+        if !is_before(&first, &second) {
+            return Some((0, 0));
+        }
+        settled_places(
+            len,
+            &self.pivots,
+            &self.deletions,
+            &self.insertions,
+            range,
+            &first,
+            &second,
+        )
+    }
+}

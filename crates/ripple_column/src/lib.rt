@@ -1,0 +1,19 @@
+//! A column of rows that is cracked by its queries, with insertions and deletions that wait until
+//! a query needs them.
+//!
+//! The column is that of Database Cracking (Idreos, Kersten and Manegold, CIDR 2007). How waiting
+//! rows come in and go out is this project's own: a ripple insertion and a ripple deletion move at
+//! most one row a piece.
+#![tactic(auto)]
+
+mod column;
+mod cuts;
+mod merge;
+mod pending;
+mod ripple;
+mod select;
+
+pub use column::Column;
+
+#[cfg(test)]
+mod tests;

@@ -1,0 +1,107 @@
+//! Ripple insertion and ripple deletion: a row comes into its piece, or goes out of it, and each
+//! piece above passes one row from its one end to the other.
+//!
+//! The row is carried by swaps, so that all rows are there at each step. The pivots are shifted
+//! once, at the end.
+
+ghost use Rattle.std.specs.Prelude.{◌≡◌, ◌-◌, ◌<◌, ◌≤◌, ◌==◌, ◌++◌, ◌∷◌, [], pos, if◌then◌else◌, length, Contains, IsPermutation, slice_index_or, vec_len, vec_capacity};
+ghost use Rattle.std.specs.List.{HoldsAt};
+ghost use Rattle.crack_kernel.specs.PivotList.{ObeysPivots};
+ghost use Rattle.ripple_column.specs.Pieces.{StandsWithin};
+ghost use Rattle.ripple_column.specs.Cuts.{values};
+
+use crack_kernel::{Pivots, Row};
+use std::alloc::Allocator;
+
+/// Puts `row` into its piece. Each piece above passes its first row behind its last.
+pub fn ripple_insert<A: Allocator>(rows: &mut Vec<Row<A>, A>, pivots: &mut Pivots<A>, row: Row<A>)
+    requires law { ObeysPivots pivots.old.list rows.old.items }
+    requires room { vec_len rows.old < vec_capacity rows.old }
+    ensures rows { IsPermutation (rows.old.items ++ row ∷ []) rows.new.items }
+    ensures law { ObeysPivots pivots.new.list rows.new.items }
+    ensures values { values pivots.new.list ≡ values pivots.old.list }
+    ensures spare { pivots.new.spare ≡ pivots.old.spare }
+    ensures capacity { vec_capacity rows.new ≡ vec_capacity rows.old }
+{
+    let first = pivots.count_upto(row.score());
+    let mut hole = rows.len();
+    rows.push_reserved(row);
+    let list = pivots.list();
+    let mut i = list.len();
+    while i > first {
+        i -= 1;
+        let place = list[i].1;
+        rows.swap(place, hole);
+        hole = place;
+    }
+    pivots.shift(first, true);
+}
+
+/// Takes `row` out of its piece, and gives it back. Each piece above passes its last row to the
+/// place before its first.
+pub fn ripple_remove<A: Allocator>(
+    rows: &mut Vec<Row<A>, A>,
+    pivots: &mut Pivots<A>,
+    row: &Row<A>,
+) -> Row<A>
+    requires law { ObeysPivots pivots.old.list rows.old.items }
+    requires there { Contains rows.old.items row.now }
+    ensures gone { result ≡ row.now }
+    ensures rows { IsPermutation rows.old.items (rows.new.items ++ row.now ∷ []) }
+    ensures law { ObeysPivots pivots.new.list rows.new.items }
+    ensures values { values pivots.new.list ≡ values pivots.old.list }
+    ensures spare { pivots.new.spare ≡ pivots.old.spare }
+    ensures capacity { vec_capacity rows.new ≡ vec_capacity rows.old }
+{
+    let list = pivots.list();
+    let first = pivots.count_upto(row.score());
+    let from = start_below(list, first);
+    let to = place_or(list, first, rows.len());
+    let at = place_between(rows, from, to, row);
+    let mut hole = to - 1;
+    rows.swap(hole, at);
+    let mut i = first;
+    while i < list.len() {
+        i += 1;
+        let last = place_or(list, i, rows.len()) - 1;
+        rows.swap(last, hole);
+        hole = last;
+    }
+    pivots.shift(first, false);
+    match rows.pop() {
+        Some(gone) => gone,
+        None => unreachable!(),
+    }
+}
+
+/// The first place from `from` on, and before `to`, at which `row` stands.
+fn place_between<A: Allocator>(rows: &[Row<A>], from: usize, to: usize, row: &Row<A>) -> usize
+    requires there { StandsWithin row.now rows.now from to }
+    requires within { to ≤ length rows.now }
+    ensures low { from ≤ result }
+    ensures high { result < to }
+    ensures here { HoldsAt (λ r. r ≡ row.now) rows.now result }
+{
+    for at in from..to {
+        let found = &rows[at];
+        if found.is_same(row) {
+            return at;
+        }
+    }
+    unreachable!()
+}
+
+/// The place of the pivot of index `i`, or `end` where there is none.
+fn place_or(list: &[(i64, usize)], i: usize, end: usize) -> usize
+    ensures { result ≡ (slice_index_or list.now i (pos 0, end)).1 }
+{
+    if i < list.len() { list[i].1 } else { end }
+}
+
+/// Where the piece below the pivot of index `i` begins.
+fn start_below(list: &[(i64, usize)], i: usize) -> usize
+    requires { i ≤ length list.now }
+    ensures { result ≡ (if i == 0 then 0 else (slice_index_or list.now (i - 1) (pos 0, 0)).1) }
+{
+    if i == 0 { 0 } else { list[i - 1].1 }
+}
