@@ -14,10 +14,6 @@ use Rattle.score_bounds.specs.declared.bounds.Cut.TheVariants.{Start, At, End}
 use Rattle.crack_kernel.specs.PivotList.{IsNewValue}
 use Rattle.ripple_column.specs.Cuts.{is_before, values, cut_values, new_values, StandsAt, IsUncracked}
 
--- the test of being a value
-abbrev pub is_value : ℤ → ℤ → Bool
-is_value v u = int_eq u v
-
 value_at : (ps : List (ℤ × ℕ)) (k : ℕ) (d : ℤ) (e : ℤ × ℕ) → k < length ps → get_or (values ps) k d ≡ (get_or ps k e).0
 value_at ps k d e h = get_or-map (λ (p : ℤ × ℕ). p.0) ps k e d h
 

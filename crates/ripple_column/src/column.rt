@@ -164,13 +164,17 @@ impl<A: Allocator + Copy> Column<A> {
         ensures answer { IfOk result (λ answer. IsAnswer self.new range.now answer) }
         ensures rows { IfOk result (λ answer. HoldsRange self.new range.now answer) }
         ensures refused { OnErr result (IsUnchanged self.old self.new) }
-        ensures empty { is_before (low_cut range.now) (high_cut range.now) ≡ false → IsUnchanged self.old self.new × (result ≡ Ok (0, 0)) }
+        ensures empty { is_before (low_cut range.now) (high_cut range.now) ≡ false
+            → IsUnchanged self.old self.new × (result ≡ Ok (0, 0)) }
         ensures waiting_insertions { SameOutside range.now self.old.insertions self.new.insertions }
         ensures waiting_deletions { SameOutside range.now self.old.deletions self.new.deletions }
-        ensures pivots { OnOk result (is_before (low_cut range.now) (high_cut range.now) ≡ true → AddsCuts range.now self.old.pivots self.new.pivots) }
+        ensures pivots { OnOk result (is_before (low_cut range.now) (high_cut range.now) ≡ true
+            → AddsCuts range.now self.old.pivots self.new.pivots) }
 
         // With nothing to merge and no pivot dropped, a row moves only within a piece that is cracked.
-        ensures still { OnOk result (pivots_with_cuts range.now self.old.pivots ≤ 4096 → NoneIn range.now self.old.insertions → NoneIn range.now self.old.deletions → StandsStill range.now self.old self.new) }
+        ensures still { OnOk result (pivots_with_cuts range.now self.old.pivots ≤ 4096
+            → NoneIn range.now self.old.insertions → NoneIn range.now self.old.deletions
+            → StandsStill range.now self.old self.new) }
     {
         let (first, second) = range.cuts();
         select_between(

@@ -40,14 +40,18 @@ pub fn crack_between<A: Allocator>(
 ) -> (usize, usize)
     requires law { ObeysPivots pivots.old.list rows.old }
     requires order { is_before first.now second.now ≡ true }
-    requires room { length (new_values first.now (values pivots.old.list)) + length (new_values second.now (values pivots.old.list)) ≤ pivots.old.spare }
+    requires room { length (new_values first.now (values pivots.old.list))
+        + length (new_values second.now (values pivots.old.list)) ≤ pivots.old.spare }
     requires few { count_with_cuts first.now second.now pivots.old.list ≤ 4096 }
     ensures law { ObeysPivots pivots.new.list rows.new }
     ensures rows { IsPermutation rows.old rows.new }
     ensures first { StandsAt first.now pivots.new.list (length rows.new) result.0 }
     ensures second { StandsAt second.now pivots.new.list (length rows.new) result.1 }
-    ensures values { IsPermutation (values_with_cuts first.now second.now (values pivots.old.list)) (values pivots.new.list) }
-    ensures still { (k : ℕ) (d : ℤ × List ℕ) → IsUncracked first.now pivots.old.list k → IsUncracked second.now pivots.old.list k → slice_index_or rows.new k d ≡ slice_index_or rows.old k d }
+    ensures values { IsPermutation (values_with_cuts first.now second.now (values pivots.old.list))
+        (values pivots.new.list) }
+    ensures still { (k : ℕ) (d : ℤ × List ℕ) → IsUncracked first.now pivots.old.list k
+        → IsUncracked second.now pivots.old.list k → slice_index_or rows.new k d
+        ≡ slice_index_or rows.old k d }
 {
     let from = crack_at_cut(rows, pivots, first);
     let to = crack_at_cut(rows, pivots, second);
@@ -62,10 +66,12 @@ fn crack_at_cut<A: Allocator>(rows: &mut [Row<A>], pivots: &mut Pivots<A>, cut: 
     ensures law { ObeysPivots pivots.new.list rows.new }
     ensures rows { IsPermutation rows.old rows.new }
     ensures place { StandsAt cut.now pivots.new.list (length rows.new) result }
-    ensures values { IsPermutation (new_values cut.now (values pivots.old.list) ++ values pivots.old.list) (values pivots.new.list) }
+    ensures values { IsPermutation (new_values cut.now (values pivots.old.list)
+        ++ values pivots.old.list) (values pivots.new.list) }
     ensures kept { (p : ℤ × ℕ) → Contains pivots.old.list p → Contains pivots.new.list p }
     ensures spare { pivots.old.spare ≡ pivots.new.spare + length (new_values cut.now (values pivots.old.list)) }
-    ensures still { (k : ℕ) (d : ℤ × List ℕ) → IsUncracked cut.now pivots.old.list k → slice_index_or rows.new k d ≡ slice_index_or rows.old k d }
+    ensures still { (k : ℕ) (d : ℤ × List ℕ) → IsUncracked cut.now pivots.old.list k
+        → slice_index_or rows.new k d ≡ slice_index_or rows.old k d }
 {
     match *cut {
         Cut::Start => 0,
@@ -87,7 +93,8 @@ fn crack_at<A: Allocator>(rows: &mut [Row<A>], pivots: &mut Pivots<A>, v: i64) -
     ensures rows { IsPermutation rows.old rows.new }
     ensures pivots { IsPermutation ((v, result) ∷ pivots.old.list) pivots.new.list }
     ensures spare { pivots.old.spare ≡ pivots.new.spare + 1 }
-    ensures still { (k : ℕ) (d : ℤ × List ℕ) → IsApart v pivots.old.list k → slice_index_or rows.new k d ≡ slice_index_or rows.old k d }
+    ensures still { (k : ℕ) (d : ℤ × List ℕ) → IsApart v pivots.old.list k
+        → slice_index_or rows.new k d ≡ slice_index_or rows.old k d }
 {
     let (from, to) = pivots.piece_of(v, rows.len());
     let place = crack_piece(rows, from, to, v);

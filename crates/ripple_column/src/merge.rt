@@ -58,7 +58,8 @@ pub fn merge_deletions<A: Allocator>(
     requires part { IsSubBag deletions.old.items rows.old.items }
     ensures law { ObeysPivots pivots.new.list rows.new.items }
     ensures part { IsSubBag deletions.new.items rows.new.items }
-    ensures content { (p : Test) → count_by p rows.new.items + count_by p deletions.old.items ≡ count_by p rows.old.items + count_by p deletions.new.items }
+    ensures content { (p : Test) → count_by p rows.new.items + count_by p deletions.old.items
+        ≡ count_by p rows.old.items + count_by p deletions.new.items }
     ensures merged { NoneIn range.now deletions.new.items }
     ensures waiting { SameOutside range.now deletions.old.items deletions.new.items }
     ensures less { IsSubBag deletions.new.items deletions.old.items }
@@ -88,9 +89,11 @@ pub fn merge_insertions<A: Allocator>(
     range: &Range,
 )
     requires law { ObeysPivots pivots.old.list rows.old.items }
-    requires room { vec_len rows.old + count_by (has_score_in range.now) insertions.old.items ≤ vec_capacity rows.old }
+    requires room { vec_len rows.old + count_by (has_score_in range.now) insertions.old.items
+        ≤ vec_capacity rows.old }
     ensures law { ObeysPivots pivots.new.list rows.new.items }
-    ensures content { (p : Test) → count_by p rows.new.items + count_by p insertions.new.items ≡ count_by p rows.old.items + count_by p insertions.old.items }
+    ensures content { (p : Test) → count_by p rows.new.items + count_by p insertions.new.items
+        ≡ count_by p rows.old.items + count_by p insertions.old.items }
     ensures merged { NoneIn range.now insertions.new.items }
     ensures waiting { SameOutside range.now insertions.old.items insertions.new.items }
     ensures less { IsSubBag insertions.new.items insertions.old.items }
@@ -123,18 +126,22 @@ pub fn merge_range<A: Allocator>(
 )
     requires law { ObeysPivots pivots.old.list rows.old.items }
     requires part { IsSubBag deletions.old.items rows.old.items }
-    requires room { vec_len rows.old + count_by (has_score_in range.now) insertions.old.items ≤ vec_capacity rows.old }
+    requires room { vec_len rows.old + count_by (has_score_in range.now) insertions.old.items
+        ≤ vec_capacity rows.old }
     ensures law { ObeysPivots pivots.new.list rows.new.items }
     ensures part { IsSubBag deletions.new.items rows.new.items }
-    ensures content { KeepsContent rows.old.items insertions.old.items deletions.old.items rows.new.items insertions.new.items deletions.new.items }
+    ensures content { KeepsContent rows.old.items insertions.old.items deletions.old.items rows.new.items
+        insertions.new.items deletions.new.items }
     ensures merged_deletions { NoneIn range.now deletions.new.items }
     ensures merged_insertions { NoneIn range.now insertions.new.items }
     ensures waiting_deletions { SameOutside range.now deletions.old.items deletions.new.items }
     ensures waiting_insertions { SameOutside range.now insertions.old.items insertions.new.items }
     ensures less_deletions { IsSubBag deletions.new.items deletions.old.items }
     ensures less_insertions { IsSubBag insertions.new.items insertions.old.items }
-    ensures still_rows { NoneIn range.now deletions.old.items → NoneIn range.now insertions.old.items → rows.new.items ≡ rows.old.items }
-    ensures still_pivots { NoneIn range.now deletions.old.items → NoneIn range.now insertions.old.items → pivots.new.list ≡ pivots.old.list }
+    ensures still_rows { NoneIn range.now deletions.old.items → NoneIn range.now insertions.old.items
+        → rows.new.items ≡ rows.old.items }
+    ensures still_pivots { NoneIn range.now deletions.old.items → NoneIn range.now insertions.old.items
+        → pivots.new.list ≡ pivots.old.list }
 
     ensures values { values pivots.new.list ≡ values pivots.old.list }
     ensures spare { pivots.new.spare ≡ pivots.old.spare }
@@ -159,7 +166,8 @@ pub fn merge_all<A: Allocator>(
     requires part { IsSubBag deletions.old.items rows.old.items }
     ensures law { ObeysPivots pivots.new.list rows.new.items }
     ensures part { IsSubBag deletions.new.items rows.new.items }
-    ensures content { KeepsContent rows.old.items insertions.old.items deletions.old.items rows.new.items insertions.new.items deletions.new.items }
+    ensures content { KeepsContent rows.old.items insertions.old.items deletions.old.items rows.new.items
+        insertions.new.items deletions.new.items }
     ensures less_deletions { IsSubBag deletions.new.items deletions.old.items }
     ensures less_insertions { IsSubBag insertions.new.items insertions.old.items }
     ensures merged_deletions { OnOk result (deletions.new.items ≡ []) }

@@ -18,7 +18,8 @@ pub const MAX_PENDING: usize = 2048;
 /// The index at which `row` stands, if it is there. Members are compared only where the scores
 /// agree.
 pub fn position_of<A: Allocator>(rows: &[Row<A>], row: &Row<A>) -> Option<usize>
-    ensures found { MatchOption result (¬ Contains rows.now row.now) (λ i. HoldsAt (λ r. r ≡ row.now) rows.now i × (i < length rows.now)) }
+    ensures found { MatchOption result (¬ Contains rows.now row.now) (λ i. HoldsAt (λ r. r
+        ≡ row.now) rows.now i × (i < length rows.now)) }
     ensures score { row.now.0 ≤ℤ greatest }
 {
     let score = row.score();
@@ -65,7 +66,8 @@ pub fn reserve_write<A: Allocator>(
     requires few_insertions { length insertions.old.items ≤ 2048 }
     ensures law { ObeysPivots pivots.new.list rows.new.items }
     ensures part { IsSubBag deletions.new.items rows.new.items }
-    ensures content { KeepsContent rows.old.items insertions.old.items deletions.old.items rows.new.items insertions.new.items deletions.new.items }
+    ensures content { KeepsContent rows.old.items insertions.old.items deletions.old.items rows.new.items
+        insertions.new.items deletions.new.items }
     ensures less_deletions { IsSubBag deletions.new.items deletions.old.items }
     ensures less_insertions { IsSubBag insertions.new.items insertions.old.items }
     ensures values { values pivots.new.list ≡ values pivots.old.list }
@@ -73,12 +75,18 @@ pub fn reserve_write<A: Allocator>(
     ensures room_insertions { OnOk result (vec_len insertions.new + n ≤ min (vec_capacity insertions.new) 2048) }
 
     // All is merged exactly where one of the lists would grow too long.
-    ensures merged_deletions { OnOk result (2048 < max (length deletions.old.items) (length insertions.old.items) + n → deletions.new.items ≡ []) }
-    ensures merged_insertions { OnOk result (2048 < max (length deletions.old.items) (length insertions.old.items) + n → insertions.new.items ≡ []) }
-    ensures still_rows { max (length deletions.old.items) (length insertions.old.items) + n ≤ 2048 → rows.new.items ≡ rows.old.items }
-    ensures still_pivots { max (length deletions.old.items) (length insertions.old.items) + n ≤ 2048 → pivots.new.list ≡ pivots.old.list }
-    ensures still_deletions { max (length deletions.old.items) (length insertions.old.items) + n ≤ 2048 → deletions.new.items ≡ deletions.old.items }
-    ensures still_insertions { max (length deletions.old.items) (length insertions.old.items) + n ≤ 2048 → insertions.new.items ≡ insertions.old.items }
+    ensures merged_deletions { OnOk result (2048 < max (length deletions.old.items) (length insertions.old.items) + n
+        → deletions.new.items ≡ []) }
+    ensures merged_insertions { OnOk result (2048 < max (length deletions.old.items) (length insertions.old.items) + n
+        → insertions.new.items ≡ []) }
+    ensures still_rows { max (length deletions.old.items) (length insertions.old.items) + n ≤ 2048
+        → rows.new.items ≡ rows.old.items }
+    ensures still_pivots { max (length deletions.old.items) (length insertions.old.items) + n ≤ 2048
+        → pivots.new.list ≡ pivots.old.list }
+    ensures still_deletions { max (length deletions.old.items) (length insertions.old.items) + n ≤ 2048
+        → deletions.new.items ≡ deletions.old.items }
+    ensures still_insertions { max (length deletions.old.items) (length insertions.old.items) + n ≤ 2048
+        → insertions.new.items ≡ insertions.old.items }
 {
     if deletions.len().max(insertions.len()) + n > MAX_PENDING {
         merge_all(rows, pivots, deletions, insertions)?;

@@ -24,11 +24,15 @@ pub fn make_room<A: Allocator>(
 ) -> Result<(), AllocError>
     ensures rows { rows.new.items ≡ rows.old.items }
     ensures refused { OnErr result (pivots.new.list ≡ pivots.old.list) }
-    ensures room { OnOk result (vec_len rows.new + count_by (has_score_in range.now) insertions.now ≤ vec_capacity rows.new) }
+    ensures room { OnOk result (vec_len rows.new + count_by (has_score_in range.now) insertions.now
+        ≤ vec_capacity rows.new) }
 
-    ensures kept { OnOk result (count_with_cuts first.now second.now pivots.old.list ≤ 4096 → pivots.new.list ≡ pivots.old.list) }
-    ensures cleared { OnOk result (4096 < count_with_cuts first.now second.now pivots.old.list → pivots.new.list ≡ []) }
-    ensures spare { OnOk result (length (new_values first.now (values pivots.new.list)) + length (new_values second.now (values pivots.new.list)) ≤ pivots.new.spare) }
+    ensures kept { OnOk result (count_with_cuts first.now second.now pivots.old.list ≤ 4096
+        → pivots.new.list ≡ pivots.old.list) }
+    ensures cleared { OnOk result (4096 < count_with_cuts first.now second.now pivots.old.list
+        → pivots.new.list ≡ []) }
+    ensures spare { OnOk result (length (new_values first.now (values pivots.new.list))
+        + length (new_values second.now (values pivots.new.list)) ≤ pivots.new.spare) }
     ensures few { OnOk result (count_with_cuts first.now second.now pivots.new.list ≤ 4096) }
 {
     let arriving = count_within(insertions, range);
@@ -56,7 +60,8 @@ pub fn select_between<A: Allocator>(
     requires part { IsSubBag deletions.old.items rows.old.items }
     ensures law { ObeysPivots pivots.new.list rows.new.items }
     ensures part { IsSubBag deletions.new.items rows.new.items }
-    ensures content { KeepsContent rows.old.items insertions.old.items deletions.old.items rows.new.items insertions.new.items deletions.new.items }
+    ensures content { KeepsContent rows.old.items insertions.old.items deletions.old.items rows.new.items
+        insertions.new.items deletions.new.items }
     ensures less_deletions { IsSubBag deletions.new.items deletions.old.items }
     ensures less_insertions { IsSubBag insertions.new.items insertions.old.items }
 
@@ -64,8 +69,10 @@ pub fn select_between<A: Allocator>(
     ensures empty { is_before first.now second.now ≡ false → result ≡ Ok (0, 0) }
     ensures same_rows { is_before first.now second.now ≡ false ⊎ IsErr result → rows.new.items ≡ rows.old.items }
     ensures same_pivots { is_before first.now second.now ≡ false ⊎ IsErr result → pivots.new.list ≡ pivots.old.list }
-    ensures same_deletions { is_before first.now second.now ≡ false ⊎ IsErr result → deletions.new.items ≡ deletions.old.items }
-    ensures same_insertions { is_before first.now second.now ≡ false ⊎ IsErr result → insertions.new.items ≡ insertions.old.items }
+    ensures same_deletions { is_before first.now second.now ≡ false ⊎ IsErr result
+        → deletions.new.items ≡ deletions.old.items }
+    ensures same_insertions { is_before first.now second.now ≡ false ⊎ IsErr result
+        → insertions.new.items ≡ insertions.old.items }
 
     // What waited in the range is merged, and nothing else.
     ensures merged_deletions { is_before first.now second.now ≡ true → OnOk result (NoneIn range.now deletions.new.items) }
@@ -74,11 +81,23 @@ pub fn select_between<A: Allocator>(
     ensures waiting_insertions { SameOutside range.now insertions.old.items insertions.new.items }
 
     // The cuts are pivots, and the other pivots stay where there is room for all.
-    ensures first { is_before first.now second.now ≡ true → IfOk result (λ r. StandsAt first.now pivots.new.list (length rows.new.items) r.0) }
-    ensures second { is_before first.now second.now ≡ true → IfOk result (λ r. StandsAt second.now pivots.new.list (length rows.new.items) r.1) }
-    ensures values_kept { is_before first.now second.now ≡ true → OnOk result (count_with_cuts first.now second.now pivots.old.list ≤ 4096 → IsPermutation (values_with_cuts first.now second.now (values pivots.old.list)) (values pivots.new.list)) }
-    ensures values_cleared { is_before first.now second.now ≡ true → OnOk result (4096 < count_with_cuts first.now second.now pivots.old.list → IsPermutation (cut_values second.now ++ cut_values first.now) (values pivots.new.list)) }
-    ensures still { OnOk result (count_with_cuts first.now second.now pivots.old.list ≤ 4096 → NoneIn range.now insertions.old.items → NoneIn range.now deletions.old.items → (k : ℕ) (d : ℤ × List ℕ) → IsUncracked first.now pivots.old.list k → IsUncracked second.now pivots.old.list k → slice_index_or rows.new.items k d ≡ slice_index_or rows.old.items k d) }
+    ensures first { is_before first.now second.now ≡ true → IfOk result
+        (λ r. StandsAt first.now pivots.new.list (length rows.new.items) r.0) }
+    ensures second { is_before first.now second.now ≡ true → IfOk result
+        (λ r. StandsAt second.now pivots.new.list (length rows.new.items) r.1) }
+    ensures values_kept { is_before first.now second.now ≡ true → OnOk result
+        (count_with_cuts first.now second.now pivots.old.list ≤ 4096
+        → IsPermutation (values_with_cuts first.now second.now (values pivots.old.list))
+        (values pivots.new.list)) }
+    ensures values_cleared { is_before first.now second.now ≡ true → OnOk result (4096
+        < count_with_cuts first.now second.now pivots.old.list
+        → IsPermutation (cut_values second.now ++ cut_values first.now)
+        (values pivots.new.list)) }
+    ensures still { OnOk result (count_with_cuts first.now second.now pivots.old.list ≤ 4096
+        → NoneIn range.now insertions.old.items → NoneIn range.now deletions.old.items
+        → (k : ℕ) (d : ℤ × List ℕ) → IsUncracked first.now pivots.old.list k
+        → IsUncracked second.now pivots.old.list k → slice_index_or rows.new.items k d
+        ≡ slice_index_or rows.old.items k d) }
 {
     if !is_before(first, second) {
         return Ok((0, 0));
@@ -116,7 +135,9 @@ pub fn settled_places<A: Allocator>(
     ensures second { IfSome result (λ r. StandsAt second.now pivots.now.list rows_len r.1) }
     ensures deletions { OnSome result (NoneIn range.now deletions.now) }
     ensures insertions { OnSome result (NoneIn range.now insertions.now) }
-    ensures exact { (r : ℕ × ℕ) → StandsAt first.now pivots.now.list rows_len r.0 → StandsAt second.now pivots.now.list rows_len r.1 → NoneIn range.now deletions.now → NoneIn range.now insertions.now → result ≡ Some r }
+    ensures exact { (r : ℕ × ℕ) → StandsAt first.now pivots.now.list rows_len r.0
+        → StandsAt second.now pivots.now.list rows_len r.1 → NoneIn range.now deletions.now
+        → NoneIn range.now insertions.now → result ≡ Some r }
 {
     if waits_within(deletions, insertions, range) {
         return None;

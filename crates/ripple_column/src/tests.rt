@@ -15,7 +15,8 @@ fn add(
     score: i64,
     member: &[u8],
 ) -> Result<(), AllocError>
-    ensures { OnOk result ((p : Test) → content_count p column.new ≡ content_count p column.old + count_by p ((score, member.now) ∷ [])) }
+    ensures { OnOk result ((p : Test) → content_count p column.new
+        ≡ content_count p column.old + count_by p ((score, member.now) ∷ [])) }
 {
     let row = Row::new(score, Vec::from_slice(alloc, member)?);
     column.reserve_write(1)?;
@@ -31,7 +32,8 @@ fn take(
     member: &[u8],
 ) -> Result<(), AllocError>
     requires { HasRow column.old (score, member.now) }
-    ensures { OnOk result ((p : Test) → content_count p column.old ≡ content_count p column.new + count_by p ((score, member.now) ∷ [])) }
+    ensures { OnOk result ((p : Test) → content_count p column.old
+        ≡ content_count p column.new + count_by p ((score, member.now) ∷ [])) }
 {
     let row = Row::new(score, Vec::from_slice(alloc, member)?);
     column.reserve_write(1)?;

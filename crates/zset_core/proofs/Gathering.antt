@@ -1,7 +1,7 @@
 -- Members taken out, one after the other.
-use Rattle.std.proofs.Common.{◌≡◌, ℕ, ◌+◌, ◌-◌, ◌<◌, ◌≤◌, ◌||◌, ℤ, Bool, true, false, cond, not, nat_eq, nat_lt, List, [], ◌∷◌, ◌++◌, map, length, drop, suc, slice_get, get_or, Option, None, Some, option_map, is_some, refl, sym, ap, subst, ◌∙◌, arith, zero, true≢false, length-append, drop-cons, add-one}
+use Rattle.std.proofs.Common.{◌≡◌, ℕ, ◌+◌, ◌-◌, ◌||◌, ℤ, Bool, true, false, cond, not, List, [], ◌∷◌, ◌++◌, length, suc, slice_get, Option, None, Some, option_map, is_some, refl, sym, ap, ◌∙◌, arith, zero, true≢false, length-append}
 use Rattle.std.specs.List.{AllByRecursion, IsDistinct, list_any}
-use Rattle.std.specs.Map.{lookup, keys_of}
+use Rattle.std.specs.Map.{keys_of}
 use Rattle.std.specs.Str.{bytes_eq}
 use Rattle.std.specs.Ordering.{eq_by_cmp, nat_cmp, is_eq}
 use Rattle.std.specs.Cmp.{eq_by_cmp_equiv}
@@ -11,12 +11,11 @@ use Rattle.std.specs.declared.cmp.Ordering.{Ordering}
 use Rattle.std.specs.declared.cmp.Ordering.TheVariants.{Less, Equal, Greater}
 use Rattle.std.specs.Cmp.Lexicographic.{nat_list_eq_equiv, bytes_decides}
 use Rattle.std.specs.FinMap as fin
-use Rattle.std.specs.BTreeSet.{BTreeSet, contains, Updates}
+use Rattle.std.specs.BTreeSet.{BTreeSet, contains}
 use Rattle.std.specs.declared.vec.Vec.{Vec}
 use Rattle.std.proofs.lemmas.Map.Text.{is_eq-slice_cmp}
 use Rattle.std.proofs.lemmas.Map.Entries.{lookup_from_place}
 use Rattle.std.proofs.lemmas.Option.{slice_get-map}
-use Rattle.std.proofs.lemmas.Bool.Decides.{nat_tests}
 use Rattle.zset_core.specs.Sets.{Members, bytes_cmp}
 use Rattle.zset_core.specs.Step.{remove_all}
 use Rattle.zset_core.specs.Kept.{Entry, held, members_by, slots, slot_at, same_bytes, bytes_of}
@@ -139,14 +138,18 @@ module _ {A : Type 0} where
       in_before : is_some (fin.get (left es vs) q) ≡ true
       in_before = ap is_some (get-remove_all (members_by held es) (bytes_of vs) q ∙ ap (λ b. cond b None (fin.get (members_by held es) q)) (sym (old.same p q s at) ∙ new)
           ∙ get_members held es q ∙ ap (option_map held) (slot_here es p q s apart at))
+
       one_more : (a a' b n m end : ℕ) → a' ≡ a + 1 → 1 + b ≡ n → m ≡ b → a + n ≡ end → a' + m ≡ end
       one_more a a' b n m end e f g h = omega arith
+
       or_true : (b : Bool) → true ≡ (b || true)
       or_true true = refl
       or_true false = refl
+
       or_false : (b : Bool) → b ≡ (b || false)
       or_false true = refl
       or_false false = refl
+
       here : (j : ℕ) (r : List ℕ) (t : Slot) → slice_get (slots es) j ≡ Some (r, t) → (b : Bool) → is_eq (nat_cmp p j) ≡ b → cond b true (contains nat_cmp seen j) ≡ (list_any (bytes_eq r) (bytes_of vs) || bytes_eq r q)
       here j r t there true e =
           let same : p ≡ j = nat_cmp-IsAntisymmetric p j (tie (nat_cmp p j) e) in

@@ -1,8 +1,3 @@
-mod Options
-mod Pairs
-mod Adding
-mod Asked
-mod ReadingLaws
 pub mod Bridge
 pub mod Staging
 pub mod PairSteps
@@ -10,3 +5,10 @@ pub mod Places
 pub mod Gathering
 pub mod Order
 pub mod Worlds
+pub mod Outlines
+mod Options
+mod Pairs
+mod Adding
+mod Asked
+mod ReadingLaws
+pub mod OwnerViews

@@ -1,17 +1,16 @@
 -- Listings: a sorted list with the same pairs is the listing.
 use Rattle.std.proofs.Common.{◌≡◌, ℕ, ◌+◌, ◌-◌, ◌<◌, ◌≤◌, ℤ, pos, negsuc, take, Bool, true, false, cond, ◌&&◌, ◌||◌, List, [], ◌∷◌, map, filter, length, Option, None, Some, option_map, is_some, refl, sym, ap, subst, ◌∙◌, arith, get_or, ◌++◌, slice_get, drop, zero, suc, append_assoc, add-one, add_assoc, length-append}
-use Rattle.std.specs.Borrow.{Bor}
 use Rattle.std.specs.List.{AllByRecursion, IsDistinct, list_any}
 use Rattle.std.specs.List.Sorted.{IsStrictlySortedBy, IsPermutation, IsSorted}
 use Rattle.std.specs.Map.{lookup, keys_of}
 use Rattle.std.specs.Str.{bytes_eq}
 use Rattle.std.specs.Prelude.{T}
-use Rattle.std.specs.Ordering.{eq_by_cmp, int_cmp, is_eq, is_lt, on, ordering_then, ordering_reverse}
+use Rattle.std.specs.Ordering.{eq_by_cmp, int_cmp, is_eq, is_lt, ordering_then, ordering_reverse}
 use Rattle.std.specs.declared.cmp.Ordering.{Ordering}
 use Rattle.std.specs.declared.cmp.Ordering.TheVariants.{Less, Equal, Greater}
 use Rattle.std.specs.declared.vec.Vec.{Vec}
 use Rattle.std.specs.Cmp.{IsTotalOrder, eq_by_cmp_equiv}
-use Rattle.std.specs.Cmp.Lexicographic.{nat_list_eq_equiv, bytes_decides}
+use Rattle.std.specs.Cmp.Lexicographic.{nat_list_eq_equiv}
 use Rattle.std.specs.FinMap as fin
 use Rattle.std.specs.FinMap.{IsAntisymmetric, is_sorted, find}
 use Rattle.std.specs.FinMap.Entries.{below_all, is_some-find}
@@ -31,7 +30,7 @@ use Rattle.std.proofs.lemmas.List.Sorted.{IsPermutation-map, list_any-IsPermutat
 use Rattle.zset_core.specs.Sets.{Members, Pair, bytes_cmp, pair_cmp, pairs, marks, listing}
 use Rattle.zset_core.specs.Kept.{Entry, held, rows_by, members_by, slot_at, same_bytes}
 use Rattle.zset_core.specs.Listed.{Shown, picked, pair_of, pairs_of}
-use Rattle.zset_core.proofs.Bridge.{get_members, total, exact}
+use Rattle.zset_core.proofs.Bridge.{get_members, total}
 
 pub pair_total : IsTotalOrder pair_cmp
 pair_total = then_total (on_total (λ p. p.0) int_cmp_total) (on_total (λ p. p.1) total)
@@ -74,7 +73,7 @@ listing_is t m l rises alike =
     let B : List (Pair × Unit {0}) = marks (filter (λ p. t p.0) (pairs m)) in
     let sorted = sorted_marks l rises in
     let same : fin.from_sorted {R = pair_cmp} A ≡ fin.from_entries {R = pair_cmp} B = fin.same_map pair_total pair_exact (fin.from_sorted A) (fin.from_entries B) (λ q.
-        fin.get-from_sorted pair_cmp A q sorted ∙ find_marks q l ∙ ap (λ b. cond b (Some tt) None) (alike q) ∙ sym (fin.get-from_entries pair_total B q ∙ find_marks q (filter (λ p. t p.0) (pairs m)))) in
+    fin.get-from_sorted pair_cmp A q sorted ∙ find_marks q l ∙ ap (λ b. cond b (Some tt) None) (alike q) ∙ sym (fin.get-from_entries pair_total B q ∙ find_marks q (filter (λ p. t p.0) (pairs m)))) in
     sym (keys_marks l) ∙ ap (map (λ (e : Pair × Unit {0}). e.0)) (sym (fin.entries-from_sorted pair_cmp A sorted)) ∙ ap fin.keys same
 
 -- ---- which pairs are there
@@ -129,9 +128,11 @@ below_apart k (e ∷ es) h = (sym (is_eq-slice_cmp k e.0) ∙ less (bytes_cmp k 
     first : (a b : Bool) → T (a && b) → T a
     first true b h = tt
     first false b h = h
+
     second : (a b : Bool) → T (a && b) → T b
     second true b h = h
     second false b h = absurd h
+
     less : (o : Ordering) → T (is_lt o) → is_eq o ≡ false
     less Less h = refl
     less Equal h = absurd h
@@ -145,6 +146,7 @@ sorted_apart (e ∷ es) h = (below_apart e.0 es (first (below_all bytes_cmp e.0 
     first : (a b : Bool) → T (a && b) → T a
     first true b h = tt
     first false b h = h
+
     second : (a b : Bool) → T (a && b) → T b
     second true b h = h
     second false b h = absurd h
@@ -288,7 +290,7 @@ sorted_is_listing t es rows sorted apart is moved up =
     let E : Shown → Shown → Bool = λ a b. is_pair (pair_of a) (pair_of b) in
     let sorted_apart_rows : IsDistinct E sorted = IsDistinct-IsPermutation E (λ x y. (eq_by_cmp_equiv pair_total).symm (pair_of x) (pair_of y)) rows sorted moved (rows_apart rows pairs_apart) in
     listing_is t (members_by held es) (pairs_of sorted) (rises_pairs sorted (rises sorted up sorted_apart_rows)) (λ q.
-        list_any-IsPermutation_back q ∙ ap (list_any (is_pair q)) is ∙ same_under t q (entry_pairs es) (pairs (members_by held es)) (has_of_entries es q bytes_apart))
+    list_any-IsPermutation_back q ∙ ap (list_any (is_pair q)) is ∙ same_under t q (entry_pairs es) (pairs (members_by held es)) (has_of_entries es q bytes_apart))
   where
     list_any-IsPermutation_back : (q : Pair) → list_any (is_pair q) (pairs_of sorted) ≡ list_any (is_pair q) (pairs_of rows)
     list_any-IsPermutation_back q = sym (list_any-IsPermutation (is_pair q) (pairs_of rows) (pairs_of sorted) (IsPermutation-map pair_of rows sorted moved))
@@ -300,7 +302,7 @@ len_marks [] d = fin.len-empty pair_cmp (Unit {0})
 len_marks (p ∷ ps) d =
     fin.len-insert pair_total (fin.from_entries (marks ps)) p tt
     ∙ ap (λ o. cond (is_some o) (fin.len (fin.from_entries {R = pair_cmp} (marks ps))) (fin.len (fin.from_entries {R = pair_cmp} (marks ps)) + 1))
-        (fin.get-from_entries pair_total (marks ps) p ∙ find_marks p ps ∙ ap (λ b. cond b (Some tt) None) (none_like p ps d.0))
+    (fin.get-from_entries pair_total (marks ps) p ∙ find_marks p ps ∙ ap (λ b. cond b (Some tt) None) (none_like p ps d.0))
     ∙ ap (λ n. n + 1) (len_marks ps d.1) ∙ omega arith
   where
     none_like : (p : Pair) (ps : List Pair) → AllByRecursion (λ y. is_pair p y ≡ false) ps → list_any (is_pair p) ps ≡ false
@@ -314,8 +316,8 @@ listing_length t es apart =
     let L : List Pair = filter (λ p. t p.0) (pairs (members_by held es)) in
     let P : List Pair = picked t es in
     let same : fin.from_entries {R = pair_cmp} (marks L) ≡ fin.from_entries {R = pair_cmp} (marks P) = fin.same_map pair_total pair_exact _ _ (λ q.
-        fin.get-from_entries pair_total (marks L) q ∙ find_marks q L ∙ ap (λ b. cond b (Some tt) None) (sym (same_under t q (entry_pairs es) (pairs (members_by held es)) (has_of_entries es q bytes_apart)))
-        ∙ sym (fin.get-from_entries pair_total (marks P) q ∙ find_marks q P)) in
+    fin.get-from_entries pair_total (marks L) q ∙ find_marks q L ∙ ap (λ b. cond b (Some tt) None) (sym (same_under t q (entry_pairs es) (pairs (members_by held es)) (has_of_entries es q bytes_apart)))
+    ∙ sym (fin.get-from_entries pair_total (marks P) q ∙ find_marks q P)) in
     length-map (fin.entries (fin.from_entries {R = pair_cmp} (marks L))) (λ (e : Pair × Unit {0}). e.0) ∙ sym (fin.len-entries (fin.from_entries {R = pair_cmp} (marks L)))
     ∙ ap fin.len same ∙ len_marks P (filter_apart (λ p. t p.0) (entry_pairs es) (entries_apart es bytes_apart))
 
@@ -347,8 +349,10 @@ count_step {A = A} t es i n e b at is all =
   where
     rest : List Pair
     rest = picked t (drop (suc i) es)
+
     first : List Pair
     first = filter (λ p. t p.0) ((held e.1, e.0.items) ∷ [])
+
     one : (x : Pair) (b : Bool) → length (cond b (x ∷ []) []) ≡ cond b 1 0
     one x true = refl
     one x false = refl

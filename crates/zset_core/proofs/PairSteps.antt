@@ -1,5 +1,5 @@
 -- Walks over the pairs of ZADD.
-use Rattle.std.proofs.Common.{◌≡◌, ℕ, ◌+◌, ◌*◌, ◌<◌, ◌≤◌, ℤ, pos, Bool, true, false, List, [], ◌∷◌, length, drop, get_or, slice_index_or, zero, suc, refl, sym, ap, subst, ◌∙◌, arith, add_assoc, add-one, drop-cons}
+use Rattle.std.proofs.Common.{◌≡◌, ℕ, ◌+◌, ◌*◌, ◌<◌, ◌≤◌, ℤ, pos, Bool, true, false, List, [], ◌∷◌, length, drop, get_or, zero, suc, refl, sym, ap, ◌∙◌, arith, add_assoc, add-one, drop-cons}
 use Rattle.std.specs.FinMap as fin
 use Rattle.zset_core.specs.Form.{scored}
 use Rattle.zset_core.specs.Sets.{Members, Pair}

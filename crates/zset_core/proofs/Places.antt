@@ -1,5 +1,5 @@
 -- Entries up to a place, and what callers see of a set by them.
-use Rattle.std.proofs.Common.{◌≡◌, ℕ, ◌+◌, ◌<◌, ◌≤◌, ℤ, Bool, true, false, cond, nat_lt, List, [], ◌∷◌, length, take, Option, None, Some, option_map, IfSome, refl, sym, ap, ◌∙◌, arith, position, rules, zero, suc, subst, length-take-le}
+use Rattle.std.proofs.Common.{◌≡◌, ℕ, ◌+◌, ◌<◌, ◌≤◌, ℤ, Bool, true, false, cond, nat_lt, List, [], ◌∷◌, length, take, Option, None, Some, option_map, refl, sym, ap, ◌∙◌, arith, position, zero, suc, subst, length-take-le}
 use Rattle.std.proofs.Math.Seq.{take-length}
 use Rattle.std.specs.List.{position_or_len, IsDistinct}
 use Rattle.std.specs.Map.{lookup, keys_of}
@@ -8,7 +8,7 @@ use Rattle.std.specs.FinMap as fin
 use Rattle.std.proofs.lemmas.Bool.Decides.{nat_tests}
 use Rattle.indexmap.proofs.MapLemmas.{distinct-take, Found-position}
 use Rattle.zset_core.specs.View.{SetView}
-use Rattle.zset_core.specs.Kept.{Entry, held, rows_by, members_by, slot_at, same_bytes}
+use Rattle.zset_core.specs.Kept.{Entry, held, members_by, slot_at, same_bytes}
 use Rattle.zset_core.specs.Viewed.{view_of, IsSound, kept_of}
 use Rattle.zset_core.specs.declared.set.Prepared.{Prepared}
 use Rattle.zset_core.specs.declared.slot.Slot.{Slot}
@@ -28,7 +28,7 @@ ltb_of i n h = grind (arith, nat_tests)
 not_ltb : (i n : ℕ) → n ≤ i → nat_lt i n ≡ false
 not_ltb i n h = grind (arith, nat_tests)
 
-length_take : {X : Type 0} (n : ℕ) (xs : List X) → n ≤ length xs → length (take n xs) ≡ n
+pub length_take : {X : Type 0} (n : ℕ) (xs : List X) → n ≤ length xs → length (take n xs) ≡ n
 length_take n xs h = search (arith, length-take-le)
 
 none_below_zero : {X : Type 0} (j : ℕ) (r : Option X) → None ≡ cond (nat_lt j 0) r None
@@ -57,7 +57,7 @@ module _ {K X : Type 0} (test : K → Bool) where
   pub lookup_nowhere : (es : List (K × X)) (n : ℕ) → lookup test es ≡ None → lookup test (take n es) ≡ None
   lookup_nowhere es n absent = lookup_take es n ∙ ap (λ r. cond (nat_lt (position_or_len test (keys_of es)) n) r None) absent ∙ sym (nothing (nat_lt (position_or_len test (keys_of es)) n))
 
-keys_of-take : {K X : Type 0} (n : ℕ) (es : List (K × X)) → keys_of (take n es) ≡ take n (keys_of es)
+pub keys_of-take : {K X : Type 0} (n : ℕ) (es : List (K × X)) → keys_of (take n es) ≡ take n (keys_of es)
 keys_of-take zero es = refl
 keys_of-take (suc n) [] = refl
 keys_of-take (suc n) (e ∷ es) = ap (λ ks. e.0 ∷ ks) (keys_of-take n es)

@@ -1,6 +1,6 @@
 -- Entries while a command is in the making.
-use Rattle.std.proofs.Common.{◌≡◌, ℕ, ◌+◌, ◌<◌, ◌≤◌, ◌||◌, ℤ, Bool, true, false, cond, nat_eq, List, [], ◌∷◌, ◌++◌, map, length, take, drop, zero, suc, slice_get, get_or, Option, None, Some, option_map, is_some, IfSome, refl, sym, ap, subst, ◌∙◌, arith, length-append, drop-cons, add-one, true≢false}
-use Rattle.std.specs.List.{AllByRecursion, list_any}
+use Rattle.std.proofs.Common.{◌≡◌, ℕ, ◌+◌, ◌<◌, ◌≤◌, ◌||◌, ℤ, Bool, true, false, cond, nat_eq, List, [], ◌∷◌, ◌++◌, length, take, drop, zero, suc, slice_get, get_or, Option, None, Some, option_map, IfSome, refl, sym, ap, subst, ◌∙◌, arith, length-append, drop-cons, add-one, true≢false}
+use Rattle.std.specs.List.{list_any}
 use Rattle.std.specs.Map.{lookup_key, values_of}
 use Rattle.std.specs.Str.{bytes_eq}
 use Rattle.std.specs.Cmp.Lexicographic.{bytes_decides}
@@ -14,7 +14,7 @@ use Rattle.std.proofs.lemmas.Map.Made.{lookup_key_passes}
 use Rattle.std.proofs.lemmas.Option.{slice_get-map}
 use Rattle.std.proofs.lemmas.Bool.Decides.{nat_tests}
 use Rattle.indexmap.specs.IndexMap.{set_value_at, with_value_at, IsUnique}
-use Rattle.indexmap.proofs.CallerLemmas.{updates-with_value_at, index_map_len-with_value_at}
+use Rattle.indexmap.proofs.CallerLemmas.{updates-with_value_at}
 use Rattle.zset_core.specs.Kept.{Entry, held, next, rows_by, slots, members_by, slot_at, same_bytes, Stays, IsSettled, IsWithin, IsWaiting, Grows, bytes_of}
 use Rattle.zset_core.specs.declared.slot.Slot.{Slot}
 use Rattle.zset_core.proofs.Bridge.{same_equiv, updates_bytes, one_put, one_gone}
@@ -228,6 +228,7 @@ module _ {A : Type 0} where
       left true o s e h = cc
       left false None s e h = cc
       left false (Some t) s e h = let is : t ≡ s = cc in subst (λ (s : Slot). s.next ≡ s.held) is h
+
       by : (o : Option (Entry A)) → slice_get n.entries i ≡ o → IfSome o Stays
       by None at = tt
       by (Some e) at =

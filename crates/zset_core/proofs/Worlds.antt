@@ -1,5 +1,5 @@
 -- From the entries of the program's tree to the world that a contract sees.
-use Rattle.std.proofs.Common.{◌≡◌, ℕ, Bool, true, false, cond, nat_eq, List, [], ◌∷◌, Option, None, Some, unwrap_or, refl, sym, ap, subst, ◌∙◌, arith, ℤ, option_map, is_some, IsSome, Result, Ok, Err, OnOk, OnErr}
+use Rattle.std.proofs.Common.{◌≡◌, ℕ, Bool, true, false, cond, nat_eq, List, [], ◌∷◌, Option, None, Some, unwrap_or, refl, sym, ap, subst, ◌∙◌, arith, zero, suc, ℤ, option_map, option_and_then, is_some, IsSome, Result, Ok, Err, OnOk, OnErr}
 use Rattle.std.specs.Option.{IfSome}
 use Rattle.std.specs.Map.{lookup, KeepsOthers, IsKeyTest, AreApart}
 use Rattle.std.specs.Str.{bytes_eq}
@@ -13,9 +13,11 @@ use Rattle.std.specs.declared.cmp.Ordering.{Ordering}
 use Rattle.std.proofs.lemmas.Map.Text.{is_eq-slice_cmp}
 use Rattle.std.proofs.lemmas.Bool.Decides.{nat_tests}
 use Rattle.zset_core.specs.Sets.{Members, bytes_cmp}
-use Rattle.zset_core.specs.View.{SetView}
+use Rattle.zset_core.specs.View.{SetView, Next, Shows, IsReady, ShowsAt, IsReadyAt}
+use Rattle.zset_core.specs.Outlined.{IsOutline}
+use Rattle.zset_core.specs.declared.outline.Outline.{Outline}
 use Rattle.zset_core.specs.World.{World, is_empty, set_at, put_set}
-use Rattle.zset_core.specs.Owned.{Keyed, world_of, set_in, AllIdle}
+use Rattle.zset_core.specs.Owned.{Keyed, world_of, set_in, IsResting, AllRest, OthersRest, next_at, IsAfter}
 use Rattle.zset_core.proofs.Bridge.{total, exact}
 use Rattle.std.proofs.Common.{IfOk, IfErr}
 use Rattle.resp_wire.specs.Response.{Response}
@@ -55,7 +57,6 @@ on_err (Err e) P Q f h = f h
 pub on_ok : {A E : Type 0} (r : Result A E) (P Q : Type 0) → (P → Q) → OnOk r P → OnOk r Q
 on_ok (Ok x) P Q f h = f h
 on_ok (Err e) P Q f h = h
-
 
 pub if_ok_map : {X E : Type 0} {P Q : X → Type 0} (r : Result X E) → ((x : X) → P x → Q x) → IfOk r P → IfOk r Q
 if_ok_map (Ok x) f h = f x h
@@ -102,6 +103,9 @@ put_empty w k m absent none = fin.same_map total exact _ _ (λ q. get_put_set w 
     by : (q : List ℕ) (b : Bool) → b ≡ bytes_eq q k → cond b None (fin.get w q) ≡ fin.get w q
     by q true e = sym (ap (fin.get w) ((bytes_decides q k).0 (sym e)) ∙ absent)
     by q false e = refl
+
+abbrev pub keyed : List ℕ → Next → List ℕ × Next
+keyed k next = (k, next)
 
 module _ {A : Type 0} where
   -- the order of keys
@@ -150,12 +154,27 @@ module _ {A : Type 0} where
       by true y = subst (λ l. set_in n.entries l ≡ w) ((bytes_decides bs cs).0 y) h.1
       by false e = other_entries (is_at (λ k. bytes_cmp bs k.items)) m.entries n.entries h.3 (λ k. is_eq (bytes_cmp cs k.items)) (λ x y. (eq_by_cmp_equiv total).congr cs x.items y.items) (λ k. apart bs cs k.items e)
 
-  pub idle_put : (es fs : List (Keyed A)) (k : List ℕ) (v : SetView) → AllIdle es → v.next ≡ None → ((q : List ℕ) → set_in fs q ≡ cond (bytes_eq k q) (Some v) (set_in es q)) → AllIdle fs
-  idle_put es fs k v idle is after q = subst (λ o. IfSome o (λ v. v.next ≡ None)) (sym (after q)) (by (bytes_eq k q))
+  -- what holds of each set, where one is put in or taken out
+  pub all_changed : (P : SetView → Type 0) (es fs : List (Keyed A)) (k : List ℕ) (o : Option SetView) → ((q : List ℕ) → bytes_eq k q ≡ false → IfSome (set_in es q) P) → IfSome o P → ((q : List ℕ) → set_in fs q ≡ cond (bytes_eq k q) o (set_in es q)) → (q : List ℕ) → IfSome (set_in fs q) P
+  all_changed P es fs k o others is after q = subst (λ o. IfSome o P) (sym (after q)) (by (bytes_eq k q) refl)
     where
-      by : (b : Bool) → IfSome (cond b (Some v) (set_in es q)) (λ v. v.next ≡ None)
-      by true = is
-      by false = idle q
+      by : (b : Bool) → bytes_eq k q ≡ b → IfSome (cond b o (set_in es q)) P
+      by true e = is
+      by false e = others q e
+
+  pub others_changed : (P : SetView → Type 0) (es fs : List (Keyed A)) (k : List ℕ) (o : Option SetView) → ((q : List ℕ) → bytes_eq k q ≡ false → IfSome (set_in es q) P) → ((q : List ℕ) → set_in fs q ≡ cond (bytes_eq k q) o (set_in es q)) → (q : List ℕ) → bytes_eq k q ≡ false → IfSome (set_in fs q) P
+  others_changed P es fs k o others after q apart = subst (λ o. IfSome o P) (sym (after q ∙ ap (λ b. cond b o (set_in es q)) apart)) (others q apart)
+
+  pub others_of : (es : List (Keyed A)) (k : List ℕ) → AllRest es → OthersRest k es
+  others_of es k rest q apart = rest q
+
+  -- a set that is empty is taken out, and the world stays
+  pub world_cleared : (es fs : List (Keyed A)) (k : List ℕ) (v : SetView) → set_in es k ≡ Some v → is_empty v.members ≡ true → ((q : List ℕ) → set_in fs q ≡ cond (bytes_eq k q) None (set_in es q)) → world_of fs ≡ world_of es
+  world_cleared es fs k v at none after = world_same es fs (λ q. ap filled_view (after q) ∙ by q (bytes_eq k q) refl)
+    where
+      by : (q : List ℕ) (b : Bool) → bytes_eq k q ≡ b → filled_view (cond b None (set_in es q)) ≡ filled_view (set_in es q)
+      by q true y = sym (ap filled_view (ap (set_in es) (sym ((bytes_decides k q).0 y)) ∙ at) ∙ ap (λ b. cond b None (Some v.members)) none)
+      by q false n = refl
 
   -- an empty set put where none was leaves the world
   pub world_made : (es fs : List (Keyed A)) (k : List ℕ) (v : SetView) → v.members ≡ fin.empty → set_in es k ≡ None → ((q : List ℕ) → set_in fs q ≡ cond (bytes_eq k q) (Some v) (set_in es q)) → world_of fs ≡ world_of es
@@ -163,6 +182,7 @@ module _ {A : Type 0} where
     where
       none_left : filled v.members ≡ None
       none_left = ap filled is ∙ ap (λ n. cond (nat_eq n 0) None (Some fin.empty)) (fin.len-empty bytes_cmp ℤ)
+
       by : (q : List ℕ) (b : Bool) → bytes_eq k q ≡ b → filled_view (cond b (Some v) (set_in es q)) ≡ filled_view (set_in es q)
       by q true y = none_left ∙ sym (ap filled_view (ap (set_in es) (sym ((bytes_decides k q).0 y)) ∙ absent))
       by q false n = refl
@@ -184,5 +204,56 @@ module _ {A : Type 0} where
   pub set_at_none : (es : List (Keyed A)) (k : List ℕ) → set_in es k ≡ None → set_at (world_of es) k ≡ fin.empty
   set_at_none es k absent = ap (λ o. unwrap_or o fin.empty) (none_at es k absent)
 
-  pub idle_at : (es : List (Keyed A)) (k : List ℕ) (v : SetView) → Some v ≡ set_in es k → AllIdle es → v.next ≡ None
-  idle_at es k v is idle = subst (λ o. IfSome o (λ v. v.next ≡ None)) (sym is) (idle k)
+  pub rest_at : (es : List (Keyed A)) (k : List ℕ) (v : SetView) → Some v ≡ set_in es k → AllRest es → IsResting v
+  rest_at es k v is rest = subst (λ o. IfSome o IsResting) (sym is) (rest k)
+
+  -- ---- a set that is changed where it stands, and taken out if it is empty then
+  pub set_after : (es fs : List (Keyed A)) (k : List ℕ) (v : SetView) → IsAfter es k (Some v) fs → set_in fs k ≡ Some v
+  set_after es fs k v after = after k ∙ ap (λ b. cond b (Some v) (set_in es k)) (nat_list_eq_equiv.refl k)
+
+  pub world_emptied : (es fs gs : List (Keyed A)) (k : List ℕ) (w : SetView) → IsAfter es k (Some w) fs → IsAfter fs k None gs → fin.len w.members ≡ 0 → world_of gs ≡ world_of fs
+  world_emptied es fs gs k w one two none = world_cleared fs gs k w (set_after es fs k w one) (ap (λ n. nat_eq n 0) none) two
+
+  pub rest_emptied : (es fs gs : List (Keyed A)) (k : List ℕ) (w : SetView) → OthersRest k es → IsAfter es k (Some w) fs → IsAfter fs k None gs → AllRest gs
+  rest_emptied es fs gs k w others one two = all_changed IsResting fs gs k None (others_changed IsResting es fs k (Some w) others one) tt two
+
+  pub rest_changed : (es fs : List (Keyed A)) (k : List ℕ) (w : SetView) → OthersRest k es → IsAfter es k (Some w) fs → w.next ≡ None → (fin.len w.members ≡ 0 → ⊥) → AllRest fs
+  rest_changed es fs k w others one idle some = all_changed IsResting es fs k (Some w) others (record { idle = idle; filled = filled_of (fin.len w.members) some }) one
+    where
+      filled_of : (n : ℕ) → (n ≡ 0 → ⊥) → nat_eq n 0 ≡ false
+      filled_of zero h = absurd (h refl)
+      filled_of (suc n) h = grind (arith, nat_tests)
+
+  -- ---- a set that is prepared
+  pub ready_at : (w : World) (k : List ℕ) (c : Meaning) (old : Members) (v : SetView) (fs : List (Keyed A)) → set_at w k ≡ old → set_in fs k ≡ Some v → IsReady old c v.next → IsReadyAt w (Some k) c (next_at fs (Some k))
+  ready_at w k c old v fs at here ready =
+      subst (λ (o : Option SetView). ShowsAt k (step (set_at w k) c) c (option_and_then (λ v. option_map (keyed k) v.next) o)) (sym here)
+      (subst (λ (m : Members). ShowsAt k (step m c) c (option_map (keyed k) v.next)) (sym at) (by (step old c) v.next ready))
+    where
+      by : (o : Option (Members × Response)) (shown : Option Next) → Shows o c shown → ShowsAt k o c (option_map (keyed k) shown)
+      by None shown h = h
+      by (Some s) shown h = ap (option_map (keyed k)) h
+
+  pub outline_at : (w : World) (k : List ℕ) (old : Members) (v : SetView) (o : Outline) (fs : List (Keyed A)) → set_at w k ≡ old → set_in fs k ≡ Some v → IfSome v.next (λ next. IsOutline o old next.members) → IfSome (next_at fs (Some k)) (λ next. IsOutline o (set_at w next.0) next.1.members)
+  outline_at w k old v o fs at here made =
+      subst (λ (x : Option SetView). IfSome (option_and_then (λ v. option_map (keyed k) v.next) x) (λ next. IsOutline o (set_at w next.0) next.1.members)) (sym here) (by v.next made)
+    where
+      by : (shown : Option Next) → IfSome shown (λ next. IsOutline o old next.members) → IfSome (option_map (keyed k) shown) (λ next. IsOutline o (set_at w next.0) next.1.members)
+      by None h = tt
+      by (Some next) h = subst (λ (m : Members). IsOutline o m next.members) (sym at) h
+
+  pub next_here : (es : List (Keyed A)) (k : List ℕ) (v : SetView) → set_in es k ≡ Some v → next_at es (Some k) ≡ option_map (keyed k) v.next
+  next_here es k v at = ap (option_and_then (λ v. option_map (keyed k) v.next)) at
+
+  -- after a refused preparation the sets rest as before
+  pub rest_kept : (es fs : List (Keyed A)) (k : List ℕ) (v w : SetView) → AllRest es → Some v ≡ set_in es k → IsAfter es k (Some w) fs → w.members ≡ v.members → w.next ≡ None → AllRest fs
+  rest_kept es fs k v w rest at after same idle = all_changed IsResting es fs k (Some w) (others_of es k rest) (record { idle = idle; filled = ap is_empty same ∙ (rest_at es k v at rest).filled }) after
+
+  -- what a commit made
+  pub made_at : (es : List (Keyed A)) (k : List ℕ) (v w : SetView) (end : World) (reply : Response) → set_in es k ≡ Some v → end ≡ put_set (world_of es) k w.members → IfSome v.next (λ next. (w.members ≡ next.members) × (reply ≡ next.reply))
+      → IfSome (next_at es (Some k)) (λ next. (end ≡ put_set (world_of es) k next.1.members) × (reply ≡ next.1.reply))
+  made_at es k v w end reply at after made = subst (λ (o : Option (List ℕ × Next)). IfSome o (λ next. (end ≡ put_set (world_of es) k next.1.members) × (reply ≡ next.1.reply))) (sym (next_here es k v at)) (by v.next made)
+    where
+      by : (o : Option Next) → IfSome o (λ next. (w.members ≡ next.members) × (reply ≡ next.reply)) → IfSome (option_map (keyed k) o) (λ next. (end ≡ put_set (world_of es) k next.1.members) × (reply ≡ next.1.reply))
+      by None h = tt
+      by (Some next) h = (after ∙ ap (put_set (world_of es) k) h.0, h.1)

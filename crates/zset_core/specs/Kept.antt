@@ -1,11 +1,11 @@
 -- How a set is kept: the entries of its map, new members last, each with the score that it has and the one that it gets.
-use Rattle.std.specs.Prelude.{◌≡◌, ℕ, ◌<◌, ◌≤◌, Bool, false, ℤ, List, [], ◌∷◌, map, length, take, drop, nat_eq, slice_get, slice_index_or, Option, None, Some, option_map, IfSome}
+use Rattle.std.specs.Prelude.{◌≡◌, ℕ, ◌<◌, ◌≤◌, Bool, false, ℤ, List, map, length, take, nat_eq, slice_get, Option, IfSome}
 use Rattle.std.specs.List.{AllByRecursion, list_any}
 use Rattle.std.specs.declared.vec.Vec.{Vec}
 use Rattle.std.specs.FinMap as fin
 use Rattle.std.specs.Map.{lookup}
 use Rattle.std.specs.Str.{bytes_eq}
-use Rattle.zset_core.specs.Sets.{Members, Pair}
+use Rattle.zset_core.specs.Sets.{Members}
 use Rattle.zset_core.specs.declared.slot.Slot.{Slot}
 
 -- equality of members, as the map tests it

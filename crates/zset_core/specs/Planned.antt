@@ -1,9 +1,10 @@
 -- What a set has prepared, and what callers see of it.
-use Rattle.std.specs.Prelude.{◌≡◌, ℕ, ◌≤◌, List, length, Option, None, Some}
+use Rattle.std.specs.Prelude.{◌≡◌, List, length, Option, None, Some}
 use Rattle.resp_wire.specs.Response.{Response, response_of}
 use Rattle.zset_core.specs.Sets.{Members}
 use Rattle.zset_core.specs.Step.{remove_all}
-use Rattle.zset_core.specs.Kept.{Entry, next, members_by, IsWaiting, Grows, bytes_of}
+use Rattle.zset_core.specs.Kept.{Entry, held, next, members_by, IsWaiting, Grows, bytes_of}
+use Rattle.zset_core.specs.Outlined.{IsOutline}
 use Rattle.zset_core.specs.declared.plan.Plan.{Plan}
 
 -- the set that a commit leaves
@@ -17,6 +18,7 @@ pub record Prepares {A : Type 0} (old new : List (Entry A)) (plan : Plan A) (mem
   pub waiting : IsWaiting plan.touched.items new
   pub members_are : left_by new plan ≡ members
   pub reply_is : response_of plan.reply ≡ reply
+  pub outline_is : IsOutline plan.outline (members_by held old) members
 
 -- the same of what a command makes of a set; no plan is made where it is refused
 abbrev pub Plans : {A : Type 0} → List (Entry A) → List (Entry A) → Plan A → Option (Members × Response) → Type 0

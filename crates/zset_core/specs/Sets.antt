@@ -1,5 +1,5 @@
 -- Sorted sets: finite maps from members to scores, and the listing of a range of scores.
-use Rattle.std.specs.Prelude.{ℕ, Bool, ℤ, List, map}
+use Rattle.std.specs.Prelude.{ℕ, Bool, true, ℤ, List, map}
 use Rattle.std.specs.declared.cmp.Ordering.{Ordering}
 use Rattle.std.specs.List.{filter}
 use Rattle.std.specs.Ordering.{nat_cmp, int_cmp, ordering_then}
@@ -34,3 +34,7 @@ marks ps = map (λ p. (p, tt)) ps
 -- the pairs whose score passes a test, once each, in the order of a listing: the keys of the finite map that has them as its keys
 unfoldable pub listing : (ℤ → Bool) → Members → List Pair
 listing test members = fin.keys (fin.from_entries {R = pair_cmp} (marks (filter (λ p. test p.0) (pairs members))))
+
+-- the listing of all scores
+abbrev pub whole : Members → List Pair
+whole members = listing (λ _. true) members

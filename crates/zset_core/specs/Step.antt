@@ -1,7 +1,6 @@
 -- What a command makes of a sorted set, and its reply.
 use Rattle.std.specs.Prelude.{ℕ, ◌+◌, ◌-◌, Bool, true, false, if◌then◌else◌, ℤ, pos, negsuc, ◌+ℤ◌, List, [], ◌∷◌, map, length, take, drop, codes, Option, None, Some, option_map}
 use Rattle.std.specs.List.{flat_map}
-use Rattle.std.specs.Option.{option_map_or}
 use Rattle.std.specs.Ordering.{int_eq}
 use Rattle.std.specs.FinMap as map_of
 use Rattle.resp_wire.specs.Response.{Response, Integer, BulkString, NullBulk, Array, SimpleString}

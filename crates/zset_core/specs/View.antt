@@ -1,12 +1,13 @@
 -- What callers see of a set and of an owner: the members, and, while a command is prepared, what it asks for and what its commit will leave and reply.
-use Rattle.std.specs.Prelude.{◌≡◌, ℕ, List, Option, None, Some}
+use Rattle.std.specs.Prelude.{◌≡◌, ℕ, if◌then◌else◌, List, Option, None, Some}
 use Rattle.std.specs.Coded.{Coded, coded_ℕ, coded_ℤ, coded_list}
+use Rattle.std.specs.Str.{bytes_eq}
 use Rattle.std.specs.FinMap as fin
 use Rattle.resp_wire.specs.Response.{Response}
 use Rattle.zset_core.specs.Sets.{Members}
 use Rattle.zset_core.specs.Meaning.{Meaning}
 use Rattle.zset_core.specs.Step.{step}
-use Rattle.zset_core.specs.World.{World}
+use Rattle.zset_core.specs.World.{World, set_at}
 
 -- what a commit will leave and reply, and what was asked for
 pub record Next : Type 0 where
@@ -31,6 +32,23 @@ IsReady members meaning shown = Shows (step members meaning) meaning shown
 pub record OwnerView : Type 0 where
   pub world : World
   pub next : Option (List ℕ × Next)
+
+-- what an owner shows that has prepared a command in the set of its key
+abbrev pub ShowsAt : List ℕ → Option (Members × Response) → Meaning → Option (List ℕ × Next) → Type 0
+ShowsAt key None meaning shown = ⊥
+ShowsAt key (Some result) meaning shown = shown ≡ Some (key, record { meaning = meaning; members = result.0; reply = result.1 })
+
+abbrev pub IsReadyAt : World → Option (List ℕ) → Meaning → Option (List ℕ × Next) → Type 0
+IsReadyAt world None meaning shown = ⊥
+IsReadyAt world (Some key) meaning shown = ShowsAt key (step (set_at world key) meaning) meaning shown
+
+-- what an owner shows of the set at a key
+abbrev pub next_for : Option (List ℕ × Next) → List ℕ → Option Next
+next_for None key = None
+next_for (Some next) key = if bytes_eq next.0 key then Some next.1 else None
+
+abbrev pub set_view : OwnerView → List ℕ → SetView
+set_view owner key = record { members = set_at owner.world key; next = next_for owner.next key }
 
 -- codes, by which a proof tells such values apart
 abbrev pub coded_members : Coded Members

@@ -1,5 +1,5 @@
 -- What callers see of the entries of a set and of what it has prepared.
-use Rattle.std.specs.Prelude.{◌≡◌, ℕ, ◌≤◌, List, length, take, Option, None, Some}
+use Rattle.std.specs.Prelude.{ℕ, ◌≤◌, List, length, take, Option, None, Some}
 use Rattle.std.specs.FinMap as fin
 use Rattle.resp_wire.specs.Response.{response_of}
 use Rattle.zset_core.specs.Kept.{Entry, held, rows_by, members_by, IsSettled, IsWaiting}

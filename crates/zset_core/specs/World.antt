@@ -1,5 +1,6 @@
 -- A world: sorted sets by key. A key whose set is empty is the same as a missing key.
-use Rattle.std.specs.Prelude.{ℕ, Bool, if◌then◌else◌, List, Option, None, Some, nat_eq, unwrap_or, option_map}
+use Rattle.std.specs.Prelude.{ℕ, Bool, if◌then◌else◌, List, Option, None, Some, nat_eq, unwrap_or, option_map, slice_get, find}
+use Rattle.std.specs.Ordering.{is_lt}
 use Rattle.std.specs.FinMap as fin
 use Rattle.std.specs.FinMap.{FinMap}
 use Rattle.resp_wire.specs.Response.{Response}
@@ -30,3 +31,8 @@ act_at world (Some key) meaning = option_map (λ done. (put_set world key done.0
 -- what a command leaves of a world, and its reply; none where a sum of INCR is no score
 abbrev pub act : World → Meaning → Option (World × Response)
 act world meaning = act_at world (key_of meaning) meaning
+
+-- among names in byte order the first one, or the first behind a name
+abbrev pub key_behind : List (List ℕ) → Option (List ℕ) → Option (List ℕ)
+key_behind names None = slice_get names 0
+key_behind names (Some key) = find (λ name. is_lt (bytes_cmp key name)) names

@@ -33,7 +33,11 @@ pub fn answer_from<H: BuildHasher, A: Allocator + Copy>(
         Form::Score => tell_score(alloc, score_of(members, words[2].as_slice())),
         Form::Card => Ok(tell_count(card_of(members))),
         Form::Count { range } => Ok(tell_count(count_in(members, range))),
-        Form::ListRange { range, with_scores, limit } => {
+        Form::ListRange {
+            range,
+            with_scores,
+            limit,
+        } => {
             let pairs = listing_of(alloc, members, range)?;
             let wanted = limit_to(pairs.as_slice(), limit);
             Ok(Reply::List(elements_of(alloc, wanted, *with_scores)?))
@@ -43,10 +47,7 @@ pub fn answer_from<H: BuildHasher, A: Allocator + Copy>(
 }
 
 /// The reply to PING: the text to repeat, or `PONG`.
-pub fn pong<A: Allocator + Copy>(
-    alloc: A,
-    command: &Command<A>,
-) -> Result<Reply<A>, AllocError>
+pub fn pong<A: Allocator + Copy>(alloc: A, command: &Command<A>) -> Result<Reply<A>, AllocError>
     requires { key_of command.now.meaning ≡ None }
     ensures { IfOk result (λ reply. step map.empty command.now.meaning ≡ Some (map.empty, response_of reply)) }
 {

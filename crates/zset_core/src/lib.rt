@@ -9,6 +9,7 @@ mod gather;
 mod limit;
 mod listing;
 mod name;
+mod outline;
 mod owner;
 mod pair;
 mod plan;
@@ -23,7 +24,13 @@ mod told;
 
 pub use command::Command;
 pub use limit::Limit;
+pub use outline::Outline;
 pub use owner::OneOwner;
 pub use pair::{Flags, Outcome};
 pub use refusal::Refusal;
 pub use set::ZSet;
+
+#[cfg(test)]
+mod reading_tests;
+#[cfg(test)]
+mod set_tests;

@@ -1,7 +1,7 @@
 //! Listings: pairs by rising score, equal scores by the bytes of their members.
 ghost use Rattle.std.specs.Prelude.{◌≡◌, ◌<◌, ◌^◌, ◌++◌, ◌∷◌, [], filter, length, OnOk, IfOk};
 ghost use Rattle.score_bounds.specs.Bounds.{is_in};
-ghost use Rattle.zset_core.specs.Sets.{listing};
+ghost use Rattle.zset_core.specs.Sets.{listing, whole};
 ghost use Rattle.zset_core.specs.Step.{from_offset, at_most, limited, elements};
 ghost use Rattle.zset_core.specs.Kept.{held, members_by};
 ghost use Rattle.zset_core.specs.Listed.{pairs_of, picked};
@@ -9,9 +9,10 @@ ghost use Rattle.zset_core.specs.Listed.{pairs_of, picked};
 use crate::limit::Limit;
 use crate::slot::Slot;
 use crate::told::score_bytes;
+use crack_kernel::Row;
 use indexmap::IndexMap;
 use resp_wire::{Bytes, BytesList};
-use score_bounds::Range;
+use score_bounds::{Bound, Range};
 use std::alloc::{AllocError, Allocator};
 use std::hash::BuildHasher;
 
@@ -153,4 +154,33 @@ pub fn elements_of<A: Allocator + Copy>(
         put_elements(alloc, &mut list, with_scores, *score, member)?;
     }
     Ok(BytesList::new(list))
+}
+
+/// The pairs as rows of their own.
+fn rows_of<A: Allocator + Copy>(
+    alloc: A,
+    pairs: &[(i64, &[u8])],
+) -> Result<Vec<Row<A>, A>, AllocError>
+    ensures { IfOk result (λ rows. rows.items ≡ pairs_of pairs.now) }
+{
+    let mut rows = Vec::new(alloc);
+    for (score, member) in pairs {
+        rows.push(Row::new(*score, Vec::from_slice(alloc, member)?))?;
+    }
+    Ok(rows)
+}
+
+/// The whole listing, as rows.
+pub fn all_rows<H: BuildHasher, A: Allocator + Copy>(
+    alloc: A,
+    members: &IndexMap<Vec<u8, A>, Slot, H, A>,
+) -> Result<Vec<Row<A>, A>, AllocError>
+    ensures { IfOk result (λ rows. rows.items ≡ whole (members_by held members.now.entries)) }
+{
+    let all = Range {
+        min: Bound::NegInf,
+        max: Bound::PosInf,
+    };
+    let pairs = listing_of(alloc, members, &all)?;
+    rows_of(alloc, pairs.as_slice())
 }

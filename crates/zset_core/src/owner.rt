@@ -1,22 +1,31 @@
 //! Sets by key.
-ghost use Rattle.std.specs.Prelude.{◌≡◌, None, Some, false, IfOk, IfErr, OnOk, OnErr, IsSome};
+ghost use Rattle.std.specs.Prelude.{◌≡◌, None, Some, false, IfOk, IfErr, IfSome, OnOk, OnErr, IsSome, IsTrue, MatchOption, option_map, slice_get};
 ghost use Rattle.std.specs.FinMap as map;
 ghost use Rattle.resp_wire.specs.Response.{response_of};
 ghost use Rattle.zset_core.specs.Meaning.{is_writing, key_of};
+ghost use Rattle.zset_core.specs.Outlined.{IsOutline};
+ghost use Rattle.zset_core.specs.View.{IsReadyAt, set_view};
+ghost use Rattle.std.specs.Map.{keys_of};
+ghost use Rattle.std.specs.Option.{option_copied};
+ghost use Rattle.zset_core.specs.Sets.{whole};
 ghost use Rattle.zset_core.specs.Refused.{IsRefused};
 ghost use Rattle.zset_core.specs.Step.{step};
-ghost use Rattle.zset_core.specs.World.{act, act_at, put_set};
-ghost use Rattle.zset_core.specs.Owned.{world_of, set_in, AllIdle};
+ghost use Rattle.zset_core.specs.World.{key_behind};
+ghost use Rattle.zset_core.specs.World.{act, act_at, set_at, put_set};
+ghost use Rattle.zset_core.specs.Owned.{world_of, names_of, IsRising, set_in, next_at, AllRest, OthersRest, IsAfter};
 
 use crate::answer::pong;
 use crate::command::Command;
+use crate::outline::Outline;
 use crate::refusal::Refusal;
 use crate::set::ZSet;
+use crack_kernel::Row;
 use resp_wire::Reply;
 use std::alloc::{AllocError, Allocator};
 use std::collections::BTreeMap;
 use std::hash::BuildHasher;
 use std::marker::Model;
+use std::ops::Bound;
 use std::snapshot::Snapshot;
 
 /// Sorted sets by key, of one owner. A key whose set is empty is the same as a missing key. A contract sees the
@@ -76,6 +85,101 @@ impl<H: BuildHasher + Clone + Drop, A: Allocator + Copy> OneOwner<H, A> {
             Some(key) => run_at(self.alloc, &self.hasher, &mut self.sets, key, command),
         }
     }
+    /// Prepares a command that changes sets in the set of its key: takes all the memory that it needs, and leaves
+    /// all sets as they are until `commit` or `drop_prepared`. Refused for want of memory, or where a sum of INCR
+    /// is no score; nothing is prepared then.
+    pub fn prepare(&mut self, command: &Command<A>) -> Result<Outline, Refusal>
+        requires idle { self.old.next ≡ None }
+        requires writing { IsTrue (is_writing command.now.meaning) }
+        ensures world { self.new.world ≡ self.old.world }
+        ensures ready { OnOk result (IsReadyAt self.old.world (key_of command.now.meaning) command.now.meaning self.new.next) }
+        ensures outline { IfOk result (λ outline. IfSome self.new.next (λ next. IsOutline outline (set_at self.old.world next.0) next.1.members)) }
+        ensures refused { IfErr result (λ refusal. IsRefused refusal (act self.old.world command.now.meaning)) }
+        ensures err { OnErr result (self.new.next ≡ None) }
+    {
+        match command.key() {
+            None => unreachable!(),
+            Some(key) => {
+                let outline = prepare_at(self.alloc, &self.hasher, &mut self.sets, key, command)?;
+                self.asked = Some(Snapshot::of(command));
+                Ok(outline)
+            }
+        }
+    }
+
+    /// Makes the change that is prepared in the set of the command's key, and gives its reply. It takes no memory.
+    pub fn commit(&mut self, command: &Command<A>) -> Reply<A>
+        requires prepared { IsSome self.old.next }
+        requires same { option_map (λ next. next.0) self.old.next ≡ key_of command.now.meaning }
+        ensures made { IfSome self.old.next (λ next. (self.new.world ≡ put_set self.old.world next.0 next.1.members) × (response_of result ≡ next.1.reply)) }
+        ensures idle { self.new.next ≡ None }
+    {
+        self.asked = None;
+        match command.key() {
+            None => unreachable!(),
+            Some(key) => commit_at(&mut self.sets, key),
+        }
+    }
+
+    /// Lets go the change that is prepared in the set of the command's key. It takes no memory.
+    pub fn drop_prepared(&mut self, command: &Command<A>)
+        requires prepared { IsSome self.old.next }
+        requires same { option_map (λ next. next.0) self.old.next ≡ key_of command.now.meaning }
+        ensures world { self.new.world ≡ self.old.world }
+        ensures idle { self.new.next ≡ None }
+    {
+        self.asked = None;
+        match command.key() {
+            None => unreachable!(),
+            Some(key) => drop_at(&mut self.sets, key),
+        }
+    }
+
+    /// The set at a key. None only where it is empty and not prepared.
+    pub fn set(&self, key: &[u8]) -> Option<&ZSet<H, A>>
+        ensures { MatchOption result (set_view self.now key.now ≡ record { members = map.empty; next = None }) (λ set. set.now ≡ set_view self.now key.now) }
+    {
+        self.sets.get(key)
+    }
+    /// The number of keys whose sets are not empty.
+    pub fn key_count(&self) -> usize
+        requires { self.now.next ≡ None }
+        ensures { result ≡ map.len self.now.world }
+    {
+        self.sets.len()
+    }
+
+    /// The key at an index among those whose sets are not empty, in byte order.
+    pub fn key_at(&self, index: usize) -> Option<&[u8]>
+        requires { self.now.next ≡ None }
+        ensures { option_copied result ≡ slice_get (map.keys self.now.world) index }
+    {
+        nth_key(&self.sets, index)
+    }
+
+    /// The first of the keys whose sets are not empty, or the next one behind such a key, in byte order.
+    pub fn key_after(&self, key: Option<&[u8]>) -> Option<&[u8]>
+        requires idle { self.now.next ≡ None }
+        requires present { IfSome (option_copied key) (λ key. IsSome (map.get self.now.world key)) }
+        ensures { option_copied result ≡ key_behind (map.keys self.now.world) (option_copied key.entry) }
+    {
+        match key {
+            None => first_key(&self.sets),
+            Some(key) => next_key(&self.sets, key),
+        }
+    }
+
+    /// All pairs of the set at a key, by rising score, equal scores by the bytes of their members. Refused for want
+    /// of memory alone.
+    pub fn pairs(&self, key: &[u8]) -> Result<Vec<Row<A>, A>, AllocError>
+        requires { self.now.next ≡ None }
+        ensures { IfOk result (λ rows. rows.items ≡ whole (set_at self.now.world key.now)) }
+    {
+        match self.sets.get(key) {
+            None => Ok(Vec::new(self.alloc)),
+            Some(set) => set.pairs(),
+        }
+    }
 }
 
 /// Runs a command on the set of its key.
@@ -105,11 +209,8 @@ fn insert_set<H: BuildHasher + Drop, A: Allocator + Copy>(
     key: &[u8],
     set: ZSet<H, A>,
 ) -> Result<(), AllocError>
-    requires idle { AllIdle sets.old.entries }
-    requires new { set.next ≡ None }
-    ensures world { OnOk result (world_of sets.new.entries ≡ put_set (world_of sets.old.entries) key.now set.members) }
-    ensures err { OnErr result (world_of sets.new.entries ≡ world_of sets.old.entries) }
-    ensures idle { AllIdle sets.new.entries }
+    ensures put { OnOk result (IsAfter sets.old.entries key.now (Some set) sets.new.entries) }
+    ensures err { OnErr result (sets.new.entries ≡ sets.old.entries) }
 {
     let name = Vec::from_slice(alloc, key)?;
     sets.insert(name, set)?;
@@ -126,11 +227,11 @@ fn run_absent<H: BuildHasher + Clone + Drop, A: Allocator + Copy>(
 ) -> Result<Reply<A>, Refusal>
     requires keyed { key_of command.now.meaning ≡ Some key.now }
     requires absent { set_in sets.old.entries key.now ≡ None }
-    requires idle { AllIdle sets.old.entries }
+    requires rest { AllRest sets.old.entries }
     ensures ok { IfOk result (λ reply. act_at (world_of sets.old.entries) (Some key.now) command.now.meaning ≡ Some (world_of sets.new.entries, response_of reply)) }
     ensures err { OnErr result (world_of sets.new.entries ≡ world_of sets.old.entries) }
     ensures refused { IfErr result (λ refusal. IsRefused refusal (act_at (world_of sets.old.entries) (Some key.now) command.now.meaning)) }
-    ensures idle { AllIdle sets.new.entries }
+    ensures rest { AllRest sets.new.entries }
 {
     let mut set = ZSet::with_hasher(alloc, hasher.clone()?);
     let reply = run_set(&mut set, command)?;
@@ -150,14 +251,159 @@ fn run_at<H: BuildHasher + Clone + Drop, A: Allocator + Copy>(
     command: &Command<A>,
 ) -> Result<Reply<A>, Refusal>
     requires keyed { key_of command.now.meaning ≡ Some key.now }
-    requires idle { AllIdle sets.old.entries }
+    requires rest { AllRest sets.old.entries }
     ensures ok { IfOk result (λ reply. act_at (world_of sets.old.entries) (Some key.now) command.now.meaning ≡ Some (world_of sets.new.entries, response_of reply)) }
     ensures err { OnErr result (world_of sets.new.entries ≡ world_of sets.old.entries) }
     ensures refused { IfErr result (λ refusal. IsRefused refusal (act_at (world_of sets.old.entries) (Some key.now) command.now.meaning)) }
-    ensures idle { AllIdle sets.new.entries }
+    ensures rest { AllRest sets.new.entries }
 {
     match sets.get_mut(key) {
-        Some(set) => run_set(set, command),
         None => run_absent(alloc, hasher, sets, key, command),
+        Some(set) => {
+            let ran = run_set(set, command);
+            if set.card() == 0 {
+                sets.remove(key);
+            }
+            ran
+        }
+    }
+}
+
+/// Prepares a command on the key of a missing set, which is put in.
+fn prepare_absent<H: BuildHasher + Clone + Drop, A: Allocator + Copy>(
+    alloc: A,
+    hasher: &H,
+    sets: &mut BTreeMap<Vec<u8, A>, ZSet<H, A>, A>,
+    key: &[u8],
+    command: &Command<A>,
+) -> Result<Outline, Refusal>
+    requires writing { IsTrue (is_writing command.now.meaning) }
+    requires absent { set_in sets.old.entries key.now ≡ None }
+    requires rest { AllRest sets.old.entries }
+    ensures world { world_of sets.new.entries ≡ world_of sets.old.entries }
+    ensures ready { OnOk result (IsReadyAt (world_of sets.old.entries) (Some key.now) command.now.meaning (next_at sets.new.entries (Some key.now))) }
+    ensures outline { IfOk result (λ outline. IfSome (next_at sets.new.entries (Some key.now)) (λ next. IsOutline outline (set_at (world_of sets.old.entries) next.0) next.1.members)) }
+    ensures others { OthersRest key.now sets.new.entries }
+    ensures refused { IfErr result (λ refusal. IsRefused refusal (act_at (world_of sets.old.entries) (Some key.now) command.now.meaning)) }
+    ensures err { OnErr result (AllRest sets.new.entries) }
+{
+    let mut set = ZSet::with_hasher(alloc, hasher.clone()?);
+    let outline = set.prepare(command)?;
+    insert_set(alloc, sets, key, set)?;
+    Ok(outline)
+}
+
+/// Prepares a command in the set of its key.
+fn prepare_at<H: BuildHasher + Clone + Drop, A: Allocator + Copy>(
+    alloc: A,
+    hasher: &H,
+    sets: &mut BTreeMap<Vec<u8, A>, ZSet<H, A>, A>,
+    key: &[u8],
+    command: &Command<A>,
+) -> Result<Outline, Refusal>
+    requires writing { IsTrue (is_writing command.now.meaning) }
+    requires rest { AllRest sets.old.entries }
+    ensures world { world_of sets.new.entries ≡ world_of sets.old.entries }
+    ensures ready { OnOk result (IsReadyAt (world_of sets.old.entries) (Some key.now) command.now.meaning (next_at sets.new.entries (Some key.now))) }
+    ensures outline { IfOk result (λ outline. IfSome (next_at sets.new.entries (Some key.now)) (λ next. IsOutline outline (set_at (world_of sets.old.entries) next.0) next.1.members)) }
+    ensures others { OthersRest key.now sets.new.entries }
+    ensures refused { IfErr result (λ refusal. IsRefused refusal (act_at (world_of sets.old.entries) (Some key.now) command.now.meaning)) }
+    ensures err { OnErr result (AllRest sets.new.entries) }
+{
+    match sets.get_mut(key) {
+        None => prepare_absent(alloc, hasher, sets, key, command),
+        Some(set) => set.prepare(command),
+    }
+}
+
+/// Commits what is prepared in the set at a key.
+fn commit_at<H: BuildHasher + Drop, A: Allocator + Copy>(
+    sets: &mut BTreeMap<Vec<u8, A>, ZSet<H, A>, A>,
+    key: &[u8],
+) -> Reply<A>
+    requires prepared { IsSome (next_at sets.old.entries (Some key.now)) }
+    requires others { OthersRest key.now sets.old.entries }
+    ensures made { IfSome (next_at sets.old.entries (Some key.now)) (λ next. (world_of sets.new.entries ≡ put_set (world_of sets.old.entries) key.now next.1.members) × (response_of result ≡ next.1.reply)) }
+    ensures rest { AllRest sets.new.entries }
+{
+    match sets.get_mut(key) {
+        None => unreachable!(),
+        Some(set) => {
+            let reply = set.commit();
+            if set.card() == 0 {
+                sets.remove(key);
+            }
+            reply
+        }
+    }
+}
+
+/// Lets go what is prepared in the set at a key.
+fn drop_at<H: BuildHasher + Drop, A: Allocator + Copy>(
+    sets: &mut BTreeMap<Vec<u8, A>, ZSet<H, A>, A>,
+    key: &[u8],
+)
+    requires prepared { IsSome (next_at sets.old.entries (Some key.now)) }
+    requires others { OthersRest key.now sets.old.entries }
+    ensures world { world_of sets.new.entries ≡ world_of sets.old.entries }
+    ensures rest { AllRest sets.new.entries }
+{
+    if let Some(set) = sets.get_mut(key) {
+        set.drop_prepared();
+        if set.card() == 0 {
+            sets.remove(key);
+        }
+    }
+}
+
+/// The key at an index.
+fn nth_key<H: BuildHasher, A: Allocator + Copy>(
+    sets: &BTreeMap<Vec<u8, A>, ZSet<H, A>, A>,
+    index: usize,
+) -> Option<&[u8]>
+    ensures key { option_copied result ≡ option_map (λ key. key.items) (slice_get (keys_of sets.now.entries) index) }
+    ensures ordered { IsRising sets.now.entries }
+{
+    let mut keys = sets.keys();
+    for _place in 0..index {
+        keys.next()?;
+    }
+    match keys.next() {
+        None => None,
+        Some(key) => Some(key.as_slice()),
+    }
+}
+
+/// The first key.
+fn first_key<H: BuildHasher, A: Allocator + Copy>(
+    sets: &BTreeMap<Vec<u8, A>, ZSet<H, A>, A>,
+) -> Option<&[u8]>
+    ensures key { option_copied result ≡ key_behind (names_of sets.now.entries) None }
+    ensures ordered { IsRising sets.now.entries }
+{
+    match sets.keys().next() {
+        None => None,
+        Some(first) => Some(first.as_slice()),
+    }
+}
+
+/// The key behind one that is there.
+fn next_key<'a, H: BuildHasher, A: Allocator + Copy>(
+    sets: &'a BTreeMap<Vec<u8, A>, ZSet<H, A>, A>,
+    key: &[u8],
+) -> Option<&'a [u8]>
+    requires { IsSome (set_in sets.now.entries key.now) }
+    ensures key { option_copied result ≡ key_behind (names_of sets.now.entries) (Some key.now) }
+    ensures ordered { IsRising sets.now.entries }
+{
+    match sets.get_key_value(key) {
+        None => unreachable!(),
+        Some((stored, _)) => {
+            let behind = (Bound::Excluded(stored), Bound::Unbounded);
+            match sets.range(behind).next() {
+                None => None,
+                Some((next, _)) => Some(next.as_slice()),
+            }
+        }
     }
 }

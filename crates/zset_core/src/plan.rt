@@ -12,11 +12,12 @@ ghost use Rattle.zset_core.specs.Refused.{IsRefused};
 use crate::command::Command;
 use crate::form::Form;
 use crate::gather::gather;
+use crate::outline::{Outline, outline_staged};
 use crate::pair::{Flags, sum};
 use crate::refusal::Refusal;
 use crate::slot::Slot;
 use crate::stage::{roll_back, score_of, settle, stage_all, stage_one, take_out};
-use crate::told::tell;
+use crate::told::{tell, tell_count};
 use indexmap::IndexMap;
 use resp_wire::{Bytes, Reply};
 use std::alloc::{AllocError, Allocator};
@@ -32,6 +33,7 @@ pub struct Plan<A: Allocator> {
     /// The members that leave.
     pub removed: Vec<Vec<u8, A>, A>,
     pub reply: Reply<A>,
+    pub outline: Outline,
 }
 
 /// The plan of a ZADD.
@@ -51,12 +53,16 @@ pub fn plan_add<H: BuildHasher, A: Allocator + Copy>(
     let kept = members.len();
     let mut touched = Vec::new(alloc);
     match stage_all(alloc, members, &mut touched, flags, changed, scores, words) {
-        Ok(count) => Ok(Plan {
-            kept,
-            touched,
-            removed: Vec::new(alloc),
-            reply: Reply::Int(count as i64),
-        }),
+        Ok(count) => {
+            let outline = outline_staged(members, touched.as_slice(), kept);
+            Ok(Plan {
+                kept,
+                touched,
+                removed: Vec::new(alloc),
+                reply: Reply::Int(count as i64),
+                outline,
+            })
+        }
         Err(refused) => {
             roll_back(members, touched.as_slice(), kept);
             Err(refused)
@@ -98,12 +104,16 @@ fn plan_score<H: BuildHasher, A: Allocator + Copy>(
     let kept = members.len();
     let mut touched = Vec::new(alloc);
     match stage_told(alloc, members, &mut touched, flags, score, member) {
-        Ok(reply) => Ok(Plan {
-            kept,
-            touched,
-            removed: Vec::new(alloc),
-            reply,
-        }),
+        Ok(reply) => {
+            let outline = outline_staged(members, touched.as_slice(), kept);
+            Ok(Plan {
+                kept,
+                touched,
+                removed: Vec::new(alloc),
+                reply,
+                outline,
+            })
+        }
         Err(refused) => {
             roll_back(members, touched.as_slice(), kept);
             Err(refused)
@@ -125,6 +135,11 @@ fn plan_nothing<H: BuildHasher, A: Allocator + Copy>(
         touched: Vec::new(alloc),
         removed: Vec::new(alloc),
         reply,
+        outline: Outline {
+            added: 0,
+            removed: 0,
+            changed: false,
+        },
     }
 }
 
@@ -166,7 +181,12 @@ pub fn plan_remove<H: BuildHasher, A: Allocator + Copy>(
         kept: members.len(),
         touched: Vec::new(alloc),
         removed,
-        reply: Reply::Int(count as i64),
+        reply: tell_count(count),
+        outline: Outline {
+            added: 0,
+            removed: count,
+            changed: count > 0,
+        },
     })
 }
 
@@ -184,13 +204,20 @@ pub fn plan_for<H: BuildHasher, A: Allocator + Copy>(
 {
     let words = command.request().words();
     match command.form() {
-        Form::Add { flags, changed, first, scores } => {
+        Form::Add {
+            flags,
+            changed,
+            first,
+            scores,
+        } => {
             let pairs = &words[*first..];
             Ok(plan_add(alloc, members, *flags, *changed, scores.as_slice(), pairs)?)
         }
-        Form::Increase { flags, given, member } => {
-            plan_increase(alloc, members, *flags, *given, words[*member].as_slice())
-        }
+        Form::Increase {
+            flags,
+            given,
+            member,
+        } => { plan_increase(alloc, members, *flags, *given, words[*member].as_slice()) }
         Form::Remove => Ok(plan_remove(alloc, members, &words[2..])?),
         _ => unreachable!(),
     }

@@ -5,17 +5,22 @@ ghost use Rattle.indexmap.specs.IndexMap.{IsUnique};
 ghost use Rattle.zset_core.specs.Kept.{held, slot_at, same_bytes};
 ghost use Rattle.zset_core.specs.Viewed.{kept_of};
 ghost use Rattle.zset_core.specs.Meaning.{is_writing, key_of};
+ghost use Rattle.zset_core.specs.Outlined.{IsOutline};
 ghost use Rattle.zset_core.specs.Refused.{IsRefused};
+ghost use Rattle.zset_core.specs.Sets.{whole};
 ghost use Rattle.zset_core.specs.Step.{step};
 ghost use Rattle.zset_core.specs.View.{IsReady};
 ghost use Rattle.resp_wire.specs.Response.{response_of};
 
 use crate::answer::answer_from;
 use crate::command::Command;
+use crate::listing::all_rows;
+use crate::outline::Outline;
 use crate::plan::{Plan, carry_out, plan_for};
 use crate::refusal::Refusal;
 use crate::slot::Slot;
 use crate::stage::roll_back;
+use crack_kernel::Row;
 use indexmap::IndexMap;
 use resp_wire::Reply;
 use std::alloc::{AllocError, Allocator};
@@ -103,21 +108,31 @@ impl<H: BuildHasher, A: Allocator + Copy> ZSet<H, A> {
         answer_from(self.alloc, &self.members, command)
     }
 
+    /// All pairs by rising score, equal scores by the bytes of their members. Refused for want of memory alone.
+    pub fn pairs(&self) -> Result<Vec<Row<A>, A>, AllocError>
+        requires { self.now.next ≡ None }
+        ensures { IfOk result (λ rows. rows.items ≡ whole self.now.members) }
+    {
+        all_rows(self.alloc, &self.members)
+    }
+
     /// Prepares a command that changes sets: takes all the memory that it needs, and leaves the members as they
     /// are until `commit` or `drop_prepared`. Refused for want of memory, or where a sum of INCR is no score;
     /// nothing is prepared then.
-    pub fn prepare(&mut self, command: &Command<A>) -> Result<(), Refusal>
+    pub fn prepare(&mut self, command: &Command<A>) -> Result<Outline, Refusal>
         requires idle { self.old.next ≡ None }
         requires writing { IsTrue (is_writing command.now.meaning) }
         ensures members { self.new.members ≡ self.old.members }
         ensures ok { OnOk result (IsReady self.old.members command.now.meaning self.new.next) }
+        ensures outline { IfOk result (λ outline. IfSome self.new.next (λ next. IsOutline outline self.old.members next.members)) }
         ensures refused { IfErr result (λ refusal. IsRefused refusal (step self.old.members command.now.meaning)) }
         ensures err { OnErr result (self.new.next ≡ None) }
     {
         let plan = plan_for(self.alloc, &mut self.members, command)?;
+        let outline = plan.outline;
         let asked = Snapshot::of(command);
         self.prepared = Some(Prepared { asked, plan });
-        Ok(())
+        Ok(outline)
     }
 
     /// Makes the prepared change, and gives its reply. It takes no memory.
@@ -139,7 +154,11 @@ impl<H: BuildHasher, A: Allocator + Copy> ZSet<H, A> {
         ensures idle { self.new.next ≡ None }
     {
         if let Some(prepared) = self.prepared.take() {
-            roll_back(&mut self.members, prepared.plan.touched.as_slice(), prepared.plan.kept);
+            roll_back(
+                &mut self.members,
+                prepared.plan.touched.as_slice(),
+                prepared.plan.kept,
+            );
         }
     }
 }
@@ -169,12 +188,6 @@ fn score_before<H: BuildHasher, A: Allocator + Copy>(
 {
     match members.get_full(member) {
         None => None,
-        Some((place, _, slot)) => {
-            if place < kept {
-                Some(slot.held)
-            } else {
-                None
-            }
-        }
+        Some((place, _, slot)) => { if place < kept { Some(slot.held) } else { None } }
     }
 }

@@ -41,10 +41,7 @@ pub fn tell_count<A: Allocator + Copy>(count: usize) -> Reply<A>
 }
 
 /// The reply to ZSCORE.
-pub fn tell_score<A: Allocator + Copy>(
-    alloc: A,
-    score: Option<i64>,
-) -> Result<Reply<A>, AllocError>
+pub fn tell_score<A: Allocator + Copy>(alloc: A, score: Option<i64>) -> Result<Reply<A>, AllocError>
     ensures { IfOk result (λ reply. response_of reply ≡ score_reply score) }
 {
     match score {

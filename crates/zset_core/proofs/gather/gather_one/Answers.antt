@@ -1,5 +1,4 @@
-use Rattle.std.proofs.Common.{◌≡◌, ◌∙◌, ◌++◌, ◌∷◌, [], not, true, false, Bool, List, ℕ, sym, ap, subst, refl}
-use Rattle.std.specs.FinMap as map
+use Rattle.std.proofs.Common.{◌∙◌, sym, ap, subst}
 use Rattle.zset_core.specs.Kept.{held, members_by, bytes_of}
 use Rattle.zset_core.specs.Step.{remove_all}
 use Rattle.zset_core.specs.Gathered.{IsGathered}
@@ -12,7 +11,7 @@ returns-in_ok-push-in-Some-clause-gathered g c =
     let v = c.in_ok-from_slice-in-Some.field-0 in
     subst (IsGathered es c.insert.new.self) (sym c.in_ok-push-in-Some.ensures.items)
     (IsGathered-push es c.args.seen.now c.insert.new.self c.args.gathered.now.items v c.in-Some.place c.args.name.now c.in-Some.field-0-1
-        c.in-Some.ensures.unique c.in-Some.ensures.place c.in_ok-from_slice-in-Some.ensures.items (new_one c.in_ok-insert-in-Some.field-0 _ c.in_ok-insert-in-Some.ensures.added c.if-branch.true) c.in_ok-insert-in-Some.ensures.updates.0 c.requires)
+    c.in-Some.ensures.unique c.in-Some.ensures.place c.in_ok-from_slice-in-Some.ensures.items (new_one c.in_ok-insert-in-Some.field-0 _ c.in_ok-insert-in-Some.ensures.added c.if-branch.true) c.in_ok-insert-in-Some.ensures.updates.0 c.requires)
 
 pub returns-in_ok-push-in-Some-clause-gone : goal.returns-in_ok-push-in-Some-clause-gone
 returns-in_ok-push-in-Some-clause-gone g c =

@@ -1,4 +1,4 @@
-use Rattle.std.proofs.Common.{◌≡◌, ℕ, ◌+◌, ◌≤◌, ◌∙◌, Bool, true, false, cond, drop, length, refl, sym, ap, subst, arith, rules, SFits, w64, to_z-of_z}
+use Rattle.std.proofs.Common.{◌≡◌, ◌+◌, ◌≤◌, ◌∙◌, Bool, true, false, cond, drop, length, refl, sym, ap, arith, rules, SFits, w64, to_z-of_z}
 use mir.Val.{bool_byte}
 use Rattle.score_bounds.specs.Bounds.{is_in}
 use Rattle.zset_core.specs.Listed.{picked}

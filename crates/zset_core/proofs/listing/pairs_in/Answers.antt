@@ -1,4 +1,4 @@
-use Rattle.std.proofs.Common.{◌≡◌, ◌∙◌, sym, SFits, w64, to_z, of_z, to_z-of_z, rules}
+use Rattle.std.proofs.Common.{sym, SFits, w64, to_z, of_z, to_z-of_z, rules}
 use Rattle.score_bounds.specs.Bounds.{is_in}
 use Rattle.zset_core.specs.Listed.{pairs_of}
 use Rattle.zset_core.proofs.Order.{rows_step}

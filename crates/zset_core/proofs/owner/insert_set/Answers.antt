@@ -1,17 +1,10 @@
-use Rattle.std.proofs.Common.{◌≡◌, ◌∙◌, ap, Some}
-use Rattle.zset_core.specs.World.{put_set}
-use Rattle.zset_core.specs.Owned.{world_of}
-use Rattle.zset_core.proofs.Worlds.{updates_key, idle_put, world_put}
+use Rattle.std.proofs.Common.{subst, Some}
+use Rattle.zset_core.specs.Owned.{IsAfter}
+use Rattle.zset_core.proofs.Worlds.{updates_key}
 use Rattle.zset_core.proofs.owner.insert_set.Goals as goal
 
-pub returns-clause-world : goal.returns-clause-world
-returns-clause-world g c =
+pub returns-clause-put : goal.returns-clause-put
+returns-clause-put g c =
     let k = c.in_ok-name.name.items in
-    world_put c.args.sets.now.entries c.insert.new.self.entries k c.args.set (updates_key k c.args.sets.now c.insert.new.self (Some c.args.set) c.in_ok-insert.ensures.updates)
-    ∙ ap (λ q. put_set (world_of c.args.sets.now.entries) q c.args.set.members) c.in_ok-name.ensures.items
-
-pub returns-clause-idle : goal.returns-clause-idle
-returns-clause-idle g c =
-    let k = c.in_ok-name.name.items in
-    idle_put c.args.sets.now.entries c.insert.new.self.entries k c.args.set c.requires.idle c.requires.new
+    subst (λ q. IsAfter c.args.sets.now.entries q (Some c.args.set) c.insert.new.self.entries) c.in_ok-name.ensures.items
     (updates_key k c.args.sets.now c.insert.new.self (Some c.args.set) c.in_ok-insert.ensures.updates)

@@ -1,4 +1,4 @@
-use Rattle.std.proofs.Common.{◌≡◌, ◌∙◌, sym, ap, List, ℕ, ℤ}
+use Rattle.std.proofs.Common.{◌∙◌, sym, ap, List, ℕ, ℤ}
 use Rattle.std.specs.FinMap as fin
 use Rattle.zset_core.specs.Sets.{Members}
 use Rattle.zset_core.specs.Step.{remove_all}
@@ -12,4 +12,4 @@ returns-clause-members g c =
     c.take_out.ensures.members
     ∙ ap (λ gone. remove_all (members_by held settled) (bytes_of gone)) c.as_slice-2.ensures.value
     ∙ ap (λ (m : Members). remove_all m (bytes_of c.args.plan.removed.items))
-        (sym (members_same settled c.settle.ensures.settled) ∙ ap (λ (rows : List (List ℕ × ℤ)). fin.from_entries rows) c.settle.ensures.next)
+    (sym (members_same settled c.settle.ensures.settled) ∙ ap (λ (rows : List (List ℕ × ℤ)). fin.from_entries rows) c.settle.ensures.next)

@@ -1,10 +1,11 @@
-use Rattle.std.proofs.Common.{◌≡◌, ◌∙◌, ◌<◌, ◌≤◌, ◌^◌, sym, ap, subst, refl, rules, arith, List, ℕ, ℤ, pos, length, w64, to_z}
+use Rattle.std.proofs.Common.{◌∙◌, ◌<◌, ap, rules, pos, w64}
 use Rattle.std.proofs.lemmas.Int.{to_z_pos}
 use Rattle.resp_wire.specs.Response.{Integer}
 use Rattle.zset_core.specs.Form.{scored}
 use Rattle.zset_core.specs.Sets.{Members}
 use Rattle.zset_core.specs.Step.{put_all, count_all, remove_all}
-use Rattle.zset_core.specs.Kept.{next, members_by, bytes_of}
+use Rattle.zset_core.specs.Kept.{held, next, members_by, bytes_of}
+use Rattle.zset_core.proofs.Outlines.{outline_same, before, before_grown}
 use Rattle.zset_core.proofs.Staging.{members_same}
 use Rattle.zset_core.proofs.plan.plan_add.Goals as goal
 
@@ -14,11 +15,15 @@ returns-in-Ok-clause-ok g c =
     let ps = scored c.args.scores.now c.args.words.now in
     let same = members_same old c.requires.settled in
     let small : c.in-Ok.count < 9223372036854775808 = search rules in
+    let left = c.in-Ok.ensures.next ∙ ap (λ (m : Members). put_all c.args.flags m ps) same in
+    let new = c.stage_all.new.members.entries in
     record {
       kept = c.len-kept.ensures.len;
       grows = c.stage_all.ensures.grows;
       waiting = c.stage_all.ensures.waiting;
       members_are = ap (λ gone. remove_all (members_by next c.stage_all.new.members.entries) (bytes_of gone)) c.new.ensures.items
-          ∙ c.in-Ok.ensures.next ∙ ap (λ (m : Members). put_all c.args.flags m ps) same;
+          ∙ left;
+      outline_is = outline_same c.outline_staged-outline.result (before new c.len-kept.result) (members_by held old) (members_by next new) (put_all c.args.flags (members_by held old) ps)
+          (before_grown old new c.len-kept.result c.len-kept.ensures.len c.stage_all.ensures.grows) left c.outline_staged-outline.ensures;
       reply_is = ap Integer (to_z_pos w64 c.in-Ok.count small ∙ ap pos (c.in-Ok.ensures.count ∙ ap (λ (m : Members). count_all c.args.flags c.args.changed m ps) same));
     }

@@ -1,10 +1,10 @@
-use Rattle.std.proofs.Common.{◌≡◌, ◌∙◌, ◌<◌, ◌-◌, ◌+◌, sym, ap, subst, refl, rules, arith, List, ℕ, pos, w64, to_z, length, vec_len}
-use Rattle.std.proofs.lemmas.Int.{to_z_pos}
+use Rattle.std.proofs.Common.{◌≡◌, ◌∙◌, ◌-◌, ◌+◌, sym, ap, subst, rules, arith, List, ℕ, pos, length, vec_len}
 use Rattle.std.specs.FinMap as map
 use Rattle.resp_wire.specs.Response.{Integer}
 use Rattle.zset_core.specs.Sets.{Members}
 use Rattle.zset_core.specs.Step.{remove_all}
-use Rattle.zset_core.specs.Kept.{held, next, members_by, bytes_of, IsWaiting}
+use Rattle.zset_core.specs.Kept.{held, members_by, bytes_of, IsWaiting}
+use Rattle.zset_core.proofs.Outlines.{gathered_outline}
 use Rattle.zset_core.proofs.Staging.{members_same, Grows-self, IsWaiting-none}
 use Rattle.zset_core.proofs.plan.plan_remove.Goals as goal
 
@@ -16,12 +16,11 @@ returns g c =
     let es = c.args.members.now.entries in
     let m = members_by held es in
     let same_len : vec_len c.in_ok-removed.removed ≡ length c.in_ok-removed.removed.items = search rules in
-    let small : c.len-count.result < 9223372036854775808 = search rules in
     record {
       kept = c.len.ensures.len;
       grows = Grows-self es;
       waiting = subst (λ (ps : List ℕ). IsWaiting ps es) (sym c.new.ensures.items) (IsWaiting-none es c.requires);
       members_are = ap (λ (m : Members). remove_all m (bytes_of c.in_ok-removed.removed.items)) (members_same es c.requires) ∙ c.in_ok-removed.ensures.gone;
-      reply_is = ap Integer (to_z_pos w64 c.len-count.result small
-          ∙ ap pos (c.len-count.ensures ∙ same_len ∙ rest_of (length c.in_ok-removed.removed.items) (map.len (remove_all m c.args.names.now)) (map.len m) c.in_ok-removed.ensures.count));
+      reply_is = c.tell_count.ensures ∙ ap Integer (ap pos (c.len-count.ensures ∙ same_len ∙ rest_of (length c.in_ok-removed.removed.items) (map.len (remove_all m c.args.names.now)) (map.len m) c.in_ok-removed.ensures.count));
+      outline_is = gathered_outline m (remove_all m c.args.names.now) c.in_ok-removed.removed.items c.len-count.result (c.len-count.ensures ∙ same_len) c.in_ok-removed.ensures.gone c.in_ok-removed.ensures.count;
     }

@@ -1,8 +1,9 @@
-use Rattle.std.proofs.Common.{◌≡◌, ◌∙◌, sym, ap, subst, refl, List, ℕ, ℤ, w64, to_z, of_z, to_z-of_z}
+use Rattle.std.proofs.Common.{◌∙◌, ap, ℤ, w64, to_z, of_z, to_z-of_z}
 use Rattle.std.specs.FinMap as map
 use Rattle.zset_core.specs.Sets.{Members}
 use Rattle.zset_core.specs.Step.{put_one, remove_all, told, outcome_of}
 use Rattle.zset_core.specs.Kept.{held, next, members_by, bytes_of}
+use Rattle.zset_core.proofs.Outlines.{outline_same, before, before_grown}
 use Rattle.zset_core.proofs.Staging.{members_same}
 use Rattle.zset_core.proofs.plan.plan_score.Goals as goal
 
@@ -11,13 +12,17 @@ returns-in-Ok-clause-ok g c =
     let old = c.args.members.now.entries in
     let same = members_same old c.requires in
     let z : ℤ = to_z w64 (of_z w64 c.args.score) in
+    let left = c.in-Ok.ensures.next ∙ ap (λ (m : Members). put_one c.args.flags m c.args.member.now z) same
+    ∙ ap (put_one c.args.flags (members_by held old) c.args.member.now) (to_z-of_z c.ranges.score) in
+    let new = c.stage_told.new.members.entries in
     record {
       kept = c.len-kept.ensures.len;
       grows = c.stage_told.ensures.grows;
       waiting = c.stage_told.ensures.waiting;
       members_are = ap (λ gone. remove_all (members_by next c.stage_told.new.members.entries) (bytes_of gone)) c.new.ensures.items
-          ∙ c.in-Ok.ensures.next ∙ ap (λ (m : Members). put_one c.args.flags m c.args.member.now z) same
-          ∙ ap (put_one c.args.flags (members_by held old) c.args.member.now) (to_z-of_z c.ranges.score);
+          ∙ left;
+      outline_is = outline_same c.outline_staged-outline.result (before new c.len-kept.result) (members_by held old) (members_by next new) (put_one c.args.flags (members_by held old) c.args.member.now c.args.score)
+          (before_grown old new c.len-kept.result c.len-kept.ensures.len c.stage_told.ensures.grows) left c.outline_staged-outline.ensures;
       reply_is = c.in-Ok.ensures.reply ∙ ap (λ (m : Members). told (outcome_of c.args.flags (map.get m c.args.member.now) z) z) same
           ∙ ap (λ s. told (outcome_of c.args.flags (map.get (members_by held old) c.args.member.now) s) s) (to_z-of_z c.ranges.score);
     }

@@ -1,4 +1,4 @@
-use Rattle.std.proofs.Common.{◌≡◌, ◌∙◌, sym, ap, option_map}
+use Rattle.std.proofs.Common.{◌∙◌, sym, ap, option_map}
 use Rattle.zset_core.specs.Kept.{next}
 use Rattle.zset_core.proofs.Bridge.{get_members}
 use Rattle.zset_core.proofs.Staging.{place_of}

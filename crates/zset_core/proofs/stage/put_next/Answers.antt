@@ -1,7 +1,7 @@
-use Rattle.std.proofs.Common.{◌≡◌, ◌∙◌, sym, ap, subst, refl, rules, List, ℕ, Some, None, ℤ, SFits, w64, to_z, of_z, to_z-of_z}
+use Rattle.std.proofs.Common.{◌∙◌, sym, ap, subst, rules, List, ℕ, ℤ, SFits, w64, to_z, of_z, to_z-of_z}
 use Rattle.std.specs.FinMap as map
 use Rattle.indexmap.specs.IndexMap.{set_value_at}
-use Rattle.zset_core.specs.Kept.{next, held, members_by, Grows, IsWaiting}
+use Rattle.zset_core.specs.Kept.{next, held, members_by, IsWaiting}
 use Rattle.zset_core.specs.declared.slot.Slot.{Slot}
 use Rattle.zset_core.proofs.Staging.{members_written, Grows-written, IsWaiting-written, score_at_place}
 use Rattle.zset_core.proofs.stage.put_next.Goals as goal

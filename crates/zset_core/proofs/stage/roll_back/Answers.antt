@@ -1,4 +1,4 @@
-use Rattle.std.proofs.Common.{◌≡◌, ◌∙◌, sym, ap, subst, take}
+use Rattle.std.proofs.Common.{◌∙◌, sym, ap, subst, take}
 use Rattle.zset_core.specs.Kept.{held, rows_by, IsSettled}
 use Rattle.zset_core.proofs.Staging.{rows_take, IsSettled-take}
 use Rattle.zset_core.proofs.stage.roll_back.Goals as goal

@@ -1,4 +1,4 @@
-use Rattle.std.proofs.Common.{◌≡◌, ◌∙◌, sym, ap, Some, w64, SFits, rules, to_z-of_z, option_map}
+use Rattle.std.proofs.Common.{◌∙◌, sym, ap, Some, w64, SFits, rules, to_z-of_z, option_map}
 use Rattle.zset_core.specs.Kept.{held}
 use Rattle.zset_core.proofs.Bridge.{get_members}
 use Rattle.zset_core.proofs.stage.score_of.Goals as goal

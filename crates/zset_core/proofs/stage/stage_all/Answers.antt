@@ -1,4 +1,4 @@
-use Rattle.std.proofs.Common.{◌≡◌, ◌≤◌, ◌∙◌, ◌+◌, ◌*◌, sym, ap, rules, arith, ℤ, pos, drop, get_or, SFits, w64, to_z, of_z, to_z-of_z}
+use Rattle.std.proofs.Common.{◌∙◌, ◌+◌, ◌*◌, ap, rules, arith, ℤ, pos, drop, get_or, SFits, w64, to_z, of_z, to_z-of_z}
 use Rattle.zset_core.specs.Form.{scored}
 use Rattle.zset_core.specs.Step.{counted}
 use Rattle.zset_core.specs.Kept.{next, members_by}

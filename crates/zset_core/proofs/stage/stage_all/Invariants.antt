@@ -1,4 +1,4 @@
-use Rattle.std.proofs.Common.{◌≡◌, ◌+◌, ◌*◌, ◌≤◌, drop, length}
+use Rattle.std.proofs.Common.{◌≡◌, ◌+◌, ◌*◌, ◌≤◌, drop}
 use Rattle.zset_core.specs.Form.{scored}
 use Rattle.zset_core.specs.Kept.{next, members_by, IsWaiting, Grows}
 use Rattle.zset_core.specs.Step.{put_all, count_all}

@@ -1,4 +1,4 @@
-use Rattle.std.proofs.Common.{◌≡◌, ◌∙◌, sym, ap, subst, drop, ◌+◌}
+use Rattle.std.proofs.Common.{◌∙◌, sym, ap, drop, ◌+◌}
 use Rattle.std.specs.FinMap as map
 use Rattle.zset_core.specs.Kept.{held, members_by, bytes_of}
 use Rattle.zset_core.specs.Sets.{Members}

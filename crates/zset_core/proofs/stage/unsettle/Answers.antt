@@ -1,5 +1,5 @@
-use Rattle.std.proofs.Common.{◌≡◌, ◌∙◌, sym, ap, subst, refl, rules, List, ℕ, drop, ◌∷◌, get_or, SFits, w64, to_z, of_z, to_z-of_z, drop-cons, add-one}
-use Rattle.zset_core.specs.Kept.{held, IsWaiting}
+use Rattle.std.proofs.Common.{◌∙◌, refl, rules, get_or, SFits, w64, to_z, of_z, to_z-of_z}
+use Rattle.zset_core.specs.Kept.{held}
 use Rattle.zset_core.specs.declared.slot.Slot.{Slot}
 use Rattle.zset_core.proofs.Staging.{rows_kept, IsWaiting-next}
 use Rattle.zset_core.proofs.stage.unsettle.Goals as goal
