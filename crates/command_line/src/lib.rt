@@ -1,5 +1,5 @@
-//! The command line of `zcrackd`. It stands in a crate of its own, since `clap` takes minutes to check and
-//! the command line changes rarely.
+//! The command line of `zcrackd`. It stands in a crate of its own, since `clap` takes minutes to
+//! check and the command line changes rarely.
 #![tactic(auto)]
 
 use clap::error::ErrorKind;

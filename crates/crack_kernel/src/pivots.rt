@@ -72,7 +72,8 @@ impl<A: Allocator> Pivots<A> {
 
     /// The place of the pivot with the value `v`, if there is one.
     pub fn find(&self, v: i64) -> Option<usize>
-        ensures { MatchOption result (IsNewValue v self.now.list) (λ place. Contains self.now.list (v, place)) }
+        ensures { MatchOption result (IsNewValue v self.now.list) (λ place. Contains self.now.list
+            (v, place)) }
     {
         find(&self.list, v)
     }

@@ -4,8 +4,8 @@
 use std::alloc::{AllocError, Allocator};
 use std::cell::Cell;
 
-/// Passes each call on to another allocator, but for the one growth that it was set to refuse. A `Vec` that
-/// grows makes one allocation.
+/// Passes each call on to another allocator, but for the one growth that it was set to refuse. A
+/// `Vec` that grows makes one allocation.
 pub struct Fuse<B: Allocator> {
     inner: B,
     /// The growths that are left up to the refused one; 0 where none is to be refused any more.

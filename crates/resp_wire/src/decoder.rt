@@ -20,8 +20,8 @@ fn behind(bytes: &[u8], start: usize) -> &[u8]
     bytes.split_at(start).1
 }
 
-/// Drops the bytes before `start` where they are at least half, so that each byte moves but once or twice
-/// in its time, and gives the place where the unread bytes then begin.
+/// Drops the bytes before `start` where they are at least half, so that each byte moves but once or
+/// twice in its time, and gives the place where the unread bytes then begin.
 fn drop_read<A: Allocator>(bytes: &mut Vec<u8, A>, start: usize) -> usize
     requires { start ≤ length bytes.old.items }
     ensures within { result ≤ length bytes.new.items }
@@ -35,18 +35,20 @@ fn drop_read<A: Allocator>(bytes: &mut Vec<u8, A>, start: usize) -> usize
     0
 }
 
-/// Takes a stream of requests in whatever pieces it comes. A contract sees the bytes that it holds, the
-/// number of bytes that it gave as requests or skipped before them, and the fault that it answered.
+/// Takes a stream of requests in whatever pieces it comes. A contract sees the bytes that it holds,
+/// the number of bytes that it gave as requests or skipped before them, and the fault that it
+/// answered.
 ///
-/// An argument that is whole is read once, however the stream is cut, and an announced count or length
-/// reserves nothing.
+/// An argument that is whole is read once, however the stream is cut, and an announced count or
+/// length reserves nothing.
 #[derive(Drop)]
 pub struct Decoder<A: Allocator> {
     alloc: A,
     /// The bytes from `start` on are not read yet.
     bytes: Vec<u8, A>,
     start: usize,
-    /// The number of arguments of the request that has begun, 0 where none has, and those that are read.
+    /// The number of arguments of the request that has begun, 0 where none has, and those that are
+    /// read.
     count: usize,
     words: Vec<Bytes<A>, A>,
     /// The length of the text of that request, as far as it is read.
@@ -98,11 +100,17 @@ impl<A: Allocator + Copy> Decoder<A> {
         self.taken
     }
 
-    /// Takes the next piece of the stream. Where memory runs out nothing of it is kept. After a fault of the
-    /// protocol no piece is kept, and the answer is Ok.
+    /// Takes the next piece of the stream. Where memory runs out nothing of it is kept. After a
+    /// fault of the protocol no piece is kept, and the answer is Ok.
     pub fn feed(&mut self, piece: &[u8]) -> Result<(), AllocError>
         requires { self.old.taken + length self.old.held + length piece.now < 2 ^ 64 }
-        ensures fed { OnOk result (IfNone self.old.fault (self.new ≡ record { held = self.old.held ++ piece.now; taken = self.old.taken; fault = None })) }
+        ensures fed { OnOk result (IfNone self.old.fault
+            (self.new ≡ record {
+              held = self.old.held
+                  ++ piece.now;
+              taken = self.old.taken;
+              fault = None;
+            })) }
         ensures failed { OnSome self.old.fault (IsOk result × (self.new ≡ self.old)) }
         ensures err { OnErr result (self.new ≡ self.old) }
     {
@@ -113,12 +121,14 @@ impl<A: Allocator + Copy> Decoder<A> {
         self.bytes.extend_from_slice(piece)
     }
 
-    /// The next request. None asks for more bytes. A fault of the protocol is answered for good; after
-    /// NoMemory the decoder is as before.
+    /// The next request. None asks for more bytes. A fault of the protocol is answered for good;
+    /// after NoMemory the decoder is as before.
     pub fn next(&mut self) -> Result<Option<Request<A>>, WireFault>
-        ensures failed { IfSome self.old.fault (λ f. (result ≡ Err (Protocol f)) × (self.new ≡ self.old)) }
+        ensures failed { IfSome self.old.fault
+            (λ f. (result ≡ Err (Protocol f)) × (self.new ≡ self.old)) }
         ensures next { IfNone self.old.fault (Nexts self.old result self.new) }
-        ensures taken { self.new.taken + length self.new.held ≡ self.old.taken + length self.old.held }
+        ensures taken { self.new.taken + length self.new.held ≡ self.old.taken
+            + length self.old.held }
     {
         if let Some(fault) = self.fault {
             return Err(WireFault::Protocol(fault));

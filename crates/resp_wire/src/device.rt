@@ -1,9 +1,11 @@
 //! The devices that bytes come from and go to.
 //!
-//! A device counts its calls and its failures, and tells its bytes where it knows them: a file or a socket
-//! doesn't, memory does. Where bytes are told, a call that fails moves none.
+//! A device counts how often it was called and how often a call failed. Memory also tells its bytes,
+//! which no failing call takes or gives; a file or a socket cannot tell them.
 
-ghost use Rattle.std.specs.Prelude.{◌≡◌, ℕ, ◌<◌, ◌≤◌, List, Option, None, Ok, IfOk, length};
+ghost use Rattle.std.specs.Prelude.{◌≡◌, ◌↔◌, ℕ, ◌<◌, ◌≤◌, List, Option, None, Ok, IfOk, IsErrAnd, IsTrue, length};
+ghost use Rattle.std.specs.IoError.{error_kind};
+ghost use Rattle.std.specs.declared.io.ErrorKind.TheVariants.{Interrupted};
 ghost use Rattle.std.specs.Io.KnownBytes.{append_known, prepend_known, IsAtEnd};
 ghost use Rattle.resp_wire.specs.Device.{moved, risen, failures_after};
 
@@ -34,8 +36,8 @@ pub trait ByteSource {
     /// The number of calls that failed, counted in the same way.
     ghost failures: { Self → ℕ };
 
-    /// Reads into the front of the buffer, and gives the number of bytes. 0 for a buffer that is not empty
-    /// says that the end is reached.
+    /// Reads into the front of the buffer, and gives the number of bytes. 0 for a buffer that is
+    /// not empty says that the end is reached.
     fn read(&mut self, buffer: &mut [u8]) -> Result<usize, Failed>
         ensures count { IfOk result (λ n. n ≤ length buffer.old) }
         ensures told { told self.old ≡ prepend_known (moved result buffer.new) (told self.new) }
@@ -55,7 +57,8 @@ pub trait ByteDrain {
     /// The number of calls that failed, counted in the same way.
     ghost failures: { Self → ℕ };
 
-    /// Takes bytes from the front of a piece, of one that is not empty at least one, and gives their number.
+    /// Takes bytes from the front of a piece, of one that is not empty at least one, and gives
+    /// their number.
     fn write(&mut self, piece: &[u8]) -> Result<usize, Failed>
         ensures count { IfOk result (λ n. n ≤ length piece.now) }
         ensures some { IfOk result (λ n. 0 < length piece.now → 0 < n) }
@@ -71,9 +74,12 @@ pub trait ByteDrain {
 }
 
 /// How often a call that a signal interrupted is made before it counts as failed.
-const ATTEMPTS: u32 = 100;
+pub const ATTEMPTS: u32 = 100;
 
-fn is_interrupted<T>(answer: &IoResult<T>) -> bool {
+/// Whether a signal interrupted a call, so that it may be made again.
+pub fn is_interrupted<T>(answer: &IoResult<T>) -> bool
+    ensures { IsTrue result ↔ IsErrAnd answer.now (λ e. error_kind e ≡ Interrupted) }
+{
     match answer {
         Ok(_) => false,
         Err(error) => error.kind() == ErrorKind::Interrupted,
@@ -92,7 +98,8 @@ fn read_uninterrupted<R: Read>(reader: &mut R, buffer: &mut [u8]) -> IoResult<us
     reader.read(buffer)
 }
 
-fn write_uninterrupted<W: Write>(writer: &mut W, piece: &[u8]) -> IoResult<usize>
+/// Writes from the front of the piece, again where a signal interrupted it, a hundred times at most.
+pub fn write_uninterrupted<W: Write>(writer: &mut W, piece: &[u8]) -> IoResult<usize>
     ensures { IfOk result (λ n. n ≤ length piece.now) }
 {
     for _ in 1..ATTEMPTS {
@@ -114,8 +121,8 @@ fn flush_uninterrupted<W: Write>(writer: &mut W) -> IoResult<()> {
     writer.flush()
 }
 
-/// A reader of std's. Its bytes are not known. A read that a signal interrupted is made again, a hundred
-/// times at the most; all of these are one call.
+/// A reader of std's. Its bytes are not known. A read that a signal interrupted is made again, a
+/// hundred times at the most; all of these are one call.
 #[derive(Drop)]
 pub struct Reading<R> {
     inner: R,
@@ -133,6 +140,16 @@ impl<R: Read> Reading<R> {
             calls: 0,
             failures: 0,
         }
+    }
+
+    /// Gives the reader back.
+    pub fn into_inner(self) -> R {
+        let Reading {
+            inner,
+            calls: _,
+            failures: _,
+        } = self;
+        inner
     }
 }
 
@@ -155,8 +172,8 @@ impl<R: Read> ByteSource for Reading<R> {
     }
 }
 
-/// A writer of std's. Its bytes are not known, and a write of no byte counts as a failure. A call that a
-/// signal interrupted is made again, a hundred times at the most; all of these are one call.
+/// A writer of std's. Its bytes are not known, and a write of no byte counts as a failure. A call
+/// that a signal interrupted is made again, a hundred times at the most; all of these are one call.
 #[derive(Drop)]
 pub struct Writing<W> {
     inner: W,

@@ -28,8 +28,8 @@ fn after_line_end(fault: ProtocolFault, bytes: &[u8]) -> Result<&[u8], Stop>
     after_byte(b'\n', fault, rest)
 }
 
-/// A number up to the limit, and the bytes behind the end of its line. A number over the limit is told at
-/// the digit that makes it so, and a zero in front of a digit at that digit.
+/// A number up to the limit, and the bytes behind the end of its line. A number over the limit is
+/// told at the digit that makes it so, and a zero in front of a digit at that digit.
 #[tactic(auto, unfolding(crate::specs::Reading::digits_at, crate::specs::Reading::number_at))]
 fn number(limit: usize, over: ProtocolFault, bytes: &[u8]) -> Result<(usize, &[u8]), Stop>
     requires { limit < 2 ^ 32 }

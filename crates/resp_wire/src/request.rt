@@ -13,7 +13,8 @@ pub const MAX_ARGUMENTS: usize = 1027;
 /// The most bytes of an argument.
 pub const MAX_LENGTH: usize = 65536;
 
-/// A request: 1 to 1,027 byte strings of at most 65,536 bytes each, the first of which names the command.
+/// A request: 1 to 1,027 byte strings of at most 65,536 bytes each, the first of which names the
+/// command.
 #[derive(Drop)]
 #[derive_where(Debug)]
 pub struct Request<A: Allocator> {
@@ -32,8 +33,8 @@ impl<A: Allocator> Model for Request<A> {
 }
 
 impl<A: Allocator> Request<A> {
-    /// The request of these words. None where there are no words, more than 1,027, or a word of more than
-    /// 65,536 bytes.
+    /// The request of these words. None where there are no words, more than 1,027, or a word of
+    /// more than 65,536 bytes.
     pub fn new(words: BytesList<A>) -> Option<Self>
         ensures { SomeIff result (IsRequest words) words }
     {

@@ -1,7 +1,7 @@
 //! The steps of a decoder over the bytes at its cursor.
 //!
-//! Each is a function of the fields that it needs and of no others, so that a step changes nothing where
-//! memory runs out, and `Decoder::next` alone moves the cursor.
+//! Each is a function of the fields that it needs and of no others, so that a step changes nothing
+//! where memory runs out, and `Decoder::next` alone moves the cursor.
 
 ghost use Rattle.std.specs.Prelude.{◌≡◌, ℕ, ◌≤◌, ◌<◌, ◌++◌, length, take, All, Some, IfOk, OnOk};
 ghost use Rattle.std.specs.List.{flat_map};
@@ -20,14 +20,16 @@ use std::alloc::Allocator;
 pub struct Front<'a> {
     /// The bytes behind the skips.
     rest: &'a [u8],
-    /// The number of arguments of a request and the bytes behind its first line, or why there is none.
+    /// The number of arguments of a request and the bytes behind its first line, or why there is
+    /// none.
     head: Result<(usize, &'a [u8]), Stop>,
 }
 
 /// Goes past the skips.
 fn past_skips(bytes: &[u8]) -> Front<'_>
     ensures skips { SkipsTo bytes.now result.rest.now }
-    ensures head { Gives (λ found. (Some found.0, found.1.now)) result.head (head_at result.rest.now) }
+    ensures head { Gives (λ found. (Some found.0, found.1.now)) result.head
+        (head_at result.rest.now) }
     ensures some { IfOk result.head (λ found. 0 < found.0) }
 {
     let mut rest = bytes;
@@ -60,7 +62,8 @@ fn fill<'a, A: Allocator + Copy>(
     bytes: &'a [u8],
 ) -> (&'a [u8], Result<(), Failure>)
     requires { length words.old.items ≤ count }
-    ensures text { flat_map argument words.new.items ++ result.0.now ≡ flat_map argument words.old.items ++ bytes.now }
+    ensures text { flat_map argument words.new.items ++ result.0.now
+        ≡ flat_map argument words.old.items ++ bytes.now }
     ensures each { All IsWord words.old.items → All IsWord words.new.items }
     ensures full { OnOk result.1 (length words.new.items ≡ count) }
     ensures stop { WordStops result.1 result.0.now (length words.new.items) count }
@@ -128,7 +131,8 @@ pub struct Step {
     pub end: End,
 }
 
-/// Goes on with the request of `count` arguments that has begun, or begins the next one where `count` is 0.
+/// Goes on with the request of `count` arguments that has begun, or begins the next one where
+/// `count` is 0.
 pub fn advance<A: Allocator + Copy>(
     alloc: A,
     words: &mut Vec<Bytes<A>, A>,

@@ -47,7 +47,8 @@ fn put_bulk<A: Allocator>(out: &mut Vec<u8, A>, bytes: &[u8]) -> Result<(), Allo
 
 /// An array of bulk strings.
 fn put_array<A: Allocator>(out: &mut Vec<u8, A>, list: &[Bytes<A>]) -> Result<(), AllocError>
-    ensures ok { OnOk result (out.new.items ≡ out.old.items ++ 42 ∷ (line (length list.now) ++ flat_map argument list.now)) }
+    ensures ok { OnOk result (out.new.items ≡ out.old.items ++ 42
+        ∷ (line (length list.now) ++ flat_map argument list.now)) }
     ensures kept { take (length out.old.items) out.new.items ≡ out.old.items }
     ensures longer { length out.old.items ≤ length out.new.items }
 {

@@ -36,7 +36,7 @@ pub record HoldsRange (c : ColumnState) (range : Range) (answer : ℕ × ℕ) : 
 abbrev pub pivots_with_cuts : Range → List (ℤ × ℕ) → ℕ
 pivots_with_cuts range ps = count_with_cuts (low_cut range) (high_cut range) ps
 
--- the values of the pivots are those before and those of the cuts, or those of the cuts alone where these would be more than 4,096
+-- each cut of the range is a pivot now, beside all pivots that were; where that makes more than 4,096, the old ones are dropped
 pub record AddsCuts (range : Range) (old new : List (ℤ × ℕ)) : Type 0 where
   pub kept : pivots_with_cuts range old ≤ 4096 → IsPermutation (values_with_cuts (low_cut range) (high_cut range) (values old)) (values new)
   pub cleared : 4096 < pivots_with_cuts range old → IsPermutation (cut_values (high_cut range) ++ cut_values (low_cut range)) (values new)

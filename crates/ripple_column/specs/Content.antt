@@ -36,7 +36,7 @@ pub record ColumnState : Type 0 where
   pub insert_spare : ℕ
   pub delete_spare : ℕ
 
--- how many rows of the content pass a test: the rows, with the pending insertions and without the pending deletions
+-- how many rows of the content pass a test: what stands in the column and what waits to come in count, what waits to be deleted does not
 abbrev pub content_count : Test → ColumnState → ℕ
 content_count p c = count_by p c.rows + count_by p c.insertions - count_by p c.deletions
 

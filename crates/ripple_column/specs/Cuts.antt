@@ -5,7 +5,7 @@ use Rattle.std.specs.Ordering.{int_eq}
 use Rattle.score_bounds.specs.declared.bounds.Cut.{Cut}
 use Rattle.score_bounds.specs.declared.bounds.Cut.TheVariants.{Start, At, End}
 
--- a cut lies below another: Start below every At, At by its number, End above every At
+-- a cut lies below another: Start is the lowest, End the highest, and numbers lie between them in their order
 abbrev pub is_before : Cut → Cut → Bool
 is_before Start Start = false
 is_before Start (At w) = true

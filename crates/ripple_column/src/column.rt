@@ -18,8 +18,8 @@ use std::marker::Model;
 
 /// Rows that are cracked by queries, with insertions and deletions that wait.
 ///
-/// The content is the bag of the rows, with the pending insertions and without the pending
-/// deletions. Between two pivots that follow one another the rows stand in no order.
+/// Its content is a bag of rows: those that stand in the column and those that wait to be inserted,
+/// but for those that wait to be deleted. Between neighbouring pivots the rows stand in no order.
 #[derive(Drop)]
 pub struct Column<A: Allocator> {
     rows: Vec<Row<A>, A>,

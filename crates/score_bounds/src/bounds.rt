@@ -159,7 +159,8 @@ impl Range {
     pub fn cuts(&self) -> (Cut, Cut)
         ensures first { result.0 ≡ first_cut self.now.min }
         ensures second { result.1 ≡ second_cut self.now.max }
-        ensures between { (score : ℤ) → score ≤ℤ greatest → is_in self.now score ≡ (not (is_below score result.0) && is_below score result.1) }
+        ensures between { (score : ℤ) → score ≤ℤ greatest → is_in self.now score
+            ≡ (not (is_below score result.0) && is_below score result.1) }
     {
         (cut_at_min(&self.min), cut_at_max(&self.max))
     }

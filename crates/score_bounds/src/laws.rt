@@ -4,14 +4,18 @@ ghost use Rattle.score_bounds.specs.Scores.{integer_value, score_value, score_te
 
 /// A text has an integer as its value exactly where the grammar spells it.
 pub fn integer_grammar()
-    ensures spelled { (text : List ℕ) (number : ℤ) → integer_value text ≡ Some number → SpellsInteger text number }
-    ensures read { (text : List ℕ) (number : ℤ) → SpellsInteger text number → integer_value text ≡ Some number }
+    ensures spelled { (text : List ℕ) (number : ℤ) → integer_value text ≡ Some number
+        → SpellsInteger text number }
+    ensures read { (text : List ℕ) (number : ℤ) → SpellsInteger text number → integer_value text
+        ≡ Some number }
 {}
 
 /// A text has a score as its value exactly where the grammar spells it.
 pub fn score_grammar()
-    ensures spelled { (text : List ℕ) (score : ℤ) → score_value text ≡ Some score → SpellsScore text score }
-    ensures read { (text : List ℕ) (score : ℤ) → SpellsScore text score → score_value text ≡ Some score }
+    ensures spelled { (text : List ℕ) (score : ℤ) → score_value text ≡ Some score
+        → SpellsScore text score }
+    ensures read { (text : List ℕ) (score : ℤ) → SpellsScore text score → score_value text
+        ≡ Some score }
 {}
 
 /// A printed score is read back as itself, and has no leading zero, no `+` and no `-0`.

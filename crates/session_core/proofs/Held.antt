@@ -14,7 +14,7 @@ use Rattle.session_core.specs.declared.fault.SessionFault.{SessionFault}
 use Rattle.session_core.specs.declared.fault.SessionFault.TheVariants.{NoMemory, ReadFault, WriteFault, Wire as WireFaultEnd, TooManyReads}
 use Rattle.session_core.specs.declared.session.Progress.{Progress}
 use Rattle.session_core.specs.Talk.{Talk, Turn, texts}
-use Rattle.session_core.specs.Session.{fault_reply, LastCut, Cut, Replied, Broken, FaultCut, FaultTold, Ends}
+use Rattle.session_core.specs.Session.{fault_reply, Whole, LastCut, Cut, Replied, Broken, FaultCut, FaultTold, Ends}
 use Rattle.session_core.specs.Sending.{SentPart, SendEnds, FaultEnds}
 use Rattle.session_core.specs.Serving.{IsBetween, IsSmall, Halfway, Answered, Halted}
 use Rattle.session_core.proofs.Told.{append_known-append_known, append_known-nil}
@@ -104,22 +104,22 @@ module _ {S : Type 0} (allows : S → Asked → Result Response Refusal → S �
         → SendEnds (encoded reply) progress.out now later end → Halted allows start (requests first.held) (fault first.held) begun.out told end there later
     halted_sending new words reply there later end gave turn sent = closing there later end (by_end end sent)
       where
-        broken : (count : ℕ) → Broken allows here (requests wire.held) (take count (encoded reply)) there
-        broken count = record {
+        broken : (kept : List Response → List ℕ → Type 0) (written : List ℕ) → kept (reply ∷ []) written → Broken allows kept here (requests wire.held) written there
+        broken kept written cut = record {
           run = words ∷ [];
           left = requests new.held;
           asked_is = gave.requests_are;
           replies = reply ∷ [];
           talk = (there, turn, refl);
-          cut = inr (record { whole = []; last = reply; replies_are = refl; count = count; written_is = refl });
+          cut = cut;
         }
 
         by_end : (end : SessionFault) → SendEnds (encoded reply) progress.out now later end → Ending there later end
-        by_end NoMemory same = ([], tt, same ∙ sym (append_known-nil now), broken 0)
+        by_end NoMemory same = ([], tt, same ∙ sym (append_known-nil now), broken Whole [] (inr (record { whole = []; last = reply; replies_are = refl; written_is = refl })))
         by_end ReadFault none = absurd none
         by_end TooManyReads none = absurd none
         by_end (WireFaultEnd f) none = absurd none
-        by_end (WriteFault out) part = (take part.count (encoded reply), tt, part.told, (part.out_is ∙ ap (λ (n : ℕ). progress.out + n) (sym (length-take-le part.count (encoded reply) part.within)), inl (broken part.count)))
+        by_end (WriteFault out) part = (take part.count (encoded reply), tt, part.told, (part.out_is ∙ ap (λ (n : ℕ). progress.out + n) (sym (length-take-le part.count (encoded reply) part.within)), inl (broken Cut (take part.count (encoded reply)) (inr (record { whole = []; last = reply; replies_are = refl; count = part.count; written_is = refl })))))
 
     -- the bytes behind the requests are at fault
     pub halted_by_fault : (new : Wire) (f : ProtocolFault) (later : Option (List ℕ)) (end : SessionFault) → Waits wire new → fault wire.held ≡ Some f → FaultEnds f progress.out now later end

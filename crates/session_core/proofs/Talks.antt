@@ -9,7 +9,7 @@ use Rattle.zset_core.specs.declared.refusal.Refusal.{Refusal}
 use Rattle.session_core.specs.declared.fault.SessionFault.{SessionFault}
 use Rattle.session_core.specs.declared.fault.SessionFault.TheVariants.{NoMemory, ReadFault, WriteFault, Wire, TooManyReads}
 use Rattle.session_core.specs.Talk.{Talk, Turn, texts}
-use Rattle.session_core.specs.Session.{fault_reply, LastCut, Cut, Replied, Broken, FaultCut, FaultTold, Ends}
+use Rattle.session_core.specs.Session.{fault_reply, LastMissing, Whole, LastCut, Cut, Replied, Broken, FaultCut, FaultTold, Ends}
 
 pub texts-append : (a b : List Response) → texts (a ++ b) ≡ texts a ++ texts b
 texts-append a b = flat_map-append encoded a b
@@ -37,6 +37,15 @@ module _ {S : Type 0} (allows : S → Asked → Result Response Refusal → S �
     written_is = ap (λ (t : List ℕ). texts front ++ t) c.written_is ∙ sym (append_assoc (texts front) (texts c.whole) (take c.count (encoded c.last))) ∙ ap (λ (t : List ℕ). t ++ take c.count (encoded c.last)) (sym (texts-append front c.whole));
   })
 
+  whole_after : (front replies : List Response) (written : List ℕ) → Whole replies written → Whole (front ++ replies) (texts front ++ written)
+  whole_after front replies written (inl all) = inl (ap (λ (t : List ℕ). texts front ++ t) all ∙ sym (texts-append front replies))
+  whole_after front replies written (inr m) = inr (record {
+    whole = front ++ m.whole;
+    last = m.last;
+    replies_are = ap (λ (l : List Response). front ++ l) m.replies_are ∙ sym (append_assoc front m.whole (m.last ∷ []));
+    written_is = ap (λ (t : List ℕ). texts front ++ t) m.written_is ∙ sym (texts-append front m.whole);
+  })
+
   module _ (start here finish : S) (answered : List (List (List ℕ))) (replies : List Response) (talk : Talk allows start answered replies here) where
     replied_after : (asked : List (List (List ℕ))) (written : List ℕ) → Replied allows here asked written finish → Replied allows start (answered ++ asked) (texts replies ++ written) finish
     replied_after asked written r = record {
@@ -45,14 +54,14 @@ module _ {S : Type 0} (allows : S → Asked → Result Response Refusal → S �
       written_is = ap (λ (t : List ℕ). texts replies ++ t) r.written_is ∙ sym (texts-append replies r.replies);
     }
 
-    broken_after : (asked : List (List (List ℕ))) (written : List ℕ) → Broken allows here asked written finish → Broken allows start (answered ++ asked) (texts replies ++ written) finish
-    broken_after asked written b = record {
+    broken_after : (kept : List Response → List ℕ → Type 0) → ((front others : List Response) (written : List ℕ) → kept others written → kept (front ++ others) (texts front ++ written)) → (asked : List (List (List ℕ))) (written : List ℕ) → Broken allows kept here asked written finish → Broken allows kept start (answered ++ asked) (texts replies ++ written) finish
+    broken_after kept after asked written b = record {
       run = answered ++ b.run;
       left = b.left;
       asked_is = ap (λ (l : List (List (List ℕ))). answered ++ l) b.asked_is ∙ sym (append_assoc answered b.run b.left);
       replies = replies ++ b.replies;
       talk = talk-append start here finish answered replies b.run b.replies talk b.talk;
-      cut = cut_after replies b.replies written b.cut;
+      cut = after replies b.replies written b.cut;
     }
 
     fault_cut_after : (asked : List (List (List ℕ))) (behind : Option ProtocolFault) (written : List ℕ) → FaultCut allows here asked behind written finish → FaultCut allows start (answered ++ asked) behind (texts replies ++ written) finish
@@ -74,9 +83,9 @@ module _ {S : Type 0} (allows : S → Asked → Result Response Refusal → S �
 
     -- a session that ends so after its first requests were answered
     pub ends_after : (asked : List (List (List ℕ))) (behind : Option ProtocolFault) (before : ℕ) (end : SessionFault) (written : List ℕ) → Ends allows here asked behind (before + length (texts replies)) end written finish → Ends allows start (answered ++ asked) behind before end (texts replies ++ written) finish
-    ends_after asked behind before NoMemory written e = broken_after asked written e
-    ends_after asked behind before ReadFault written e = replied_after asked written e
-    ends_after asked behind before TooManyReads written e = replied_after asked written e
+    ends_after asked behind before NoMemory written e = broken_after Whole whole_after asked written e
+    ends_after asked behind before ReadFault written e = (replied_after asked written e.0, e.1)
+    ends_after asked behind before TooManyReads written e = (replied_after asked written e.0, e.1)
     ends_after asked behind before (Wire told) written e = fault_told_after asked behind told written e
     ends_after asked behind before (WriteFault out) written e =
-        (omega (arith, e.0, length-append (texts replies) written), (elim e.1 [ inl b ↦ inl (broken_after asked written b) | inr f ↦ inr (fault_cut_after asked behind written f) ]))
+        (omega (arith, e.0, length-append (texts replies) written), (elim e.1 [ inl b ↦ inl (broken_after Cut cut_after asked written b) | inr f ↦ inr (fault_cut_after asked behind written f) ]))

@@ -61,15 +61,13 @@ module _ {S : Type 0} (allows : S → Asked → Result Response Refusal → S �
     written = [];
     read_is = prepend_known-nil source₀;
     written_is = sym (append_known-nil drain₀);
+    at_end = tt;
     line = record { run = []; left = requests []; asked_is = refl; replies = []; talk = refl; cut = inl refl };
   }
 
   module _ (source₁ drain₁ : Option (List ℕ)) (here : S) (wire : WireState) (progress : Progress) (way : Underway allows start source₀ source₁ drain₀ drain₁ here wire progress) (drain₂ : Option (List ℕ)) (flushed : drain₂ ≡ drain₁) where
     ending : (end : SessionFault) → Ends allows start (requests way.read) (fault way.read) 0 end way.written here → Served allows start source₀ source₁ drain₀ drain₂ (Err end) here
-    ending end ends = record { read = way.read; written = way.written; read_is = way.read_is; written_is = flushed ∙ way.written_is; line = ends }
-
-    pub too_many : Served allows start source₀ source₁ drain₀ drain₂ (Err TooManyReads) here
-    too_many = ending TooManyReads way.replied
+    ending end ends = record { read = way.read; written = way.written; read_is = way.read_is; written_is = flushed ∙ way.written_is; at_end = tt; line = ends }
 
     write_ends : (out : ℕ) → out ≡ progress.out → Ends allows start (requests way.read) (fault way.read) 0 (WriteFault out) way.written here
     write_ends out is = (
@@ -91,6 +89,7 @@ module _ {S : Type 0} (allows : S → Asked → Result Response Refusal → S �
         written = way.written;
         read_is = nothing_read e.read_is;
         written_is = flushed ∙ way.written_is;
+        at_end = e.at_end;
         line = record { replied = way.replied; unfaulted = way.fault_is; requests_are = e.requests_are ∙ way.count_is; rest_is = e.rest_is ∙ ap length way.held_is };
       })
 
@@ -101,12 +100,13 @@ module _ {S : Type 0} (allows : S → Asked → Result Response Refusal → S �
         written = way.written;
         read_is = nothing_read e.read_is;
         written_is = flushed ∙ way.written_is;
+        at_end = tt;
         line = by_end end e.device;
       })
         where
           by_end : (end : SessionFault) → IsDevice progress.out end → Ends allows start (requests way.read) (fault way.read) 0 end way.written here
           by_end NoMemory none = absurd none
-          by_end ReadFault device = way.replied
+          by_end ReadFault device = (way.replied, way.fault_is)
           by_end (WriteFault out) is = write_ends out is
           by_end (Wire told) none = absurd none
           by_end TooManyReads none = absurd none
@@ -152,6 +152,7 @@ module _ {S : Type 0} (allows : S → Asked → Result Response Refusal → S �
                 written = texts way.replied.replies ++ h.written;
                 read_is = read_on;
                 written_is = h.told_is ∙ ap (λ (k : Option (List ℕ)). append_known k h.written) (flushed ∙ way.written_is) ∙ append_known-append_known drain₀ way.written h.written ∙ ap (λ (t : List ℕ). append_known drain₀ (t ++ h.written)) way.replied.written_is;
+                at_end = tt;
                 line = subst (λ (f : Option ProtocolFault). Ends allows start (requests (way.read ++ piece)) f 0 end (texts way.replied.replies ++ h.written) there) wrong (subst (λ (l : List (List (List ℕ))). Ends allows start l (fault (wire.held ++ piece)) 0 end (texts way.replied.replies ++ h.written) there) asked all);
               }
 

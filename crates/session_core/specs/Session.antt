@@ -1,6 +1,6 @@
 -- How a session ends: what was run of the requests that came, and what was written of the replies.
-use Rattle.std.specs.Prelude.{◌≡◌, ◌⊎◌, ℕ, ◌+◌, List, [], ◌∷◌, ◌++◌, length, take, Option, Some, None, Result, MatchResult}
-use Rattle.std.specs.Io.KnownBytes.{append_known, prepend_known}
+use Rattle.std.specs.Prelude.{◌≡◌, ◌⊎◌, ℕ, ◌+◌, List, [], ◌∷◌, ◌++◌, length, take, Option, Some, None, Result, MatchResult, OnOk}
+use Rattle.std.specs.Io.KnownBytes.{append_known, prepend_known, IsAtEnd}
 use Rattle.resp_wire.specs.declared.fault.ProtocolFault.{ProtocolFault}
 use Rattle.resp_wire.specs.Faults as faults
 use Rattle.resp_wire.specs.Stream.{requests, rest, fault}
@@ -16,7 +16,18 @@ use Rattle.session_core.specs.Talk.{Talk, texts}
 abbrev pub fault_reply : ProtocolFault → Response
 fault_reply f = ErrorText (faults.text_of f)
 
--- the replies were written from the front; the last of them may be cut or missing
+-- the replies were written but for the last
+pub record LastMissing (replies : List Response) (written : List ℕ) : Type 0 where
+  pub whole : List Response
+  pub last : Response
+  pub replies_are : replies ≡ whole ++ last ∷ []
+  pub written_is : written ≡ texts whole
+
+-- replies were written whole; the last of them may be missing
+abbrev pub Whole : List Response → List ℕ → Type 0
+Whole replies written = (written ≡ texts replies) ⊎ LastMissing replies written
+
+-- the replies were written but for the last, of which a front was written
 pub record LastCut (replies : List Response) (written : List ℕ) : Type 0 where
   pub whole : List Response
   pub last : Response
@@ -24,6 +35,7 @@ pub record LastCut (replies : List Response) (written : List ℕ) : Type 0 where
   pub count : ℕ
   pub written_is : written ≡ texts whole ++ take count (encoded last)
 
+-- replies were written; the last of them may be cut or missing
 abbrev pub Cut : List Response → List ℕ → Type 0
 Cut replies written = (written ≡ texts replies) ⊎ LastCut replies written
 
@@ -34,14 +46,14 @@ module _ {S : Type 0} (allows : S → Asked → Result Response Refusal → S �
     pub talk : Talk allows start asked replies finish
     pub written_is : written ≡ texts replies
 
-  -- requests from the front were run, and their replies written, of which the last may be cut or missing
-  pub record Broken (start : S) (asked : List (List (List ℕ))) (written : List ℕ) (finish : S) : Type 0 where
+  -- requests from the front were run, and of their replies so much was written
+  pub record Broken (kept : List Response → List ℕ → Type 0) (start : S) (asked : List (List (List ℕ))) (written : List ℕ) (finish : S) : Type 0 where
     pub run : List (List (List ℕ))
     pub left : List (List (List ℕ))
     pub asked_is : asked ≡ run ++ left
     pub replies : List Response
     pub talk : Talk allows start run replies finish
-    pub cut : Cut replies written
+    pub cut : kept replies written
 
   -- all requests were run and all replies written, and the error text of the fault that followed was cut
   pub record FaultCut (start : S) (asked : List (List (List ℕ))) (behind : Option ProtocolFault) (written : List ℕ) (finish : S) : Type 0 where
@@ -61,12 +73,12 @@ module _ {S : Type 0} (allows : S → Asked → Result Response Refusal → S �
   -- how a session ends by a fault, where these requests came and behind them this fault of the protocol;
   -- `before` bytes were out before
   abbrev pub Ends : S → List (List (List ℕ)) → Option ProtocolFault → ℕ → SessionFault → List ℕ → S → Type 0
-  Ends start asked behind before NoMemory written finish = Broken start asked written finish
-  Ends start asked behind before ReadFault written finish = Replied start asked written finish
-  Ends start asked behind before TooManyReads written finish = Replied start asked written finish
+  Ends start asked behind before NoMemory written finish = Broken Whole start asked written finish
+  Ends start asked behind before ReadFault written finish = Replied start asked written finish × (behind ≡ None)
+  Ends start asked behind before TooManyReads written finish = Replied start asked written finish × (behind ≡ None)
   Ends start asked behind before (Wire told) written finish = FaultTold start asked behind told written finish
   Ends start asked behind before (WriteFault out) written finish =
-      (out ≡ before + length written) × (Broken start asked written finish ⊎ FaultCut start asked behind written finish)
+      (out ≡ before + length written) × (Broken Cut start asked written finish ⊎ FaultCut start asked behind written finish)
 
   -- the input ended, and all that was asked was answered
   pub record Finished (start : S) (read : List ℕ) (ended : Ended) (written : List ℕ) (finish : S) : Type 0 where
@@ -81,4 +93,5 @@ module _ {S : Type 0} (allows : S → Asked → Result Response Refusal → S �
     pub written : List ℕ
     pub read_is : source₀ ≡ prepend_known read source₁
     pub written_is : drain₁ ≡ append_known drain₀ written
+    pub at_end : OnOk result (IsAtEnd source₁)
     pub line : MatchResult result (λ ended. Finished start read ended written finish) (λ end. Ends start (requests read) (fault read) 0 end written finish)

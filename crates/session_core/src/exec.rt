@@ -12,8 +12,8 @@ use std::alloc::Allocator;
 use std::hash::BuildHasher;
 use zset_core::{Command, OneOwner, Refusal};
 
-/// What runs commands: one owner of sets, with an append file or without, or a worker on a shared table.
-/// `R` is the runtime, for those that wait for others.
+/// What runs commands: one owner of sets, with an append file or without, or a worker on a shared
+/// table. `R` is the runtime, for those that wait for others.
 pub trait Exec<R, A: Allocator> {
     /// It may run a command now.
     ghost settled: { Self → Type 0 };
@@ -28,7 +28,8 @@ pub trait Exec<R, A: Allocator> {
         ensures allowed { allows self.old command.now (answer_of result) self.new };
 }
 
-/// One owner of sets: a command is answered by its definition, or refused with all sets as they were.
+/// One owner of sets: a command is answered by its definition, or refused with all sets as they
+/// were.
 impl<R, H: BuildHasher + Clone + Drop, A: Allocator + Copy> Exec<R, A> for OneOwner<H, A> {
     ghost settled = { IsIdle };
 

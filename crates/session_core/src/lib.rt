@@ -1,5 +1,5 @@
-//! One connection: requests read from a source in whatever pieces it gives, run one after the other, and the
-//! replies written to a drain.
+//! One connection: requests read from a source in whatever pieces it gives, run one after the
+//! other, and the replies written to a drain.
 #![tactic(auto)]
 
 mod exec;

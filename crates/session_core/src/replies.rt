@@ -12,8 +12,12 @@ use std::alloc::Allocator;
 
 /// Writes all of `bytes`. Where the drain fails, gives the number of bytes that it took before.
 fn write_out<D: ByteDrain>(drain: &mut D, bytes: &[u8]) -> Result<(), usize>
-    ensures told { MatchResult result (λ _. D.told drain.new ≡ append_known (D.told drain.old) bytes.now) (λ n. (n ≤ length bytes.now) × (D.told drain.new ≡ append_known (D.told drain.old) (take n bytes.now))) }
-    ensures failures { MatchResult result (λ _. D.failures drain.new ≡ D.failures drain.old) (λ _. Rose (D.failures drain.old) (D.failures drain.new)) }
+    ensures told { MatchResult result
+        (λ _. D.told drain.new ≡ append_known (D.told drain.old) bytes.now)
+        (λ n. (n ≤ length bytes.now)
+        × (D.told drain.new ≡ append_known (D.told drain.old) (take n bytes.now))) }
+    ensures failures { MatchResult result (λ _. D.failures drain.new ≡ D.failures drain.old)
+        (λ _. Rose (D.failures drain.old) (D.failures drain.new)) }
 {
     let mut taken = 0;
     while taken < bytes.len() {
@@ -33,9 +37,13 @@ pub fn send<D: ByteDrain, A: Allocator>(
     reply: &Reply<A>,
 ) -> Result<(), SessionFault>
     requires { out.old < 2 ^ 127 }
-    ensures sent { OnOk result ((D.told drain.new ≡ append_known (D.told drain.old) (encoded (response_of reply.now))) × (out.new ≡ out.old + length (encoded (response_of reply.now)))) }
-    ensures ended { IfErr result (SendEnds (encoded (response_of reply.now)) out.old (D.told drain.old) (D.told drain.new)) }
-    ensures failures { MatchResult result (λ _. D.failures drain.new ≡ D.failures drain.old) (λ e. DrainFailed e (D.failures drain.old) (D.failures drain.new)) }
+    ensures sent { OnOk result ((D.told drain.new
+        ≡ append_known (D.told drain.old) (encoded (response_of reply.now)))
+        × (out.new ≡ out.old + length (encoded (response_of reply.now)))) }
+    ensures ended { IfErr result
+        (SendEnds (encoded (response_of reply.now)) out.old (D.told drain.old) (D.told drain.new)) }
+    ensures failures { MatchResult result (λ _. D.failures drain.new ≡ D.failures drain.old)
+        (λ e. DrainFailed e (D.failures drain.old) (D.failures drain.new)) }
     ensures few { OnOk result (out.new < out.old + 2 ^ 64) }
 {
     text.clear();
@@ -51,7 +59,8 @@ pub fn send<D: ByteDrain, A: Allocator>(
     }
 }
 
-/// Sends the reply that tells a fault of the protocol, and flushes it; gives how the session ends then.
+/// Sends the reply that tells a fault of the protocol, and flushes it; gives how the session ends
+/// then.
 pub fn tell_fault<D: ByteDrain, A: Allocator>(
     drain: &mut D,
     text: &mut Vec<u8, A>,

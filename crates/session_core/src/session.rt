@@ -38,10 +38,15 @@ fn answer<R, A: Allocator + Copy, D: ByteDrain, E: Exec<R, A>>(
     requires few { progress.old.requests < 2 ^ 60 }
     requires room { progress.old.out < 2 ^ 127 }
     ensures settled { E.settled exec.new }
-    ensures answered { OnOk result (AnsweredOne E.allows exec.old request progress.old (D.told drain.old) exec.new progress.new (D.told drain.new)) }
+    ensures answered { OnOk result
+        (AnsweredOne E.allows exec.old request progress.old (D.told drain.old) exec.new progress.new
+        (D.told drain.new)) }
     ensures grown { OnOk result (progress.new.out < progress.old.out + 2 ^ 64) }
-    ensures halted { IfErr result (λ end. HaltedOne E.allows exec.old request progress.old.out (D.told drain.old) end exec.new (D.told drain.new)) }
-    ensures failures { MatchResult result (λ _. D.failures drain.new ≡ D.failures drain.old) (λ end. DrainFailed end (D.failures drain.old) (D.failures drain.new)) }
+    ensures halted { IfErr result
+        (λ end. HaltedOne E.allows exec.old request progress.old.out (D.told drain.old) end exec.new
+        (D.told drain.new)) }
+    ensures failures { MatchResult result (λ _. D.failures drain.new ≡ D.failures drain.old)
+        (λ end. DrainFailed end (D.failures drain.old) (D.failures drain.new)) }
 {
     let reply = respond(rt, alloc, exec, request);
     send(drain, text, &mut progress.out, &reply)?;
@@ -64,9 +69,14 @@ fn answer_held<R, A: Allocator + Copy, D: ByteDrain, E: Exec<R, A>>(
     requires small { IsSmall decoder.old progress.old }
     ensures settled { E.settled exec.new }
     ensures small { OnOk result (IsSmall decoder.new progress.new) }
-    ensures answered { OnOk result (Answered E.allows exec.old decoder.old progress.old (D.told drain.old) exec.new decoder.new progress.new (D.told drain.new)) }
-    ensures halted { IfErr result (λ end. Halted E.allows exec.old (requests decoder.old.held) (fault decoder.old.held) progress.old.out (D.told drain.old) end exec.new (D.told drain.new)) }
-    ensures failures { MatchResult result (λ _. D.failures drain.new ≡ D.failures drain.old) (λ end. DrainFailed end (D.failures drain.old) (D.failures drain.new)) }
+    ensures answered { OnOk result
+        (Answered E.allows exec.old decoder.old progress.old (D.told drain.old) exec.new decoder.new
+        progress.new (D.told drain.new)) }
+    ensures halted { IfErr result
+        (λ end. Halted E.allows exec.old (requests decoder.old.held) (fault decoder.old.held)
+        progress.old.out (D.told drain.old) end exec.new (D.told drain.new)) }
+    ensures failures { MatchResult result (λ _. D.failures drain.new ≡ D.failures drain.old)
+        (λ end. DrainFailed end (D.failures drain.old) (D.failures drain.new)) }
 {
     'requests: loop {
         match decoder.next() {
@@ -110,9 +120,15 @@ fn take_piece<R, A: Allocator + Copy, D: ByteDrain, E: Exec<R, A>>(
     requires small { IsSmall (fed session.old.decoder piece.now) session.old.progress }
     ensures settled { E.settled exec.new }
     ensures small { OnOk result (IsSmall session.new.decoder session.new.progress) }
-    ensures answered { OnOk result (Answered E.allows exec.old (fed session.old.decoder piece.now) session.old.progress (D.told drain.old) exec.new session.new.decoder session.new.progress (D.told drain.new)) }
-    ensures halted { IfErr result (λ end. Halted E.allows exec.old (requests (session.old.decoder.held ++ piece.now)) (fault (session.old.decoder.held ++ piece.now)) session.old.progress.out (D.told drain.old) end exec.new (D.told drain.new)) }
-    ensures failures { MatchResult result (λ _. D.failures drain.new ≡ D.failures drain.old) (λ end. DrainFailed end (D.failures drain.old) (D.failures drain.new)) }
+    ensures answered { OnOk result
+        (Answered E.allows exec.old (fed session.old.decoder piece.now) session.old.progress
+        (D.told drain.old) exec.new session.new.decoder session.new.progress (D.told drain.new)) }
+    ensures halted { IfErr result
+        (λ end. Halted E.allows exec.old (requests (session.old.decoder.held ++ piece.now))
+        (fault (session.old.decoder.held ++ piece.now)) session.old.progress.out (D.told drain.old)
+        end exec.new (D.told drain.new)) }
+    ensures failures { MatchResult result (λ _. D.failures drain.new ≡ D.failures drain.old)
+        (λ end. DrainFailed end (D.failures drain.old) (D.failures drain.new)) }
 {
     if session.decoder.feed(piece).is_err() {
         return Err(SessionFault::NoMemory);
@@ -132,7 +148,8 @@ fn take_piece<R, A: Allocator + Copy, D: ByteDrain, E: Exec<R, A>>(
 fn flush<D: ByteDrain>(drain: &mut D, progress: &Progress) -> Result<(), SessionFault>
     ensures told { D.told drain.new ≡ D.told drain.old }
     ensures err { IfErr result (λ end. end ≡ WriteFault progress.now.out) }
-    ensures failures { MatchResult result (λ _. D.failures drain.new ≡ D.failures drain.old) (λ _. Rose (D.failures drain.old) (D.failures drain.new)) }
+    ensures failures { MatchResult result (λ _. D.failures drain.new ≡ D.failures drain.old)
+        (λ _. Rose (D.failures drain.old) (D.failures drain.new)) }
 {
     match drain.flush() {
         Ok(()) => Ok(()),
@@ -152,16 +169,23 @@ fn read_on<R, A: Allocator + Copy, S: ByteSource, D: ByteDrain, E: Exec<R, A>>(
     requires settled { E.settled exec.old }
     requires unfaulted { session.old.decoder.fault ≡ None }
     requires some { 1 ≤ length buffer.old }
-    requires room { session.old.decoder.taken + length session.old.decoder.held + length buffer.old < 2 ^ 60 }
+    requires room { session.old.decoder.taken + length session.old.decoder.held + length buffer.old
+        < 2 ^ 60 }
     requires small { IsSmall session.old.decoder session.old.progress }
     ensures settled { E.settled exec.new }
     ensures small { OnOk result (IsSmall session.new.decoder session.new.progress) }
-    ensures bytes { OnOk result (session.new.decoder.taken + length session.new.decoder.held ≤ session.old.decoder.taken + length session.old.decoder.held + length buffer.old) }
-    ensures round { Round E.allows exec.old session.old.decoder session.old.progress (S.told source.old) (D.told drain.old) result exec.new session.new.decoder session.new.progress (S.told source.new) (D.told drain.new) }
+    ensures bytes { OnOk result (session.new.decoder.taken + length session.new.decoder.held
+        ≤ session.old.decoder.taken + length session.old.decoder.held + length buffer.old) }
+    ensures round { Round E.allows exec.old session.old.decoder session.old.progress
+        (S.told source.old) (D.told drain.old) result exec.new session.new.decoder
+        session.new.progress (S.told source.new) (D.told drain.new) }
     ensures reads { S.calls source.new ≤ S.calls source.old + 1 }
     ensures once { OnOk result (S.calls source.new ≡ risen (S.calls source.old)) }
-    ensures source_failures { MatchResult result (λ _. S.failures source.new ≡ S.failures source.old) (λ end. SourceFailed end (S.failures source.old) (S.failures source.new)) }
-    ensures drain_failures { MatchResult result (λ _. D.failures drain.new ≡ D.failures drain.old) (λ end. DrainFailed end (D.failures drain.old) (D.failures drain.new)) }
+    ensures source_failures { MatchResult result
+        (λ _. S.failures source.new ≡ S.failures source.old)
+        (λ end. SourceFailed end (S.failures source.old) (S.failures source.new)) }
+    ensures drain_failures { MatchResult result (λ _. D.failures drain.new ≡ D.failures drain.old)
+        (λ end. DrainFailed end (D.failures drain.old) (D.failures drain.new)) }
 {
     flush(drain, &session.progress)?;
     match source.read(buffer) {
@@ -180,11 +204,16 @@ fn read_on<R, A: Allocator + Copy, S: ByteSource, D: ByteDrain, E: Exec<R, A>>(
     }
 }
 
-/// Serves one connection: reads requests from the source, runs them in turn, and writes their replies to
-/// the drain, until the input ends. A request is run after the reply before it was written whole, a refusal
-/// is replied as its error text, and the drain is flushed before each read and before the end.
+/// Serves one connection until its input ends: requests are read from the source and run in turn,
+/// and their replies written to the drain. A reply is out whole before the next request is run; a
+/// refused command is answered by its error text. What the drain holds back is sent on before each
+/// read, so a client that waits for a reply has it, and before the session ends in good order.
 ///
-/// `buffer` is the length of the slice that is handed to `read`, and `max_reads` how often it is handed.
+/// Each read is handed a slice of `buffer` bytes, and there are `max_reads` reads at most.
+///
+/// # Errors
+///
+/// As [`SessionFault`] has them; what was run and written then stands in specs/Session.antt.
 pub fn serve<R, A: Allocator + Copy, S: ByteSource, D: ByteDrain, E: Exec<R, A>>(
     rt: &R,
     alloc: A,
@@ -199,12 +228,17 @@ pub fn serve<R, A: Allocator + Copy, S: ByteSource, D: ByteDrain, E: Exec<R, A>>
     requires buffer { buffer ≤ 65536 }
     requires reads { max_reads ≤ 2 ^ 40 }
     ensures settled { E.settled exec.new }
-    ensures served { Served E.allows exec.old (S.told source.old) (S.told source.new) (D.told drain.old) (D.told drain.new) result exec.new }
+    ensures served { Served E.allows exec.old (S.told source.old) (S.told source.new)
+        (D.told drain.old) (D.told drain.new) result exec.new }
     ensures at_end { OnOk result (IsAtEnd (S.told source.new)) }
     ensures reads { S.calls source.new ≤ S.calls source.old + max_reads }
-    ensures many { result ≡ Err TooManyReads → min (S.calls source.old + max_reads) (2 ^ 64 - 1) ≤ S.calls source.new }
-    ensures source_failures { MatchResult result (λ _. S.failures source.new ≡ S.failures source.old) (λ end. SourceFailed end (S.failures source.old) (S.failures source.new)) }
-    ensures drain_failures { MatchResult result (λ _. D.failures drain.new ≡ D.failures drain.old) (λ end. DrainFailed end (D.failures drain.old) (D.failures drain.new)) }
+    ensures many { result ≡ Err TooManyReads → min (S.calls source.old + max_reads) (2 ^ 64 - 1)
+        ≤ S.calls source.new }
+    ensures source_failures { MatchResult result
+        (λ _. S.failures source.new ≡ S.failures source.old)
+        (λ end. SourceFailed end (S.failures source.old) (S.failures source.new)) }
+    ensures drain_failures { MatchResult result (λ _. D.failures drain.new ≡ D.failures drain.old)
+        (λ end. DrainFailed end (D.failures drain.old) (D.failures drain.new)) }
 {
     // What a stream holds does not depend on the pieces that it comes in.
     cut();

@@ -1,5 +1,5 @@
-//! The tests that cross crates: worked examples, bytes in and bytes out, through a session over one owner of
-//! sets. This crate has nothing but tests.
+//! The tests that cross crates: worked examples, bytes in and bytes out, through a session over one
+//! owner of sets. This crate has nothing but tests.
 #![tactic(auto)]
 
 #[cfg(test)]

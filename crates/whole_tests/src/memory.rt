@@ -8,8 +8,8 @@ use std::hash::RandomState;
 use std::test::Fail;
 use zset_core::OneOwner;
 
-// One refused growth leaves one of these, or ends the session: the refused request is answered so, and the
-// requests behind it on the sets that then stand.
+// One refused growth leaves one of these, or ends the session: the refused request is answered so,
+// and the requests behind it on the sets that then stand.
 const REPLIES: [&str; 4] = [
     ":1~*1~$1~a~$2~hi~",
     "-ERR 1 out of memory~*0~$2~hi~",

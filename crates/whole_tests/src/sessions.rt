@@ -1,9 +1,12 @@
 //! How sessions end.
 
 use crate::talking::{bytes_of, serve_bytes, serve_limited};
-use resp_wire::ProtocolFault;
-use session_core::{Ended, SessionFault};
+use resp_wire::{ByteDrain, Failed, MemoryDrain, MemorySource, ProtocolFault};
+use session_core::{Ended, SessionFault, serve};
+use std::alloc::Global;
+use std::hash::RandomState;
 use std::test::Fail;
+use zset_core::OneOwner;
 
 /// An addition and a range of one score: 80 bytes.
 const TWO_REQUESTS: &str = "*4~$4~ZADD~$1~k~$1~5~$1~a~*4~$13~ZRANGEBYSCORE~$1~k~$1~5~$1~5~";
@@ -59,8 +62,60 @@ fn a_wrong_byte_ends_the_session(rt: HostRuntime) -> Result<(), Fail> {
 fn reads_are_counted(rt: HostRuntime) -> Result<(), Fail> {
     let alloc = rt.alloc();
     let input = bytes_of(alloc, TWO_REQUESTS)?;
-    let session = serve_limited(&rt, &input, 35, 1)?;
+    let session = serve_limited(&rt, &input, 65_536, 35, 1)?;
     assert_eq!(rt; session.written, bytes_of(alloc, ":1~")?);
     assert!(rt; session.end == Err(SessionFault::TooManyReads));
+    Ok(())
+}
+
+/// A drain in memory that notes how often it is flushed, and how many bytes it holds at these flushes, added up.
+#[derive(Drop)]
+struct NotingDrain {
+    drain: MemoryDrain<Global>,
+    flushes: u64,
+    bytes_at_flushes: usize,
+}
+
+impl ByteDrain for NotingDrain {
+    ghost told = { λ d. ⟦<MemoryDrain<Global> as ByteDrain>⟧.told d.drain };
+
+    ghost calls = { λ d. ⟦<MemoryDrain<Global> as ByteDrain>⟧.calls d.drain };
+
+    ghost failures = { λ d. ⟦<MemoryDrain<Global> as ByteDrain>⟧.failures d.drain };
+
+    fn write(&mut self, piece: &[u8]) -> Result<usize, Failed> {
+        self.drain.write(piece)
+    }
+
+    fn flush(&mut self) -> Result<(), Failed> {
+        self.flushes = self.flushes.saturating_add(1);
+        let held = self.drain.bytes().len();
+        self.bytes_at_flushes = self.bytes_at_flushes.saturating_add(held);
+        self.drain.flush()
+    }
+}
+
+// The two requests come in reads of 35, 35 and 10 bytes and of none: their replies, 4 and 11 bytes, are flushed
+// before the next read, and once more at the end: with 0, 4, 4, 15 and 15 bytes.
+#[test]
+fn replies_are_flushed_before_each_read(rt: HostRuntime) -> Result<(), Fail> {
+    let alloc = rt.alloc();
+    let input = bytes_of(alloc, TWO_REQUESTS)?;
+    let mut owner = OneOwner::new(alloc, RandomState::new(&rt)?);
+    let mut source = MemorySource::new(&input, 65_536);
+    let mut drain = NotingDrain {
+        drain: MemoryDrain::new(alloc, 3),
+        flushes: 0,
+        bytes_at_flushes: 0,
+    };
+    let end = serve(&rt, alloc, &mut source, &mut drain, &mut owner, 35, 1 << 40);
+    assert!(rt;
+        end == Ok(Ended {
+            requests: 2,
+            rest: 0
+        })
+    );
+    assert_eq!(rt; drain.flushes, 5);
+    assert_eq!(rt; drain.bytes_at_flushes, 38);
     Ok(())
 }

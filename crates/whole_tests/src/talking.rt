@@ -18,21 +18,22 @@ pub struct Session {
 
 /// Serves the input over an empty owner, in reads of at most `chunk` bytes.
 pub fn serve_bytes(rt: &HostRuntime, input: &[u8], chunk: usize) -> io::Result<Session>
-    requires some { 1 ≤ chunk }
-    requires few { chunk ≤ 65536 }
+    requires { 1 ≤ chunk }
 {
-    serve_limited(rt, input, chunk, 1 << 40)
+    serve_limited(rt, input, chunk, 16_384, 1 << 40)
 }
 
-/// The same with at most so many reads.
+/// The same with slices of `buffer` bytes and at most so many reads.
 pub fn serve_limited(
     rt: &HostRuntime,
     input: &[u8],
     chunk: usize,
+    buffer: usize,
     max_reads: u64,
 ) -> io::Result<Session>
-    requires some { 1 ≤ chunk }
-    requires few { chunk ≤ 65536 }
+    requires chunk { 1 ≤ chunk }
+    requires some { 1 ≤ buffer }
+    requires few { buffer ≤ 65536 }
     requires reads { max_reads ≤ 2 ^ 40 }
 {
     let alloc = rt.alloc();
@@ -45,7 +46,7 @@ pub fn serve_limited(
         &mut source,
         &mut drain,
         &mut owner,
-        chunk,
+        buffer,
         max_reads,
     );
     Ok(Session {
@@ -82,7 +83,8 @@ pub fn write_words(alloc: Global, words: &str, out: &mut Vec<u8>) -> io::Result<
 /// A talk: requests by their words, each with the bytes of its reply, `~` for CR LF.
 pub type Talk<'a> = &'a [(&'a str, &'a str)];
 
-/// Whether a session on an empty owner gives the replies of a talk, read whole and read byte by byte.
+/// Whether a session on an empty owner gives the replies of a talk, read whole and read byte by
+/// byte.
 pub fn replies_so(rt: &HostRuntime, talk: Talk<'_>) -> io::Result<bool> {
     let alloc = rt.alloc();
     let mut input = Vec::new(alloc);

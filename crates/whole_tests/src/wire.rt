@@ -6,8 +6,8 @@ use resp_wire::{Bytes, BytesList, Decoder, ProtocolFault, Request, WireFault};
 use std::alloc::{AllocError, Global};
 use std::test::Fail;
 
-/// What a text fed byte by byte is answered first: a fault with the number of bytes that were fed then, or
-/// None where there is none.
+/// What a text fed byte by byte is answered first: a fault with the number of bytes that were fed
+/// then, or None where there is none.
 fn first_fault(alloc: Global, text: &[u8]) -> Option<(WireFault, usize)> {
     let mut decoder = Decoder::new(alloc);
     'bytes: for (fed, byte) in text.iter().enumerate() {

@@ -1,5 +1,5 @@
 -- How the program ends: its exit status, and the lines on standard error.
-use Rattle.std.specs.Prelude.{◌≡◌, ℕ, List, [], ◌∷◌, Option, None, Some, Result, Ok, Err}
+use Rattle.std.specs.Prelude.{◌≡◌, ℕ, List, [], ◌∷◌, Option, None, Some, Result, Ok, Err, MatchResult}
 use Rattle.resp_wire.specs.Faults.{number_of}
 use Rattle.zset_core.specs.Meaning.{Asked}
 use Rattle.zset_core.specs.declared.refusal.Refusal.{Refusal}
@@ -8,6 +8,7 @@ use Rattle.session_core.specs.declared.fault.Ended.{Ended}
 use Rattle.session_core.specs.declared.fault.SessionFault.{SessionFault}
 use Rattle.session_core.specs.declared.fault.SessionFault.TheVariants as ends
 use Rattle.session_core.specs.Session.{Served}
+use Rattle.session_core.specs.Sending.{SourceFailed, DrainFailed}
 use Rattle.zcrackd.specs.declared.finish.Line.{Line}
 use Rattle.zcrackd.specs.declared.finish.Line.TheVariants as lines
 use Rattle.zcrackd.specs.declared.finish.Finish.{Finish}
@@ -21,8 +22,12 @@ finish_of (Err (ends.WriteFault out)) = record { status = 1; lines = Some (lines
 finish_of (Err (ends.Wire fault)) = record { status = 1; lines = Some (lines.ProtocolFault (number_of fault)) ∷ None ∷ [] }
 finish_of (Err ends.TooManyReads) = record { status = 1; lines = Some lines.ReadTooOften ∷ None ∷ [] }
 
--- a session was served, and the program ends by how it ended
-pub record Finishes {S : Type 0} (allows : S → Asked → Result Response Refusal → S → Type 0) (start : S) (source₀ source₁ drain₀ drain₁ : Option (List ℕ)) (finish : Finish) (here : S) : Type 0 where
+-- a session was served, and the program ends by how it ended; a device's count of failures rose only where the
+-- session ends by a fault of that device
+pub record Finishes {S : Type 0} (allows : S → Asked → Result Response Refusal → S → Type 0) (start : S)
+    (source₀ source₁ drain₀ drain₁ : Option (List ℕ)) (reads₀ reads₁ writes₀ writes₁ : ℕ) (finish : Finish) (here : S) : Type 0 where
   pub result : Result Ended SessionFault
   pub served : Served allows start source₀ source₁ drain₀ drain₁ result here
+  pub reads : MatchResult result (λ ended. reads₁ ≡ reads₀) (λ end. SourceFailed end reads₀ reads₁)
+  pub writes : MatchResult result (λ ended. writes₁ ≡ writes₀) (λ end. DrainFailed end writes₀ writes₁)
   pub finish_is : finish ≡ finish_of result

@@ -14,8 +14,8 @@ const BUFFER: usize = 16_384;
 /// The most reads of a session: as many as a session may have.
 const MAX_READS: u64 = 1 << 40;
 
-/// How the program ends after a session: with status 0 at the end of the input, 4 for want of memory, and
-/// else 1; a session that did not come to the end of its input has one line.
+/// How the program ends after a session: with status 0 at the end of the input, 4 for want of
+/// memory, and else 1; a session that did not come to the end of its input has one line.
 fn after_session(session: Result<Ended, SessionFault>) -> Finish
     ensures { result ≡ finish_of session }
 {
@@ -41,7 +41,9 @@ pub fn stdio_run<R, A: Allocator + Copy, S: ByteSource, D: ByteDrain, E: Exec<R,
 ) -> Finish
     requires { E.settled exec.old }
     ensures settled { E.settled exec.new }
-    ensures finishes { Finishes E.allows exec.old (S.told source.old) (S.told source.new) (D.told drain.old) (D.told drain.new) result exec.new }
+    ensures finishes { Finishes E.allows exec.old (S.told source.old) (S.told source.new)
+        (D.told drain.old) (D.told drain.new) (S.failures source.old) (S.failures source.new)
+        (D.failures drain.old) (D.failures drain.new) result exec.new }
 {
     after_session(serve(rt, alloc, source, drain, exec, BUFFER, MAX_READS))
 }
