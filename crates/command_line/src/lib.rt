@@ -3,14 +3,16 @@
 #![tactic(auto)]
 
 use clap::error::ErrorKind;
-use clap::{Command, Error};
+use clap::{Arg, ArgAction, ArgMatches, Command, Error};
 use std::alloc::{AllocError, Global};
 
 /// What the program is asked to do.
 #[derive(Clone, Copy, Debug, PartialEq, Eq)]
-pub enum Task {
-    /// Serve standard input to standard output.
-    Stdio,
+pub enum Task<'a> {
+    /// Serve standard input to standard output, with an append file where one is named.
+    Stdio { file: Option<&'a str> },
+    /// Write a new append file that leads to the same sets as an old one.
+    Rewrite { old: &'a str, new: &'a str },
 }
 
 /// Why there is nothing to do.
@@ -23,26 +25,83 @@ pub enum Unasked {
     NoMemory,
 }
 
+fn stdio_command<'a>(alloc: Global) -> Result<Command<'a>, AllocError> {
+    let file = Arg::new(alloc, "file")
+        .long("file")
+        .value_name("PATH")
+        .help("Keeps the changes in this append file")
+        .action(ArgAction::Set);
+    Command::new(alloc, "stdio")
+        .about("Serves standard input to standard output")
+        .arg(file)
+}
+
+fn rewrite_command<'a>(alloc: Global) -> Result<Command<'a>, AllocError> {
+    let old = Arg::new(alloc, "OLD").required(true);
+    let new = Arg::new(alloc, "NEW").required(true);
+    Command::new(alloc, "rewrite")
+        .about(
+            "Writes the append file OLD anew, as short as it can be, to NEW, which must not be there",
+        )
+        .arg(old)?
+        .arg(new)
+}
+
 fn command<'a>(alloc: Global) -> Result<Command<'a>, AllocError> {
     Command::new(alloc, "zcrackd")
         .about("A server for sorted sets whose replies are proved")
         .subcommand_required(true)
         .disable_help_subcommand(true)
-        .subcommand(Command::new(alloc, "stdio").about("Serves standard input to standard output"))
+        .subcommand(stdio_command(alloc)?)?
+        .subcommand(rewrite_command(alloc)?)
 }
 
-/// The task that the words of a command line ask for, the program's name included.
-pub fn read(alloc: Global, words: &[String]) -> Result<Task, Unasked> {
-    let Ok(command) = command(alloc) else {
-        return Err(Unasked::NoMemory);
-    };
-    match command.try_get_matches_from(words) {
-        Ok(found) => match found.subcommand() {
-            Some(("stdio", _)) => Ok(Task::Stdio),
-            _ => Err(Unasked::Bad),
-        },
-        Err(error) if error.exit_code() == 0 => Err(Unasked::Help(error)),
-        Err(error) if error.kind() == ErrorKind::OutOfMemory => Err(Unasked::NoMemory),
-        Err(_) => Err(Unasked::Bad),
+fn asked<'a>(found: &ArgMatches<'a>) -> Option<Task<'a>> {
+    let (name, words) = found.subcommand()?;
+    match name {
+        "stdio" => Some(Task::Stdio {
+            file: words.get_str("file"),
+        }),
+        "rewrite" => Some(Task::Rewrite {
+            old: words.get_str("OLD")?,
+            new: words.get_str("NEW")?,
+        }),
+        _ => None,
+    }
+}
+
+fn matches<'a>(alloc: Global, words: &'a [String]) -> Result<ArgMatches<'a>, Error> {
+    command(alloc)?.try_get_matches_from(words)
+}
+
+/// Why the words of a command line were not taken.
+fn reason_of(error: Error) -> Unasked {
+    if error.exit_code() == 0 {
+        Unasked::Help(error)
+    } else if error.kind() == ErrorKind::OutOfMemory {
+        Unasked::NoMemory
+    } else {
+        Unasked::Bad
+    }
+}
+
+/// The words of a command line, the program's name included, as `clap` has taken them.
+#[derive(Drop)]
+pub struct CommandLine<'a> {
+    found: ArgMatches<'a>,
+}
+
+impl<'a> CommandLine<'a> {
+    /// Takes the words of a command line.
+    pub fn read(alloc: Global, words: &'a [String]) -> Result<Self, Unasked> {
+        match matches(alloc, words) {
+            Ok(found) => Ok(CommandLine { found }),
+            Err(error) => Err(reason_of(error)),
+        }
+    }
+
+    /// The task that is asked for.
+    pub fn task(&self) -> Option<Task<'a>> {
+        asked(&self.found)
     }
 }

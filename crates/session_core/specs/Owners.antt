@@ -1,11 +1,12 @@
--- How one owner of sets answers a command.
-use Rattle.std.specs.Prelude.{◌≡◌, ℕ, Option, None, Some, Result, Ok, Err}
+-- How owners of sets answer a command.
+use Rattle.std.specs.Prelude.{◌≡◌, ℕ, Option, None, Some, Result, Ok, Err, MatchResult}
 use Rattle.resp_wire.specs.Response.{Response}
 use Rattle.zset_core.specs.Meaning.{Asked}
-use Rattle.zset_core.specs.World.{act}
+use Rattle.zset_core.specs.World.{World, act}
 use Rattle.zset_core.specs.View.{OwnerView}
 use Rattle.zset_core.specs.Refused.{IsRefused}
 use Rattle.zset_core.specs.declared.refusal.Refusal.{Refusal}
+use Rattle.append_log.specs.Logged.{LoggedView, Ran, Refused, Replays}
 
 -- no set of it is prepared
 abbrev pub IsIdle : OwnerView → Type 0
@@ -15,3 +16,9 @@ IsIdle owner = owner.next ≡ None
 abbrev pub OwnerAnswers : OwnerView → Asked → Result Response Refusal → OwnerView → Type 0
 OwnerAnswers old command (Ok reply) new = act old.world command.meaning ≡ Some (new.world, reply)
 OwnerAnswers old command (Err refusal) new = (new.world ≡ old.world) × IsRefused refusal (act old.world command.meaning)
+
+-- how an owner with an append file answers: it runs the command and appends its record where a set changes, or refuses
+-- it and leaves all sets; and whatever world the log's records led from to its own, they do so again
+pub record LoggedAnswers (old : LoggedView) (command : Asked) (answer : Result Response Refusal) (new : LoggedView) : Type 0 where
+  pub told : MatchResult answer (λ reply. Ran old new command reply) (λ refusal. Refused old new command refusal)
+  pub replays : (start : World) → Replays start old → Replays start new

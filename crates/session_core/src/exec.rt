@@ -1,15 +1,17 @@
 //! What runs commands.
 
-ghost use Rattle.std.specs.Prelude.{Result};
+ghost use Rattle.std.specs.Prelude.{Result, ⊤};
 ghost use Rattle.resp_wire.specs.Response.{Response, response_of};
 ghost use Rattle.zset_core.specs.Meaning.{Asked};
 ghost use Rattle.zset_core.specs.declared.refusal.Refusal.{Refusal as RefusalValue};
-ghost use Rattle.session_core.specs.Owners.{IsIdle, OwnerAnswers};
+ghost use Rattle.session_core.specs.Owners.{IsIdle, OwnerAnswers, LoggedAnswers};
 ghost use Rattle.session_core.specs.Talk.{answer_of, Turn};
 
+use append_log::{LogSink, LoggedOwner};
 use resp_wire::{Reply, Request};
 use std::alloc::Allocator;
 use std::hash::BuildHasher;
+use std::sync::ledger::Ledger;
 use zset_core::{Command, OneOwner, Refusal};
 
 /// What runs commands: one owner of sets, with an append file or without, or a worker on a shared
@@ -37,6 +39,19 @@ impl<R, H: BuildHasher + Clone + Drop, A: Allocator + Copy> Exec<R, A> for OneOw
 
     fn run(&mut self, _rt: &R, command: &Command<A>) -> Result<Reply<A>, Refusal> {
         OneOwner::run(self, command)
+    }
+}
+
+/// An owner with an append file: a command that changes sets is answered once its record was
+/// written and synced.
+impl<R, H: BuildHasher + Clone + Drop, S: LogSink, L: Ledger, A: Allocator + Copy> Exec<R, A>
+    for LoggedOwner<H, S, L, A> {
+    ghost settled = { λ _. ⊤ };
+
+    ghost allows = { LoggedAnswers };
+
+    fn run(&mut self, _rt: &R, command: &Command<A>) -> Result<Reply<A>, Refusal> {
+        LoggedOwner::run(self, command)
     }
 }
 

@@ -13,6 +13,16 @@ use Rattle.zcrackd.specs.declared.finish.Line.{Line}
 use Rattle.zcrackd.specs.declared.finish.Line.TheVariants as lines
 use Rattle.zcrackd.specs.declared.finish.Finish.{Finish}
 
+-- the first of the lines of an end
+abbrev pub first_line : List (Option Line) → Option Line
+first_line [] = None
+first_line (line ∷ lines) = line
+
+-- an end with a notice before its line
+abbrev pub noticed : Option Line → Finish → Finish
+noticed None finish = finish
+noticed (Some line) finish = record { status = finish.status; lines = Some line ∷ first_line finish.lines ∷ [] }
+
 -- a session that ended so: status 0 at the end of the input, 4 for want of memory, else 1 with one line
 abbrev pub finish_of : Result Ended SessionFault → Finish
 finish_of (Ok ended) = record { status = 0; lines = None ∷ None ∷ [] }

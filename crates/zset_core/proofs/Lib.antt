@@ -4,6 +4,9 @@ pub mod PairSteps
 pub mod Places
 pub mod Gathering
 pub mod Order
+pub mod Bags
+pub mod Planning
+pub mod RangeRows
 pub mod Worlds
 pub mod Outlines
 mod Options

@@ -1,5 +1,5 @@
 -- Listings: a sorted list with the same pairs is the listing.
-use Rattle.std.proofs.Common.{◌≡◌, ℕ, ◌+◌, ◌-◌, ◌<◌, ◌≤◌, ℤ, pos, negsuc, take, Bool, true, false, cond, ◌&&◌, ◌||◌, List, [], ◌∷◌, map, filter, length, Option, None, Some, option_map, is_some, refl, sym, ap, subst, ◌∙◌, arith, get_or, ◌++◌, slice_get, drop, zero, suc, append_assoc, add-one, add_assoc, length-append}
+use Rattle.std.proofs.Common.{◌≡◌, ℕ, ◌+◌, ◌-◌, ◌<◌, ◌≤◌, ℤ, pos, negsuc, take, Bool, true, false, cond, ◌&&◌, ◌||◌, List, [], ◌∷◌, map, filter, length, Option, None, Some, option_map, is_some, refl, sym, ap, subst, ◌∙◌, arith, get_or, ◌++◌, slice_get, drop, zero, suc, append_assoc, add-one}
 use Rattle.std.specs.List.{AllByRecursion, IsDistinct, list_any}
 use Rattle.std.specs.List.Sorted.{IsStrictlySortedBy, IsPermutation, IsSorted}
 use Rattle.std.specs.Map.{lookup, keys_of}
@@ -151,6 +151,29 @@ sorted_apart (e ∷ es) h = (below_apart e.0 es (first (below_all bytes_cmp e.0 
     second true b h = h
     second false b h = absurd h
 
+raw_apart : (es : List (List ℕ × ℤ)) → IsDistinct bytes_eq (keys_of es) → IsDistinct is_pair (map (λ e. (e.1, e.0)) es)
+unfolding IsDistinct
+raw_apart [] h = tt
+raw_apart (e ∷ es) h = (heads e es h.0, raw_apart es h.1)
+  where
+    heads : (e : List ℕ × ℤ) (es : List (List ℕ × ℤ)) → AllByRecursion (λ k. bytes_eq e.0 k ≡ false) (keys_of es) → AllByRecursion (λ p. is_pair (e.1, e.0) p ≡ false) (map (λ e. (e.1, e.0)) es)
+    heads e [] h = tt
+    heads e (x ∷ es) h = (is_pair_by (e.1, e.0) x.1 x.0 ∙ ap (λ b. is_eq (int_cmp e.1 x.1) && b) h.0 ∙ and_false (is_eq (int_cmp e.1 x.1)), heads e es h.1)
+
+-- the pairs of a set are apart
+pub pairs_apart : (m : Members) → IsDistinct is_pair (pairs m)
+unfolding pairs
+pairs_apart m = raw_apart (fin.entries m) (sorted_apart (fin.entries m) (fin.entries_sorted m))
+
+-- pairs that tie are one pair
+pub is_equal : (q p : Pair) → is_pair q p ≡ true → q ≡ p
+is_equal q p h = pair_exact q p (tie (pair_cmp q p) h)
+  where
+    tie : (o : Ordering) → is_eq o ≡ true → o ≡ Equal
+    tie Less e = cc
+    tie Equal e = refl
+    tie Greater e = cc
+
 find_raw : (es : List (List ℕ × ℤ)) (q : List ℕ) → find bytes_cmp q es ≡ lookup (bytes_eq q) es
 find_raw [] q = refl
 find_raw (e ∷ es) q = ap (λ b. cond b (Some e.1) (find bytes_cmp q es)) (is_eq-slice_cmp q e.0) ∙ ap (cond (bytes_eq q e.0) (Some e.1)) (find_raw es q)
@@ -196,7 +219,7 @@ rises [] up apart = tt
 rises (r ∷ rows) up apart = sorted_from_all_adjacent (on_total pair_of pair_total) (r ∷ rows) r (λ k lt.
     rises_step (pair_of (get_or (r ∷ rows) k r)) (pair_of (get_or (r ∷ rows) (k + 1) r)) (up k r (omega arith) lt) (apart_from_distinct (λ a b. is_pair (pair_of a) (pair_of b)) (r ∷ rows) k (k + 1) r apart (omega arith) lt))
 
-rises_pairs : (rows : List Shown) → IsStrictlySortedBy shown_cmp rows → IsStrictlySortedBy pair_cmp (pairs_of rows)
+pub rises_pairs : (rows : List Shown) → IsStrictlySortedBy shown_cmp rows → IsStrictlySortedBy pair_cmp (pairs_of rows)
 unfolding IsStrictlySortedBy
 rises_pairs [] h = tt
 rises_pairs (r ∷ rows) h = (heads r rows h.0, rises_pairs rows h.1)
@@ -214,7 +237,7 @@ filter_all P t (p ∷ ps) h = by (t p) (filter_all P t ps h.1)
     by true rest = (h.0, rest)
     by false rest = rest
 
-filter_apart : (t : Pair → Bool) (ps : List Pair) → IsDistinct is_pair ps → IsDistinct is_pair (filter t ps)
+pub filter_apart : (t : Pair → Bool) (ps : List Pair) → IsDistinct is_pair ps → IsDistinct is_pair (filter t ps)
 unfolding IsDistinct
 filter_apart t [] h = h
 filter_apart t (p ∷ ps) h = by (t p) (filter_apart t ps h.1) (filter_all (λ y. is_pair p y ≡ false) t ps h.0)
@@ -251,7 +274,7 @@ module _ {A : Type 0} where
       heads e [] h = h
       heads e (x ∷ es) h = (is_pair_by (held e.1, e.0.items) (held x.1) x.0.items ∙ ap (λ b. is_eq (int_cmp (held e.1) (held x.1)) && b) h.0 ∙ and_false (is_eq (int_cmp (held e.1) (held x.1))), heads e es h.1)
 
-rows_apart : (rows : List Shown) → IsDistinct is_pair (pairs_of rows) → IsDistinct (λ a b. is_pair (pair_of a) (pair_of b)) rows
+pub rows_apart : (rows : List Shown) → IsDistinct is_pair (pairs_of rows) → IsDistinct (λ a b. is_pair (pair_of a) (pair_of b)) rows
 unfolding IsDistinct
 rows_apart [] h = h
 rows_apart (r ∷ rows) h = (heads r rows h.0, rows_apart rows h.1)
@@ -295,8 +318,8 @@ sorted_is_listing t es rows sorted apart is moved up =
     list_any-IsPermutation_back : (q : Pair) → list_any (is_pair q) (pairs_of sorted) ≡ list_any (is_pair q) (pairs_of rows)
     list_any-IsPermutation_back q = sym (list_any-IsPermutation (is_pair q) (pairs_of rows) (pairs_of sorted) (IsPermutation-map pair_of rows sorted moved))
 
--- the listing is as long as the pairs that pass
-len_marks : (ps : List Pair) → IsDistinct is_pair ps → fin.len (fin.from_entries {R = pair_cmp} (marks ps)) ≡ length ps
+-- as many pairs as marks
+pub len_marks : (ps : List Pair) → IsDistinct is_pair ps → fin.len (fin.from_entries {R = pair_cmp} (marks ps)) ≡ length ps
 unfolding IsDistinct
 len_marks [] d = fin.len-empty pair_cmp (Unit {0})
 len_marks (p ∷ ps) d =
@@ -338,28 +361,6 @@ rows_step t es i e z m done more at same value pushed all =
     ap (λ l. l ++ picked t (drop (i + 1) es)) (pushed ∙ ap (λ y. done ++ filter (λ p. t p.0) ((y, m) ∷ [])) value ∙ ap (λ y. done ++ filter (λ p. t p.0) ((held e.1, y) ∷ [])) same)
     ∙ append_assoc done (filter (λ p. t p.0) ((held e.1, e.0.items) ∷ [])) (picked t (drop (i + 1) es)) ∙ ap (λ j. done ++ (filter (λ p. t p.0) ((held e.1, e.0.items) ∷ []) ++ picked t (drop j es))) (add-one i)
     ∙ ap (λ l. done ++ l) (sym (picked_step t es i e at)) ∙ all
-
--- one more entry counted
-pub count_step : {A : Type 0} (t : ℤ → Bool) (es : List (Entry A)) (i n : ℕ) (e : Entry A) (b : Bool) → slice_get es i ≡ Some e → b ≡ t (held e.1) → n + length (picked t (drop i es)) ≡ length (picked t es)
-    → (n + cond b 1 0) + length (picked t (drop (i + 1) es)) ≡ length (picked t es)
-count_step {A = A} t es i n e b at is all =
-    ap (λ j. (n + cond b 1 0) + length (picked t (drop j es))) (add-one i)
-    ∙ ap (λ c. (n + cond c 1 0) + length rest) is ∙ ap (λ k. (n + k) + length rest) (sym (one (held e.1, e.0.items) (t (held e.1))))
-    ∙ add_assoc n (length first) (length rest) ∙ ap (λ k. n + k) (sym (ap length (picked_step t es i e at) ∙ length-append first rest)) ∙ all
-  where
-    rest : List Pair
-    rest = picked t (drop (suc i) es)
-
-    first : List Pair
-    first = filter (λ p. t p.0) ((held e.1, e.0.items) ∷ [])
-
-    one : (x : Pair) (b : Bool) → length (cond b (x ∷ []) []) ≡ cond b 1 0
-    one x true = refl
-    one x false = refl
-
-pub none_left : {A : Type 0} (t : ℤ → Bool) (es : List (Entry A)) (i n : ℕ) → length es ≤ i → n + length (picked t (drop i es)) ≡ length (picked t es) → n ≡ length (picked t es)
-none_left {A = A} t es i n past all =
-    let none : n + 0 ≡ length (picked t es) = ap (λ (l : List (Entry A)). n + length (picked t l)) (sym (drop_of_length-le es past)) ∙ all in omega arith
 
 -- ---- a part of a listing
 pub pairs_from : (z y : ℤ) (ps : List Shown) → lt_z y (pos 0) ≡ false → y ≡ z → nat_abs y < length ps → pairs_of (take (length ps - nat_abs y) (drop (nat_abs y) ps)) ≡ from_offset z (pairs_of ps)

@@ -167,7 +167,8 @@ add_meaning words pairs =
     then increase key (asked_flags options) pairs
     else Some (meanings.Add key (asked_flags options) (has_option (codes "CH") options) pairs)
 
--- what a command asks for, or none where a word is no score, bound, integer or option where one is wanted
+-- what a command asks for, or none where a word is no score, bound or option where one is wanted. It is asked only of
+-- words that no refusal stands against: of a LIMIT with a bad integer it would make no limit
 abbrev pub command_meaning : CommandName → List (List ℕ) → Option Meaning
 command_meaning Ping words = Some (meanings.Ping (slice_get words 1))
 command_meaning Add words = option_and_then (add_meaning words) (pairs_value (add_pairs words))

@@ -11,6 +11,8 @@ pub mod Refused
 pub mod Gathered
 pub mod Listed
 pub mod Owned
+pub mod Edited
+pub mod Readied
 pub mod Outlined
 pub mod Asking
 pub mod Reading

@@ -5,6 +5,7 @@ use Rattle.zset_core.specs.Sets.{Members}
 use Rattle.zset_core.specs.Step.{remove_all}
 use Rattle.zset_core.specs.Kept.{Entry, held, next, members_by, IsWaiting, Grows, bytes_of}
 use Rattle.zset_core.specs.Outlined.{IsOutline}
+use Rattle.zset_core.specs.Edited.{Turns, IsFew}
 use Rattle.zset_core.specs.declared.plan.Plan.{Plan}
 
 -- the set that a commit leaves
@@ -18,6 +19,8 @@ pub record Prepares {A : Type 0} (old new : List (Entry A)) (plan : Plan A) (mem
   pub waiting : IsWaiting plan.touched.items new
   pub members_are : left_by new plan ≡ members
   pub reply_is : response_of plan.reply ≡ reply
+  pub edits_are : Turns (members_by held old) members plan.edits.coming.items plan.edits.leaving.items
+  pub few_edits : IsFew plan.edits
   pub outline_is : IsOutline plan.outline (members_by held old) members
 
 -- the same of what a command makes of a set; no plan is made where it is refused

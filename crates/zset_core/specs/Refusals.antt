@@ -3,7 +3,7 @@ use Rattle.std.specs.Prelude.{ℕ, List, codes}
 use Rattle.zset_core.specs.declared.refusal.Refusal.{Refusal}
 use Rattle.zset_core.specs.declared.refusal.Refusal.TheVariants.{NoMemory, UnknownCommand, WrongArity, Syntax, NxAndXx, GtLtNx, IncrPair, BadScore, BadBound, BadInteger, TableFull, Spent, ScoreOverflow, LogBroken, LogFull, LogRefused, OutOfStep}
 
--- refusals are looked for in the order of their numbers
+-- of 2 to 16 the one with the least number is told; 17 is looked for before 12, and 1 comes wherever a growth is refused
 abbrev pub number_of : Refusal → ℕ
 number_of NoMemory = 1
 number_of UnknownCommand = 2

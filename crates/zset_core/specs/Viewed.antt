@@ -3,7 +3,11 @@ use Rattle.std.specs.Prelude.{ℕ, ◌≤◌, List, length, take, Option, None, 
 use Rattle.std.specs.FinMap as fin
 use Rattle.resp_wire.specs.Response.{response_of}
 use Rattle.zset_core.specs.Kept.{Entry, held, rows_by, members_by, IsSettled, IsWaiting}
+use Rattle.ripple_column.specs.Content.{ColumnState, Holds}
+use Rattle.zset_core.specs.Edited.{HasRoom, TurnsInto}
 use Rattle.zset_core.specs.Planned.{left_by}
+use Rattle.zset_core.specs.Sets.{pairs}
+use Rattle.zset_core.specs.declared.plan.Plan.{Plan}
 use Rattle.zset_core.specs.View.{SetView, Next}
 use Rattle.zset_core.specs.declared.set.Prepared.{Prepared}
 
@@ -14,10 +18,24 @@ abbrev pub view_of : {A : Type 0} → List (Entry A) → Option (Prepared A) →
 view_of entries None = record { members = members_by held entries; next = None }
 view_of entries (Some p) = record { members = fin.from_entries (take p.plan.kept (rows_by held entries)); next = Some (next_of entries p) }
 
+-- a set with nothing prepared: the content of its column is the bag of the members' pairs
+pub record IsIdle {A : Type 0} (entries : List (Entry A)) (column : ColumnState) : Type 0 where
+  pub settled : IsSettled entries
+  pub content : Holds column (pairs (members_by held entries))
+
+-- a set with a plan: the content is the bag of the pairs from before, and the column has room for the edits that
+-- turn it into the bag of those that the commit leaves
+pub record IsPlanned {A : Type 0} (entries : List (Entry A)) (column : ColumnState) (plan : Plan A) : Type 0 where
+  pub kept : plan.kept ≤ length entries
+  pub waiting : IsWaiting plan.touched.items entries
+  pub content : Holds column (pairs (fin.from_entries (take plan.kept (rows_by held entries))))
+  pub turns : TurnsInto column (left_by entries plan) plan.edits
+  pub room : HasRoom column plan.edits
+
 -- what holds of every set
-abbrev pub IsSound : {A : Type 0} → List (Entry A) → Option (Prepared A) → Type 0
-IsSound entries None = IsSettled entries
-IsSound entries (Some p) = (p.plan.kept ≤ length entries) × IsWaiting p.plan.touched.items entries
+abbrev pub IsSound : {A : Type 0} → List (Entry A) → ColumnState → Option (Prepared A) → Type 0
+IsSound entries column None = IsIdle entries column
+IsSound entries column (Some p) = IsPlanned entries column p.plan
 
 -- the number of entries that stand whatever becomes of what is prepared
 abbrev pub kept_of : {A : Type 0} → List (Entry A) → Option (Prepared A) → ℕ

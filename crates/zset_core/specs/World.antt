@@ -1,4 +1,4 @@
--- A world: sorted sets by key. A key whose set is empty is the same as a missing key.
+-- A world: sorted sets by key. Only sets with members are kept, so that worlds with the same members are equal.
 use Rattle.std.specs.Prelude.{ℕ, Bool, if◌then◌else◌, List, Option, None, Some, nat_eq, unwrap_or, option_map, slice_get, find}
 use Rattle.std.specs.Ordering.{is_lt}
 use Rattle.std.specs.FinMap as fin

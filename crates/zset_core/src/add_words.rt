@@ -20,7 +20,8 @@ use std::alloc::{AllocError, Allocator};
 pub fn read_add<A: Allocator + Copy>(alloc: A, words: &[Bytes<A>]) -> Result<Form<A>, Refusal>
     requires enough { 4 ≤ length words.now }
     requires few { length words.now ≤ 1027 }
-    ensures { IsReading words.now (command_conditions names.Add words.now) (command_meaning names.Add words.now) result }
+    ensures { IsReading words.now (command_conditions names.Add words.now)
+        (command_meaning names.Add words.now) result }
 {
     let (options, pairs) = behind_key(words);
     if pairs.is_empty() || pairs.len() % 2 != 0 {
@@ -46,7 +47,9 @@ fn read_increase<A: Allocator>(
     requires few { length options.now ≤ 1027 }
     requires parts { AreAddParts options.now pairs.now flags }
     requires increases { has_option (codes "INCR") options.now ≡ true }
-    ensures { (words : List (List ℕ)) → options.now ≡ add_options words → pairs.now ≡ add_pairs words → IsReading words (command_conditions names.Add words) (command_meaning names.Add words) result }
+    ensures { (words : List (List ℕ)) → options.now ≡ add_options words → pairs.now
+        ≡ add_pairs words → IsReading words (command_conditions names.Add words)
+        (command_meaning names.Add words) result }
 {
     let given = read_given(pairs)?;
     Ok(Form::Increase {
@@ -66,7 +69,9 @@ fn read_pairs<A: Allocator + Copy>(
     requires few { length options.now ≤ 1027 }
     requires parts { AreAddParts options.now pairs.now flags }
     requires puts { has_option (codes "INCR") options.now ≡ false }
-    ensures { (words : List (List ℕ)) → options.now ≡ add_options words → pairs.now ≡ add_pairs words → IsReading words (command_conditions names.Add words) (command_meaning names.Add words) result }
+    ensures { (words : List (List ℕ)) → options.now ≡ add_options words → pairs.now
+        ≡ add_pairs words → IsReading words (command_conditions names.Add words)
+        (command_meaning names.Add words) result }
 {
     let scores = read_scores(alloc, pairs)?;
     Ok(Form::Add {
@@ -137,7 +142,8 @@ fn read_given<A: Allocator>(pairs: &[Bytes<A>]) -> Result<i64, Refusal>
 fn read_scores<A: Allocator + Copy>(alloc: A, pairs: &[Bytes<A>]) -> Result<Vec<i64, A>, Refusal>
     requires { length pairs.now % 2 ≡ 0 }
     ensures ok { IfOk result (λ scores. AreScores pairs.now scores.items) }
-    ensures err { IfErr result (λ refusal. refusal ≢ refusals.NoMemory → (refusal ≡ refusals.BadScore) × (pairs_value pairs.now ≡ None)) }
+    ensures err { IfErr result (λ refusal. refusal ≢ refusals.NoMemory
+        → (refusal ≡ refusals.BadScore) × (pairs_value pairs.now ≡ None)) }
 {
     let mut scores = Vec::with_capacity(alloc, pairs.len() / 2)?;
     let mut rest = pairs;

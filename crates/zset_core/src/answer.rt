@@ -1,20 +1,27 @@
 //! Commands that read a set.
-ghost use Rattle.std.specs.Prelude.{◌≡◌, Some, None, false, slice_get, IfOk, IsSome};
+ghost use Rattle.std.specs.Prelude.{◌≡◌, ◌↔◌, ℤ, Bool, Some, None, false, filter, slice_get, IfOk, IfSome, IsSome};
 ghost use Rattle.std.specs.FinMap as map;
-ghost use Rattle.resp_wire.specs.Response.{response_of};
+ghost use Rattle.crack_kernel.specs.Bags.{SameBag};
+ghost use Rattle.resp_wire.specs.Response.{Array, response_of};
+ghost use Rattle.ripple_column.specs.Content.{Holds, SameContent};
 ghost use Rattle.zset_core.specs.Meaning as Meanings;
 ghost use Rattle.zset_core.specs.Meaning.{is_writing, key_of};
-ghost use Rattle.zset_core.specs.Step.{step};
+ghost use Rattle.zset_core.specs.Readied.{IsReadyFor};
+ghost use Rattle.zset_core.specs.Sets.{Members, listing, pairs};
+ghost use Rattle.zset_core.specs.Step.{elements, limited, step};
 ghost use Rattle.zset_core.specs.Kept.{held, members_by, IsSettled, same_bytes};
 
 use crate::command::Command;
 use crate::form::Form;
-use crate::listing::{count_in, elements_of, limit_to, listing_of};
+use crate::limit::Limit;
+use crate::listing::{elements_of, limit_to, sorted_rows};
 use crate::slot::Slot;
 use crate::stage::{card_of, score_of};
 use crate::told::{tell_count, tell_score};
+use crack_kernel::Row;
 use indexmap::IndexMap;
 use resp_wire::{Bytes, Reply};
+use ripple_column::Column;
 use std::alloc::{AllocError, Allocator};
 use std::hash::BuildHasher;
 
@@ -22,34 +29,90 @@ use std::hash::BuildHasher;
 pub fn answer_from<H: BuildHasher, A: Allocator + Copy>(
     alloc: A,
     members: &IndexMap<Vec<u8, A>, Slot, H, A>,
+    column: &mut Column<A>,
     command: &Command<A>,
 ) -> Result<Reply<A>, AllocError>
     requires reading { is_writing command.now.meaning ≡ false }
     requires keyed { IsSome (key_of command.now.meaning) }
-    ensures { IfOk result (λ reply. step (members_by held members.now.entries) command.now.meaning ≡ Some (members_by held members.now.entries, response_of reply)) }
+    requires content { Holds column.old (pairs (members_by held members.now.entries)) }
+    ensures content { SameContent column.old column.new }
+    ensures reply { IfOk result (λ reply. step (members_by held members.now.entries)
+        command.now.meaning ≡ Some (members_by held members.now.entries, response_of reply)) }
 {
     let words = command.request().words();
     match command.form() {
         Form::Score => tell_score(alloc, score_of(members, words[2].as_slice())),
         Form::Card => Ok(tell_count(card_of(members))),
-        Form::Count { range } => Ok(tell_count(count_in(members, range))),
+        Form::Count { range } => {
+            let (from, to) = column.select(range)?;
+            Ok(tell_count(column.rows(from, to).len()))
+        }
         Form::ListRange {
             range,
             with_scores,
             limit,
         } => {
-            let pairs = listing_of(alloc, members, range)?;
-            let wanted = limit_to(pairs.as_slice(), limit);
-            Ok(Reply::List(elements_of(alloc, wanted, *with_scores)?))
+            let (from, to) = column.select(range)?;
+            list_rows(alloc, column.rows(from, to), limit, *with_scores)
         }
         _ => unreachable!(),
     }
 }
 
+/// The reply to a command that reads the set of its key, where the column need not change for it.
+pub fn ready_from<H: BuildHasher, A: Allocator + Copy>(
+    alloc: A,
+    members: &IndexMap<Vec<u8, A>, Slot, H, A>,
+    column: &Column<A>,
+    command: &Command<A>,
+) -> Option<Result<Reply<A>, AllocError>>
+    requires content { Holds column.now (pairs (members_by held members.now.entries)) }
+    ensures reply { IfSome result
+        (λ answer. IfOk answer (λ reply. step (members_by held members.now.entries)
+        command.now.meaning ≡ Some (members_by held members.now.entries, response_of reply))) }
+    ensures exact { IsSome result ↔ IsReadyFor column.now command.now.meaning }
+{
+    let words = command.request().words();
+    match command.form() {
+        Form::Score => Some(tell_score(alloc, score_of(members, words[2].as_slice()))),
+        Form::Card => Some(Ok(tell_count(card_of(members)))),
+        Form::Count { range } => {
+            let (from, to) = column.ready(range)?;
+            Some(Ok(tell_count(column.rows(from, to).len())))
+        }
+        Form::ListRange {
+            range,
+            with_scores,
+            limit,
+        } => {
+            let (from, to) = column.ready(range)?;
+            Some(list_rows(alloc, column.rows(from, to), limit, *with_scores))
+        }
+        _ => None,
+    }
+}
+
+/// The reply to ZRANGEBYSCORE from the rows of its range.
+fn list_rows<A: Allocator + Copy>(
+    alloc: A,
+    rows: &[Row<A>],
+    limit: &Option<Limit>,
+    with_scores: bool,
+) -> Result<Reply<A>, AllocError>
+    ensures { IfOk result (λ reply. (test : ℤ → Bool) (members : Members)
+        → SameBag rows.now (filter (λ p. test p.0) (pairs members)) → response_of reply
+        ≡ Array (elements with_scores (limited limit.now (listing test members)))) }
+{
+    let sorted = sorted_rows(alloc, rows)?;
+    let wanted = limit_to(sorted.as_slice(), limit);
+    Ok(Reply::List(elements_of(alloc, wanted, with_scores)?))
+}
+
 /// The reply to PING: the text to repeat, or `PONG`.
 pub fn pong<A: Allocator + Copy>(alloc: A, command: &Command<A>) -> Result<Reply<A>, AllocError>
     requires { key_of command.now.meaning ≡ None }
-    ensures { IfOk result (λ reply. step map.empty command.now.meaning ≡ Some (map.empty, response_of reply)) }
+    ensures { IfOk result (λ reply. step map.empty command.now.meaning
+        ≡ Some (map.empty, response_of reply)) }
 {
     match command.form() {
         Form::Ping => echo(alloc, command.request().words()),
@@ -59,7 +122,8 @@ pub fn pong<A: Allocator + Copy>(alloc: A, command: &Command<A>) -> Result<Reply
 
 /// The second word as a bulk string, or `PONG` where there is none.
 fn echo<A: Allocator + Copy>(alloc: A, words: &[Bytes<A>]) -> Result<Reply<A>, AllocError>
-    ensures { IfOk result (λ reply. step map.empty (Meanings.Ping (slice_get words.now 1)) ≡ Some (map.empty, response_of reply)) }
+    ensures { IfOk result (λ reply. step map.empty (Meanings.Ping (slice_get words.now 1))
+        ≡ Some (map.empty, response_of reply)) }
 {
     match words.get(1) {
         None => Ok(Reply::Simple("PONG")),

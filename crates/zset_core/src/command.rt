@@ -40,10 +40,13 @@ impl<A: Allocator + Copy> Command<A> {
     ///
     /// # Errors
     ///
-    /// The first of the refusals 2 to 10 whose condition holds; [`Refusal::NoMemory`] where a growth is refused.
+    /// The first of the refusals 2 to 10 whose condition holds; [`Refusal::NoMemory`] where a
+    /// growth is refused.
     pub fn read(alloc: A, request: Request<A>) -> Result<Self, Refusal>
-        ensures ok { IfOk result (λ command. (command.words ≡ request) × (asked request ≡ Ok command.meaning)) }
-        ensures err { IfErr result (λ refusal. refusal ≢ refusals.NoMemory → asked request ≡ Err refusal) }
+        ensures ok { IfOk result (λ command. (command.words ≡ request)
+            × (asked request ≡ Ok command.meaning)) }
+        ensures err { IfErr result (λ refusal. refusal ≢ refusals.NoMemory → asked request
+            ≡ Err refusal) }
     {
         let form = read_form(alloc, request.words())?;
         Ok(Command { request, form })

@@ -5,8 +5,8 @@ use crate::pair::Flags;
 use score_bounds::Range;
 use std::alloc::Allocator;
 
-/// A command beside its words: places of words, and the numbers that were read, so that running it reads no
-/// text again. Places count the words from the name, which is at 0; the key is at 1.
+/// A command beside its words: places of words, and the numbers that were read, so that running it
+/// reads no text again. Places count the words from the name, which is at 0; the key is at 1.
 #[derive(Drop)]
 #[derive_where(Debug)]
 pub enum Form<A: Allocator> {

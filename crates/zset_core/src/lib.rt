@@ -4,6 +4,7 @@
 mod add_words;
 mod answer;
 mod command;
+mod edits;
 mod form;
 mod gather;
 mod limit;
@@ -30,6 +31,8 @@ pub use pair::{Flags, Outcome};
 pub use refusal::Refusal;
 pub use set::ZSet;
 
+#[cfg(test)]
+mod column_tests;
 #[cfg(test)]
 mod reading_tests;
 #[cfg(test)]

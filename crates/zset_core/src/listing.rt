@@ -1,7 +1,8 @@
 //! Listings: pairs by rising score, equal scores by the bytes of their members.
-ghost use Rattle.std.specs.Prelude.{◌≡◌, ◌<◌, ◌^◌, ◌++◌, ◌∷◌, [], filter, length, OnOk, IfOk};
+ghost use Rattle.std.specs.Prelude.{◌≡◌, ℤ, Bool, ◌++◌, ◌∷◌, [], filter, OnOk, IfOk};
 ghost use Rattle.score_bounds.specs.Bounds.{is_in};
-ghost use Rattle.zset_core.specs.Sets.{listing, whole};
+ghost use Rattle.crack_kernel.specs.Bags.{SameBag};
+ghost use Rattle.zset_core.specs.Sets.{Members, listing, pairs, whole};
 ghost use Rattle.zset_core.specs.Step.{from_offset, at_most, limited, elements};
 ghost use Rattle.zset_core.specs.Kept.{held, members_by};
 ghost use Rattle.zset_core.specs.Listed.{pairs_of, picked};
@@ -23,7 +24,8 @@ fn pick<'a, A: Allocator + Copy>(
     score: i64,
     member: &'a [u8],
 ) -> Result<(), AllocError>
-    ensures { OnOk result (pairs_of picked.new.items ≡ pairs_of picked.old.items ++ filter (λ p. is_in range.now p.0) ((score, member.now) ∷ [])) }
+    ensures { OnOk result (pairs_of picked.new.items ≡ pairs_of picked.old.items
+        ++ filter (λ p. is_in range.now p.0) ((score, member.now) ∷ [])) }
 {
     if range.contains(score) {
         picked.push((score, member))?;
@@ -37,7 +39,8 @@ fn pairs_in<'a, H: BuildHasher, A: Allocator + Copy>(
     members: &'a IndexMap<Vec<u8, A>, Slot, H, A>,
     range: &Range,
 ) -> Result<Vec<(i64, &'a [u8]), A>, AllocError>
-    ensures { IfOk result (λ pairs. pairs_of pairs.items ≡ picked (is_in range.now) members.now.entries) }
+    ensures { IfOk result (λ pairs. pairs_of pairs.items
+        ≡ picked (is_in range.now) members.now.entries) }
 {
     let mut pairs = Vec::new(alloc);
     for place in 0..members.len() {
@@ -55,7 +58,8 @@ pub fn listing_of<'a, H: BuildHasher, A: Allocator + Copy>(
     members: &'a IndexMap<Vec<u8, A>, Slot, H, A>,
     range: &Range,
 ) -> Result<Vec<(i64, &'a [u8]), A>, AllocError>
-    ensures { IfOk result (λ pairs. pairs_of pairs.items ≡ listing (is_in range.now) (members_by held members.now.entries)) }
+    ensures { IfOk result (λ pairs. pairs_of pairs.items
+        ≡ listing (is_in range.now) (members_by held members.now.entries)) }
 {
     let _count = members.len();
     let mut pairs = pairs_in(alloc, members, range)?;
@@ -63,22 +67,33 @@ pub fn listing_of<'a, H: BuildHasher, A: Allocator + Copy>(
     Ok(pairs)
 }
 
-/// The number of members with scores in a range.
-pub fn count_in<H: BuildHasher, A: Allocator + Copy>(
-    members: &IndexMap<Vec<u8, A>, Slot, H, A>,
-    range: &Range,
-) -> usize
-    ensures count { result ≡ length (listing (is_in range.now) (members_by held members.now.entries)) }
-    ensures few { result < 2 ^ 63 }
+/// The scores and the members of rows, where they stand.
+fn shown_rows<'a, A: Allocator + Copy>(
+    alloc: A,
+    rows: &'a [Row<A>],
+) -> Result<Vec<(i64, &'a [u8]), A>, AllocError>
+    ensures { IfOk result (λ shown. pairs_of shown.items ≡ rows.now) }
 {
-    let mut count: usize = 0;
-    for place in 0..members.len() {
-        match members.get_index(place) {
-            None => unreachable!(),
-            Some((_, slot)) => count += usize::from(range.contains(slot.held)),
-        }
+    let mut shown = Vec::new(alloc);
+    for row in rows {
+        shown.push((row.score(), row.member()))?;
     }
-    count
+    Ok(shown)
+}
+
+/// Rows in the order of a listing: where they are the pairs of a set that pass a test, their
+/// listing.
+pub fn sorted_rows<'a, A: Allocator + Copy>(
+    alloc: A,
+    rows: &'a [Row<A>],
+) -> Result<Vec<(i64, &'a [u8]), A>, AllocError>
+    ensures { IfOk result (λ sorted. (test : ℤ → Bool) (members : Members)
+        → SameBag rows.now (filter (λ p. test p.0) (pairs members)) → pairs_of sorted.items
+        ≡ listing test members) }
+{
+    let mut sorted = shown_rows(alloc, rows)?;
+    sorted.sort()?;
+    Ok(sorted)
 }
 
 /// The pairs from an offset on, none where it is negative.
@@ -132,7 +147,8 @@ fn put_elements<A: Allocator + Copy>(
     score: i64,
     member: &[u8],
 ) -> Result<(), AllocError>
-    ensures { OnOk result (list.new.items ≡ list.old.items ++ elements with_scores ((score, member.now) ∷ [])) }
+    ensures { OnOk result (list.new.items ≡ list.old.items
+        ++ elements with_scores ((score, member.now) ∷ [])) }
 {
     list.push(Bytes::new(Vec::from_slice(alloc, member)?))?;
     if with_scores {

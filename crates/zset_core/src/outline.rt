@@ -26,7 +26,8 @@ fn is_moved<H: BuildHasher, A: Allocator + Copy>(
 ) -> bool
     requires { IsWaiting touched.now members.now.entries }
     ensures settled { result ≡ false → IsSettled members.now.entries }
-    ensures moved { result ≡ true → members_by next members.now.entries ≢ members_by held members.now.entries }
+    ensures moved { result ≡ true → members_by next members.now.entries
+        ≢ members_by held members.now.entries }
 {
     let _count = members.len();
     for place in touched {
@@ -46,7 +47,8 @@ pub fn outline_staged<H: BuildHasher, A: Allocator + Copy>(
 ) -> Outline
     requires within { kept ≤ length members.now.entries }
     requires waiting { IsWaiting touched.now members.now.entries }
-    ensures { IsOutline result (members_by held (take kept members.now.entries)) (members_by next members.now.entries) }
+    ensures { IsOutline result (members_by held (take kept members.now.entries))
+        (members_by next members.now.entries) }
 {
     let added = members.len() - kept;
     Outline {

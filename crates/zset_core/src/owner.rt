@@ -28,8 +28,9 @@ use std::marker::Model;
 use std::ops::Bound;
 use std::snapshot::Snapshot;
 
-/// Sorted sets by key, of one owner. A key whose set is empty is the same as a missing key. A contract sees the
-/// world of its sets and, while a command is prepared in one of them, its key with what the commit will leave.
+/// Sorted sets by key, of one owner. A set that loses its last member is gone with its key. A
+/// contract sees the world of its sets and, while a command is prepared in one of them, its key
+/// with what the commit will leave.
 #[derive(Drop)]
 pub struct OneOwner<H: BuildHasher, A: Allocator + Copy> {
     alloc: A,
@@ -71,13 +72,15 @@ impl<H: BuildHasher, A: Allocator + Copy> OneOwner<H, A> {
 }
 
 impl<H: BuildHasher + Clone + Drop, A: Allocator + Copy> OneOwner<H, A> {
-    /// Runs a command. Refused for want of memory, or where a sum of INCR is no score; all sets are then as they
-    /// were.
+    /// Runs a command. Refused for want of memory, or where a sum of INCR is no score; all sets are
+    /// then as they were.
     pub fn run(&mut self, command: &Command<A>) -> Result<Reply<A>, Refusal>
         requires { self.old.next ≡ None }
-        ensures ok { IfOk result (λ reply. act self.old.world command.now.meaning ≡ Some (self.new.world, response_of reply)) }
+        ensures ok { IfOk result (λ reply. act self.old.world command.now.meaning
+            ≡ Some (self.new.world, response_of reply)) }
         ensures err { OnErr result (self.new.world ≡ self.old.world) }
-        ensures refused { IfErr result (λ refusal. IsRefused refusal (act self.old.world command.now.meaning)) }
+        ensures refused { IfErr result
+            (λ refusal. IsRefused refusal (act self.old.world command.now.meaning)) }
         ensures idle { self.new.next ≡ None }
     {
         match command.key() {
@@ -85,16 +88,20 @@ impl<H: BuildHasher + Clone + Drop, A: Allocator + Copy> OneOwner<H, A> {
             Some(key) => run_at(self.alloc, &self.hasher, &mut self.sets, key, command),
         }
     }
-    /// Prepares a command that changes sets in the set of its key: takes all the memory that it needs, and leaves
-    /// all sets as they are until `commit` or `drop_prepared`. Refused for want of memory, or where a sum of INCR
-    /// is no score; nothing is prepared then.
+    /// Prepares a command that changes sets in the set of its key: takes all the memory that it
+    /// needs, and leaves all sets as they are until `commit` or `drop_prepared`. Refused for want
+    /// of memory, or where a sum of INCR is no score; nothing is prepared then.
     pub fn prepare(&mut self, command: &Command<A>) -> Result<Outline, Refusal>
         requires idle { self.old.next ≡ None }
         requires writing { IsTrue (is_writing command.now.meaning) }
         ensures world { self.new.world ≡ self.old.world }
-        ensures ready { OnOk result (IsReadyAt self.old.world (key_of command.now.meaning) command.now.meaning self.new.next) }
-        ensures outline { IfOk result (λ outline. IfSome self.new.next (λ next. IsOutline outline (set_at self.old.world next.0) next.1.members)) }
-        ensures refused { IfErr result (λ refusal. IsRefused refusal (act self.old.world command.now.meaning)) }
+        ensures ready { OnOk result (IsReadyAt self.old.world (key_of command.now.meaning)
+            command.now.meaning self.new.next) }
+        ensures outline { IfOk result
+            (λ outline. IfSome self.new.next
+            (λ next. IsOutline outline (set_at self.old.world next.0) next.1.members)) }
+        ensures refused { IfErr result
+            (λ refusal. IsRefused refusal (act self.old.world command.now.meaning)) }
         ensures err { OnErr result (self.new.next ≡ None) }
     {
         match command.key() {
@@ -107,11 +114,14 @@ impl<H: BuildHasher + Clone + Drop, A: Allocator + Copy> OneOwner<H, A> {
         }
     }
 
-    /// Makes the change that is prepared in the set of the command's key, and gives its reply. It takes no memory.
+    /// Makes the change that is prepared in the set of the command's key, and gives its reply. It
+    /// takes no memory.
     pub fn commit(&mut self, command: &Command<A>) -> Reply<A>
         requires prepared { IsSome self.old.next }
         requires same { option_map (λ next. next.0) self.old.next ≡ key_of command.now.meaning }
-        ensures made { IfSome self.old.next (λ next. (self.new.world ≡ put_set self.old.world next.0 next.1.members) × (response_of result ≡ next.1.reply)) }
+        ensures made { IfSome self.old.next
+            (λ next. (self.new.world ≡ put_set self.old.world next.0 next.1.members)
+            × (response_of result ≡ next.1.reply)) }
         ensures idle { self.new.next ≡ None }
     {
         self.asked = None;
@@ -135,9 +145,11 @@ impl<H: BuildHasher + Clone + Drop, A: Allocator + Copy> OneOwner<H, A> {
         }
     }
 
-    /// The set at a key. None only where it is empty and not prepared.
+    /// The set at a key. Where there is None, the set has no member and nothing is prepared in it.
     pub fn set(&self, key: &[u8]) -> Option<&ZSet<H, A>>
-        ensures { MatchOption result (set_view self.now key.now ≡ record { members = map.empty; next = None }) (λ set. set.now ≡ set_view self.now key.now) }
+        ensures { MatchOption result
+            (set_view self.now key.now ≡ record { members = map.empty; next = None })
+            (λ set. set.now ≡ set_view self.now key.now) }
     {
         self.sets.get(key)
     }
@@ -157,11 +169,13 @@ impl<H: BuildHasher + Clone + Drop, A: Allocator + Copy> OneOwner<H, A> {
         nth_key(&self.sets, index)
     }
 
-    /// The first of the keys whose sets are not empty, or the next one behind such a key, in byte order.
+    /// The first of the keys whose sets are not empty, or the next one behind such a key, in byte
+    /// order.
     pub fn key_after(&self, key: Option<&[u8]>) -> Option<&[u8]>
         requires idle { self.now.next ≡ None }
         requires present { IfSome (option_copied key) (λ key. IsSome (map.get self.now.world key)) }
-        ensures { option_copied result ≡ key_behind (map.keys self.now.world) (option_copied key.entry) }
+        ensures { option_copied result
+            ≡ key_behind (map.keys self.now.world) (option_copied key.entry) }
     {
         match key {
             None => first_key(&self.sets),
@@ -169,8 +183,8 @@ impl<H: BuildHasher + Clone + Drop, A: Allocator + Copy> OneOwner<H, A> {
         }
     }
 
-    /// All pairs of the set at a key, by rising score, equal scores by the bytes of their members. Refused for want
-    /// of memory alone.
+    /// All pairs of the set at a key, by rising score, equal scores by the bytes of their members.
+    /// Refused for want of memory alone.
     pub fn pairs(&self, key: &[u8]) -> Result<Vec<Row<A>, A>, AllocError>
         requires { self.now.next ≡ None }
         ensures { IfOk result (λ rows. rows.items ≡ whole (set_at self.now.world key.now)) }
@@ -189,9 +203,11 @@ fn run_set<H: BuildHasher, A: Allocator + Copy>(
 ) -> Result<Reply<A>, Refusal>
     requires idle { set.old.next ≡ None }
     requires keyed { IsSome (key_of command.now.meaning) }
-    ensures ok { IfOk result (λ reply. step set.old.members command.now.meaning ≡ Some (set.new.members, response_of reply)) }
+    ensures ok { IfOk result (λ reply. step set.old.members command.now.meaning
+        ≡ Some (set.new.members, response_of reply)) }
     ensures err { OnErr result (set.new.members ≡ set.old.members) }
-    ensures refused { IfErr result (λ refusal. IsRefused refusal (step set.old.members command.now.meaning)) }
+    ensures refused { IfErr result
+        (λ refusal. IsRefused refusal (step set.old.members command.now.meaning)) }
     ensures idle { set.new.next ≡ None }
 {
     if command.writes() {
@@ -228,9 +244,12 @@ fn run_absent<H: BuildHasher + Clone + Drop, A: Allocator + Copy>(
     requires keyed { key_of command.now.meaning ≡ Some key.now }
     requires absent { set_in sets.old.entries key.now ≡ None }
     requires rest { AllRest sets.old.entries }
-    ensures ok { IfOk result (λ reply. act_at (world_of sets.old.entries) (Some key.now) command.now.meaning ≡ Some (world_of sets.new.entries, response_of reply)) }
+    ensures ok { IfOk result (λ reply. act_at (world_of sets.old.entries) (Some key.now)
+        command.now.meaning ≡ Some (world_of sets.new.entries, response_of reply)) }
     ensures err { OnErr result (world_of sets.new.entries ≡ world_of sets.old.entries) }
-    ensures refused { IfErr result (λ refusal. IsRefused refusal (act_at (world_of sets.old.entries) (Some key.now) command.now.meaning)) }
+    ensures refused { IfErr result
+        (λ refusal. IsRefused refusal
+        (act_at (world_of sets.old.entries) (Some key.now) command.now.meaning)) }
     ensures rest { AllRest sets.new.entries }
 {
     let mut set = ZSet::with_hasher(alloc, hasher.clone()?);
@@ -252,9 +271,12 @@ fn run_at<H: BuildHasher + Clone + Drop, A: Allocator + Copy>(
 ) -> Result<Reply<A>, Refusal>
     requires keyed { key_of command.now.meaning ≡ Some key.now }
     requires rest { AllRest sets.old.entries }
-    ensures ok { IfOk result (λ reply. act_at (world_of sets.old.entries) (Some key.now) command.now.meaning ≡ Some (world_of sets.new.entries, response_of reply)) }
+    ensures ok { IfOk result (λ reply. act_at (world_of sets.old.entries) (Some key.now)
+        command.now.meaning ≡ Some (world_of sets.new.entries, response_of reply)) }
     ensures err { OnErr result (world_of sets.new.entries ≡ world_of sets.old.entries) }
-    ensures refused { IfErr result (λ refusal. IsRefused refusal (act_at (world_of sets.old.entries) (Some key.now) command.now.meaning)) }
+    ensures refused { IfErr result
+        (λ refusal. IsRefused refusal
+        (act_at (world_of sets.old.entries) (Some key.now) command.now.meaning)) }
     ensures rest { AllRest sets.new.entries }
 {
     match sets.get_mut(key) {
@@ -281,10 +303,15 @@ fn prepare_absent<H: BuildHasher + Clone + Drop, A: Allocator + Copy>(
     requires absent { set_in sets.old.entries key.now ≡ None }
     requires rest { AllRest sets.old.entries }
     ensures world { world_of sets.new.entries ≡ world_of sets.old.entries }
-    ensures ready { OnOk result (IsReadyAt (world_of sets.old.entries) (Some key.now) command.now.meaning (next_at sets.new.entries (Some key.now))) }
-    ensures outline { IfOk result (λ outline. IfSome (next_at sets.new.entries (Some key.now)) (λ next. IsOutline outline (set_at (world_of sets.old.entries) next.0) next.1.members)) }
+    ensures ready { OnOk result (IsReadyAt (world_of sets.old.entries) (Some key.now)
+        command.now.meaning (next_at sets.new.entries (Some key.now))) }
+    ensures outline { IfOk result
+        (λ outline. IfSome (next_at sets.new.entries (Some key.now))
+        (λ next. IsOutline outline (set_at (world_of sets.old.entries) next.0) next.1.members)) }
     ensures others { OthersRest key.now sets.new.entries }
-    ensures refused { IfErr result (λ refusal. IsRefused refusal (act_at (world_of sets.old.entries) (Some key.now) command.now.meaning)) }
+    ensures refused { IfErr result
+        (λ refusal. IsRefused refusal
+        (act_at (world_of sets.old.entries) (Some key.now) command.now.meaning)) }
     ensures err { OnErr result (AllRest sets.new.entries) }
 {
     let mut set = ZSet::with_hasher(alloc, hasher.clone()?);
@@ -304,10 +331,15 @@ fn prepare_at<H: BuildHasher + Clone + Drop, A: Allocator + Copy>(
     requires writing { IsTrue (is_writing command.now.meaning) }
     requires rest { AllRest sets.old.entries }
     ensures world { world_of sets.new.entries ≡ world_of sets.old.entries }
-    ensures ready { OnOk result (IsReadyAt (world_of sets.old.entries) (Some key.now) command.now.meaning (next_at sets.new.entries (Some key.now))) }
-    ensures outline { IfOk result (λ outline. IfSome (next_at sets.new.entries (Some key.now)) (λ next. IsOutline outline (set_at (world_of sets.old.entries) next.0) next.1.members)) }
+    ensures ready { OnOk result (IsReadyAt (world_of sets.old.entries) (Some key.now)
+        command.now.meaning (next_at sets.new.entries (Some key.now))) }
+    ensures outline { IfOk result
+        (λ outline. IfSome (next_at sets.new.entries (Some key.now))
+        (λ next. IsOutline outline (set_at (world_of sets.old.entries) next.0) next.1.members)) }
     ensures others { OthersRest key.now sets.new.entries }
-    ensures refused { IfErr result (λ refusal. IsRefused refusal (act_at (world_of sets.old.entries) (Some key.now) command.now.meaning)) }
+    ensures refused { IfErr result
+        (λ refusal. IsRefused refusal
+        (act_at (world_of sets.old.entries) (Some key.now) command.now.meaning)) }
     ensures err { OnErr result (AllRest sets.new.entries) }
 {
     match sets.get_mut(key) {
@@ -323,7 +355,10 @@ fn commit_at<H: BuildHasher + Drop, A: Allocator + Copy>(
 ) -> Reply<A>
     requires prepared { IsSome (next_at sets.old.entries (Some key.now)) }
     requires others { OthersRest key.now sets.old.entries }
-    ensures made { IfSome (next_at sets.old.entries (Some key.now)) (λ next. (world_of sets.new.entries ≡ put_set (world_of sets.old.entries) key.now next.1.members) × (response_of result ≡ next.1.reply)) }
+    ensures made { IfSome (next_at sets.old.entries (Some key.now))
+        (λ next. (world_of sets.new.entries
+        ≡ put_set (world_of sets.old.entries) key.now next.1.members)
+        × (response_of result ≡ next.1.reply)) }
     ensures rest { AllRest sets.new.entries }
 {
     match sets.get_mut(key) {
@@ -361,7 +396,8 @@ fn nth_key<H: BuildHasher, A: Allocator + Copy>(
     sets: &BTreeMap<Vec<u8, A>, ZSet<H, A>, A>,
     index: usize,
 ) -> Option<&[u8]>
-    ensures key { option_copied result ≡ option_map (λ key. key.items) (slice_get (keys_of sets.now.entries) index) }
+    ensures key { option_copied result
+        ≡ option_map (λ key. key.items) (slice_get (keys_of sets.now.entries) index) }
     ensures ordered { IsRising sets.now.entries }
 {
     let mut keys = sets.keys();

@@ -1,15 +1,19 @@
 //! What is prepared in a set, and how the plan for it is made.
-ghost use Rattle.std.specs.Prelude.{◌≡◌, ◌*◌, ◌-◌, ◌<◌, length, pos, IfOk, IfErr, OnOk, OnErr, IsTrue};
+ghost use Rattle.std.specs.Prelude.{◌≡◌, ◌*◌, ◌-◌, ◌<◌, ◌≤◌, length, take, pos, IfOk, IfErr, OnOk, OnErr, IsTrue};
 ghost use Rattle.std.specs.FinMap as map;
 ghost use Rattle.resp_wire.specs.Response.{Integer, response_of};
 ghost use Rattle.zset_core.specs.Step.{outcome_of, put_one, put_all, count_all, remove_all, told, increase, step};
 ghost use Rattle.zset_core.specs.Meaning.{is_writing};
 ghost use Rattle.zset_core.specs.Form.{scored};
-ghost use Rattle.zset_core.specs.Kept.{held, next, members_by, IsSettled, IsBack, IsWaiting, Grows};
+ghost use Rattle.ripple_column.specs.Content.{Holds, SameContent};
+ghost use Rattle.zset_core.specs.Edited.{HasRoom, IsFew, Notes, TurnsInto, most_edits};
+ghost use Rattle.zset_core.specs.Kept.{held, next, rows_by, members_by, IsSettled, IsBack, IsWaiting, Grows};
+ghost use Rattle.zset_core.specs.Sets.{pairs};
 ghost use Rattle.zset_core.specs.Planned.{Prepares, Plans, left_by};
 ghost use Rattle.zset_core.specs.Refused.{IsRefused};
 
 use crate::command::Command;
+use crate::edits::{Edits, make_edits};
 use crate::form::Form;
 use crate::gather::gather;
 use crate::outline::{Outline, outline_staged};
@@ -20,6 +24,7 @@ use crate::stage::{roll_back, score_of, settle, stage_all, stage_one, take_out};
 use crate::told::{tell, tell_count};
 use indexmap::IndexMap;
 use resp_wire::{Bytes, Reply};
+use ripple_column::Column;
 use std::alloc::{AllocError, Allocator};
 use std::hash::BuildHasher;
 
@@ -32,6 +37,8 @@ pub struct Plan<A: Allocator> {
     pub touched: Vec<usize, A>,
     /// The members that leave.
     pub removed: Vec<Vec<u8, A>, A>,
+    /// The rows that come into the column and that leave it.
+    pub edits: Edits<A>,
     pub reply: Reply<A>,
     pub outline: Outline,
 }
@@ -47,18 +54,33 @@ pub fn plan_add<H: BuildHasher, A: Allocator + Copy>(
 ) -> Result<Plan<A>, AllocError>
     requires settled { IsSettled members.old.entries }
     requires pairs { length words.now ≡ 2 * length scores.now }
-    ensures ok { IfOk result (λ plan. Prepares members.old.entries members.new.entries plan (put_all flags (members_by held members.old.entries) (scored scores.now words.now)) (Integer (pos (count_all flags changed (members_by held members.old.entries) (scored scores.now words.now))))) }
+    requires few { length scores.now ≤ most_edits }
+    ensures ok { IfOk result (λ plan. Prepares members.old.entries members.new.entries plan
+        (put_all flags (members_by held members.old.entries) (scored scores.now words.now))
+        (Integer (pos (count_all flags changed (members_by held members.old.entries)
+        (scored scores.now words.now))))) }
     ensures err { OnErr result (IsBack members.old.entries members.new.entries) }
 {
     let kept = members.len();
     let mut touched = Vec::new(alloc);
-    match stage_all(alloc, members, &mut touched, flags, changed, scores, words) {
+    let mut edits = Edits::none(alloc);
+    match stage_all(
+        alloc,
+        members,
+        &mut touched,
+        &mut edits,
+        flags,
+        changed,
+        scores,
+        words,
+    ) {
         Ok(count) => {
             let outline = outline_staged(members, touched.as_slice(), kept);
             Ok(Plan {
                 kept,
                 touched,
                 removed: Vec::new(alloc),
+                edits,
                 reply: Reply::Int(count as i64),
                 outline,
             })
@@ -75,17 +97,23 @@ fn stage_told<H: BuildHasher, A: Allocator + Copy>(
     alloc: A,
     members: &mut IndexMap<Vec<u8, A>, Slot, H, A>,
     touched: &mut Vec<usize, A>,
+    edits: &mut Edits<A>,
     flags: Flags,
     score: i64,
     member: &[u8],
 ) -> Result<Reply<A>, AllocError>
     requires { IsWaiting touched.old.items members.old.entries }
-    ensures reply { IfOk result (λ reply. response_of reply ≡ told (outcome_of flags (map.get (members_by next members.old.entries) member.now) score) score) }
-    ensures next { OnOk result (members_by next members.new.entries ≡ put_one flags (members_by next members.old.entries) member.now score) }
+    ensures reply { IfOk result (λ reply. response_of reply
+        ≡ told (outcome_of flags (map.get (members_by next members.old.entries) member.now) score)
+        score) }
+    ensures next { OnOk result (members_by next members.new.entries
+        ≡ put_one flags (members_by next members.old.entries) member.now score) }
+    ensures edits { OnOk result (Notes 1 (members_by next members.old.entries)
+        (members_by next members.new.entries) edits.old edits.new) }
     ensures grows { Grows members.old.entries members.new.entries }
     ensures waiting { IsWaiting touched.new.items members.new.entries }
 {
-    let what = stage_one(alloc, members, touched, flags, score, member)?;
+    let what = stage_one(alloc, members, touched, edits, flags, score, member)?;
     tell(alloc, what, score)
 }
 
@@ -98,18 +126,31 @@ fn plan_score<H: BuildHasher, A: Allocator + Copy>(
     member: &[u8],
 ) -> Result<Plan<A>, AllocError>
     requires { IsSettled members.old.entries }
-    ensures ok { IfOk result (λ plan. Prepares members.old.entries members.new.entries plan (put_one flags (members_by held members.old.entries) member.now score) (told (outcome_of flags (map.get (members_by held members.old.entries) member.now) score) score)) }
+    ensures ok { IfOk result (λ plan. Prepares members.old.entries members.new.entries plan
+        (put_one flags (members_by held members.old.entries) member.now score)
+        (told (outcome_of flags (map.get (members_by held members.old.entries) member.now) score)
+        score)) }
     ensures err { OnErr result (IsBack members.old.entries members.new.entries) }
 {
     let kept = members.len();
     let mut touched = Vec::new(alloc);
-    match stage_told(alloc, members, &mut touched, flags, score, member) {
+    let mut edits = Edits::none(alloc);
+    match stage_told(
+        alloc,
+        members,
+        &mut touched,
+        &mut edits,
+        flags,
+        score,
+        member,
+    ) {
         Ok(reply) => {
             let outline = outline_staged(members, touched.as_slice(), kept);
             Ok(Plan {
                 kept,
                 touched,
                 removed: Vec::new(alloc),
+                edits,
                 reply,
                 outline,
             })
@@ -128,12 +169,14 @@ fn plan_nothing<H: BuildHasher, A: Allocator + Copy>(
     reply: Reply<A>,
 ) -> Plan<A>
     requires { IsSettled members.now.entries }
-    ensures { Prepares members.now.entries members.now.entries result (members_by held members.now.entries) (response_of reply) }
+    ensures { Prepares members.now.entries members.now.entries result
+        (members_by held members.now.entries) (response_of reply) }
 {
     Plan {
         kept: members.len(),
         touched: Vec::new(alloc),
         removed: Vec::new(alloc),
+        edits: Edits::none(alloc),
         reply,
         outline: Outline {
             added: 0,
@@ -152,9 +195,12 @@ pub fn plan_increase<H: BuildHasher, A: Allocator + Copy>(
     member: &[u8],
 ) -> Result<Plan<A>, Refusal>
     requires { IsSettled members.old.entries }
-    ensures ok { IfOk result (λ plan. Plans members.old.entries members.new.entries plan (increase flags (members_by held members.old.entries) member.now given)) }
+    ensures ok { IfOk result (λ plan. Plans members.old.entries members.new.entries plan
+        (increase flags (members_by held members.old.entries) member.now given)) }
     ensures err { OnErr result (IsBack members.old.entries members.new.entries) }
-    ensures refused { IfErr result (λ refusal. IsRefused refusal (increase flags (members_by held members.old.entries) member.now given)) }
+    ensures refused { IfErr result
+        (λ refusal. IsRefused refusal
+        (increase flags (members_by held members.old.entries) member.now given)) }
 {
     let old = score_of(members, member);
     if flags.bars(old) {
@@ -172,15 +218,21 @@ pub fn plan_remove<H: BuildHasher, A: Allocator + Copy>(
     members: &IndexMap<Vec<u8, A>, Slot, H, A>,
     names: &[Bytes<A>],
 ) -> Result<Plan<A>, AllocError>
-    requires { IsSettled members.now.entries }
-    ensures { IfOk result (λ plan. Prepares members.now.entries members.now.entries plan (remove_all (members_by held members.now.entries) names.now) (Integer (pos (map.len (members_by held members.now.entries) - map.len (remove_all (members_by held members.now.entries) names.now))))) }
+    requires settled { IsSettled members.now.entries }
+    requires few { length names.now ≤ most_edits }
+    ensures { IfOk result (λ plan. Prepares members.now.entries members.now.entries plan
+        (remove_all (members_by held members.now.entries) names.now)
+        (Integer (pos (map.len (members_by held members.now.entries)
+        - map.len (remove_all (members_by held members.now.entries) names.now))))) }
 {
-    let removed = gather(alloc, members, names)?;
+    let mut edits = Edits::none(alloc);
+    let removed = gather(alloc, members, &mut edits, names)?;
     let count = removed.len();
     Ok(Plan {
         kept: members.len(),
         touched: Vec::new(alloc),
         removed,
+        edits,
         reply: tell_count(count),
         outline: Outline {
             added: 0,
@@ -191,16 +243,19 @@ pub fn plan_remove<H: BuildHasher, A: Allocator + Copy>(
 }
 
 /// The plan of a command that changes sets. Where it is refused the entries are what they were.
-pub fn plan_for<H: BuildHasher, A: Allocator + Copy>(
+fn plan_for<H: BuildHasher, A: Allocator + Copy>(
     alloc: A,
     members: &mut IndexMap<Vec<u8, A>, Slot, H, A>,
     command: &Command<A>,
 ) -> Result<Plan<A>, Refusal>
     requires settled { IsSettled members.old.entries }
     requires writing { IsTrue (is_writing command.now.meaning) }
-    ensures ok { IfOk result (λ plan. Plans members.old.entries members.new.entries plan (step (members_by held members.old.entries) command.now.meaning)) }
+    ensures ok { IfOk result (λ plan. Plans members.old.entries members.new.entries plan
+        (step (members_by held members.old.entries) command.now.meaning)) }
     ensures err { OnErr result (IsBack members.old.entries members.new.entries) }
-    ensures refused { IfErr result (λ refusal. IsRefused refusal (step (members_by held members.old.entries) command.now.meaning)) }
+    ensures refused { IfErr result
+        (λ refusal. IsRefused refusal
+        (step (members_by held members.old.entries) command.now.meaning)) }
 {
     let words = command.request().words();
     match command.form() {
@@ -223,17 +278,83 @@ pub fn plan_for<H: BuildHasher, A: Allocator + Copy>(
     }
 }
 
-/// What the plan says is done to the entries. It takes no memory.
-pub fn carry_out<H: BuildHasher, A: Allocator + Copy>(
+/// Makes room in the column for the edits of a plan. Where it is refused the entries are what they
+/// were before it, and the column holds what it held.
+fn make_room<H: BuildHasher, A: Allocator + Copy>(
+    members: &mut IndexMap<Vec<u8, A>, Slot, H, A>,
+    column: &mut Column<A>,
+    plan: Plan<A>,
+) -> Result<Plan<A>, AllocError>
+    requires waiting { IsWaiting plan.touched.items members.old.entries }
+    requires few { IsFew plan.edits }
+    ensures content { SameContent column.old column.new }
+    ensures ok { IfOk result (λ kept. (kept ≡ plan) × (members.new ≡ members.old)) }
+    ensures room { OnOk result (HasRoom column.new plan.edits) }
+    ensures held { OnErr result (rows_by held members.new.entries
+        ≡ take plan.kept (rows_by held members.old.entries)) }
+    ensures settled { OnErr result (IsSettled members.new.entries) }
+{
+    match column.reserve_write(plan.edits.room()) {
+        Ok(()) => Ok(plan),
+        Err(refused) => {
+            let_go(members, plan);
+            Err(refused)
+        }
+    }
+}
+
+/// The plan of a command that changes sets, with room in the column for its edits. Where it is
+/// refused the entries are what they were, and the column holds what it held.
+pub fn make_plan<H: BuildHasher, A: Allocator + Copy>(
+    alloc: A,
+    members: &mut IndexMap<Vec<u8, A>, Slot, H, A>,
+    column: &mut Column<A>,
+    command: &Command<A>,
+) -> Result<Plan<A>, Refusal>
+    requires settled { IsSettled members.old.entries }
+    requires writing { IsTrue (is_writing command.now.meaning) }
+    ensures ok { IfOk result (λ plan. Plans members.old.entries members.new.entries plan
+        (step (members_by held members.old.entries) command.now.meaning)) }
+    ensures room { IfOk result (λ plan. HasRoom column.new plan.edits) }
+    ensures content { SameContent column.old column.new }
+    ensures err { OnErr result (IsBack members.old.entries members.new.entries) }
+    ensures refused { IfErr result
+        (λ refusal. IsRefused refusal
+        (step (members_by held members.old.entries) command.now.meaning)) }
+{
+    let plan = plan_for(alloc, members, command)?;
+    Ok(make_room(members, column, plan)?)
+}
+
+/// A plan is let go: the entries become what they were before it. It takes no memory.
+pub fn let_go<H: BuildHasher, A: Allocator + Copy>(
     members: &mut IndexMap<Vec<u8, A>, Slot, H, A>,
     plan: Plan<A>,
-) -> Reply<A>
+)
     requires { IsWaiting plan.touched.items members.old.entries }
+    ensures held { rows_by held members.new.entries
+        ≡ take plan.kept (rows_by held members.old.entries) }
+    ensures settled { IsSettled members.new.entries }
+{
+    roll_back(members, plan.touched.as_slice(), plan.kept);
+}
+
+/// What the plan says is done to the entries and to the column. It takes no memory.
+pub fn carry_out<H: BuildHasher, A: Allocator + Copy>(
+    members: &mut IndexMap<Vec<u8, A>, Slot, H, A>,
+    column: &mut Column<A>,
+    plan: Plan<A>,
+) -> Reply<A>
+    requires waiting { IsWaiting plan.touched.items members.old.entries }
+    requires room { HasRoom column.old plan.edits }
+    requires turns { TurnsInto column.old (left_by members.old.entries plan) plan.edits }
     ensures members { members_by held members.new.entries ≡ left_by members.old.entries plan }
     ensures settled { IsSettled members.new.entries }
+    ensures content { Holds column.new (pairs (left_by members.old.entries plan)) }
     ensures reply { result ≡ plan.reply }
 {
     settle(members, plan.touched.as_slice());
     take_out(members, plan.removed.as_slice());
+    make_edits(column, plan.edits);
     plan.reply
 }

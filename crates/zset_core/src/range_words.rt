@@ -26,7 +26,8 @@ pub struct RangeChoice {
 /// Reads ZCOUNT.
 pub fn read_count<A: Allocator>(words: &[Bytes<A>]) -> Result<Form<A>, Refusal>
     requires { length words.now ≡ 4 }
-    ensures { IsReading words.now (command_conditions names.Count words.now) (command_meaning names.Count words.now) result }
+    ensures { IsReading words.now (command_conditions names.Count words.now)
+        (command_meaning names.Count words.now) result }
 {
     let range = read_range(words).ok_or(Refusal::BadBound)?;
     Ok(Form::Count { range })
@@ -35,7 +36,8 @@ pub fn read_count<A: Allocator>(words: &[Bytes<A>]) -> Result<Form<A>, Refusal>
 /// Reads ZRANGEBYSCORE.
 pub fn read_list_range<A: Allocator>(words: &[Bytes<A>]) -> Result<Form<A>, Refusal>
     requires { 4 ≤ length words.now }
-    ensures { IsReading words.now (command_conditions names.ListRange words.now) (command_meaning names.ListRange words.now) result }
+    ensures { IsReading words.now (command_conditions names.ListRange words.now)
+        (command_meaning names.ListRange words.now) result }
 {
     let choice = read_choice(&words[4..]).ok_or(Refusal::Syntax)?;
     let range = read_range(words).ok_or(Refusal::BadBound)?;
@@ -81,7 +83,8 @@ fn read_choice<A: Allocator>(words: &[Bytes<A>]) -> Option<RangeChoice>
 
 // The choice once a LIMIT was read, by the limit of its words.
 fn limited(choice: &RangeChoice, limit: Option<Limit>) -> RangeChoice
-    ensures { result ≡ record choice.now { limit = limit; has_bad_limit = choice.now.has_bad_limit || is_none limit } }
+    ensures { result ≡ record choice.now
+        { limit = limit; has_bad_limit = choice.now.has_bad_limit || is_none limit } }
 {
     RangeChoice {
         with_scores: choice.with_scores,

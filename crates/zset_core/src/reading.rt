@@ -53,7 +53,8 @@ fn read_named<A: Allocator + Copy>(
 ) -> Result<Form<A>, Refusal>
     requires arity { has_arity name (length words.now) ≡ true }
     requires few { length words.now ≤ 1027 }
-    ensures { IsReading words.now (command_conditions name words.now) (command_meaning name words.now) result }
+    ensures { IsReading words.now (command_conditions name words.now)
+        (command_meaning name words.now) result }
 {
     match name {
         CommandName::Ping => Ok(Form::Ping),

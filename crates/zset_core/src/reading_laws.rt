@@ -10,8 +10,9 @@ pub fn unrefused_requests()
     ensures { (words : List (List ℕ)) → refusal_of words ≡ None → IsSome (meaning words) }
 {}
 
-/// The conditions of a request stand by rising numbers of their refusals, so the first that holds has the
-/// least number.
+/// The conditions of a request stand by rising numbers of their refusals, so the first that holds
+/// has the least number.
 pub fn condition_order()
-    ensures { (words : List (List ℕ)) → IsStrictlyIncreasing (map (λ c. number_of c.1) (conditions words)) }
+    ensures { (words : List (List ℕ))
+        → IsStrictlyIncreasing (map (λ c. number_of c.1) (conditions words)) }
 {}

@@ -7,8 +7,9 @@ ghost use Rattle.zset_core.specs.declared.refusal.Refusal.TheVariants as refusal
 use std::alloc::AllocError;
 use thiserror::Error;
 
-/// Why a command is refused, in the order in which the causes are looked for. After a refusal the members of
-/// every set are as they were. The texts and numbers are this project's own.
+/// Why a command is refused. No refusal changes a member or a score of any set. Of the causes 2 to
+/// 16 that hold the one with the least number is told; `OutOfStep` is looked for before `Spent`,
+/// and `NoMemory` comes wherever a growth is refused. Numbers and texts are this project's own.
 #[derive(Clone, Copy, Debug, PartialEq, Eq, Error)]
 pub enum Refusal {
     /// A growth was refused at that point of the work.

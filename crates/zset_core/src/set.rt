@@ -7,22 +7,24 @@ ghost use Rattle.zset_core.specs.Viewed.{kept_of};
 ghost use Rattle.zset_core.specs.Meaning.{is_writing, key_of};
 ghost use Rattle.zset_core.specs.Outlined.{IsOutline};
 ghost use Rattle.zset_core.specs.Refused.{IsRefused};
-ghost use Rattle.zset_core.specs.Sets.{whole};
+ghost use Rattle.ripple_column.specs.Content.{Holds};
+ghost use Rattle.zset_core.specs.Readied.{is_ranged};
+ghost use Rattle.zset_core.specs.Sets.{pairs, whole};
 ghost use Rattle.zset_core.specs.Step.{step};
 ghost use Rattle.zset_core.specs.View.{IsReady};
 ghost use Rattle.resp_wire.specs.Response.{response_of};
 
-use crate::answer::answer_from;
+use crate::answer::{answer_from, ready_from};
 use crate::command::Command;
 use crate::listing::all_rows;
 use crate::outline::Outline;
-use crate::plan::{Plan, carry_out, plan_for};
+use crate::plan::{Plan, carry_out, let_go, make_plan};
 use crate::refusal::Refusal;
 use crate::slot::Slot;
-use crate::stage::roll_back;
 use crack_kernel::Row;
 use indexmap::IndexMap;
 use resp_wire::Reply;
+use ripple_column::Column;
 use std::alloc::{AllocError, Allocator};
 use std::hash::BuildHasher;
 use std::marker::Model;
@@ -35,12 +37,17 @@ struct Prepared<A: Allocator> {
     plan: Plan<A>,
 }
 
-/// A sorted set: members with scores. While a command is prepared in it, the members are those from before,
-/// and a contract sees beside them what the commit will leave and reply.
+/// A sorted set: members with scores. While a command is prepared in it, the members are those from
+/// before, and a contract sees beside them what the commit will leave and reply.
+///
+/// It keeps its pairs twice: in a map from members to scores, and in a column of rows that the
+/// ranges asked for crack. The content of the column is the bag of the members' pairs at every time
+/// between two calls.
 #[derive(Drop)]
 pub struct ZSet<H: BuildHasher, A: Allocator + Copy> {
     alloc: A,
     members: IndexMap<Vec<u8, A>, Slot, H, A>,
+    column: Column<A>,
     prepared: Option<Prepared<A>>,
 }
 
@@ -58,7 +65,7 @@ impl<H: BuildHasher, A: Allocator + Copy> Model for ZSet<H, A> {
 
     ghost view = { λ z. view_of z.members.entries z.prepared };
 
-    ghost invariant = { λ z. IsSound z.members.entries z.prepared };
+    ghost invariant = { λ z. IsSound z.members.entries z.column z.prepared };
 }
 
 impl<H: BuildHasher, A: Allocator + Copy> ZSet<H, A> {
@@ -70,6 +77,7 @@ impl<H: BuildHasher, A: Allocator + Copy> ZSet<H, A> {
         ZSet {
             alloc,
             members: IndexMap::with_hasher(alloc, hasher),
+            column: Column::new(alloc),
             prepared: None,
         }
     }
@@ -96,19 +104,46 @@ impl<H: BuildHasher, A: Allocator + Copy> ZSet<H, A> {
         self.prepared.is_some()
     }
 
-    /// Answers a command that reads the set of its key: ZSCORE, ZCARD, ZCOUNT, ZRANGEBYSCORE. Refused for want
-    /// of memory alone.
+    /// Answers a command that reads the set of its key: ZSCORE, ZCARD, ZCOUNT, ZRANGEBYSCORE.
+    /// Refused for want of memory alone.
     pub fn answer(&mut self, command: &Command<A>) -> Result<Reply<A>, AllocError>
         requires idle { self.old.next ≡ None }
         requires reading { is_writing command.now.meaning ≡ false }
         requires keyed { IsSome (key_of command.now.meaning) }
-        ensures reply { IfOk result (λ reply. step self.old.members command.now.meaning ≡ Some (self.old.members, response_of reply)) }
+        ensures reply { IfOk result (λ reply. step self.old.members command.now.meaning
+            ≡ Some (self.old.members, response_of reply)) }
         ensures same { self.new ≡ self.old }
     {
-        answer_from(self.alloc, &self.members, command)
+        answer_from(self.alloc, &self.members, &mut self.column, command)
     }
 
-    /// All pairs by rising score, equal scores by the bytes of their members. Refused for want of memory alone.
+    /// The reply to a command that reads the set of its key, where the set can give it as it
+    /// stands: as `answer` gives it. None for a command that changes sets, and where a range is
+    /// asked for that the column is not ready for: a cut of it is no pivot, or a change of its rows
+    /// waits.
+    pub fn ready(&self, command: &Command<A>) -> Option<Result<Reply<A>, AllocError>>
+        requires idle { self.now.next ≡ None }
+        requires keyed { IsSome (key_of command.now.meaning) }
+        ensures reply { IfSome result
+            (λ answer. IfOk answer (λ reply. step self.now.members command.now.meaning
+            ≡ Some (self.now.members, response_of reply))) }
+        ensures writing { IsTrue (is_writing command.now.meaning) → result ≡ None }
+        ensures always { is_writing command.now.meaning ≡ false → is_ranged command.now.meaning
+            ≡ false → IsSome result }
+    {
+        ready_from(self.alloc, &self.members, &self.column, command)
+    }
+
+    /// The column of the members' rows. Its content is the bag of their pairs, also while a command
+    /// is prepared.
+    pub fn column(&self) -> &Column<A>
+        ensures { Holds result.now (pairs self.now.members) }
+    {
+        &self.column
+    }
+
+    /// All pairs by rising score, equal scores by the bytes of their members. Refused for want of
+    /// memory alone.
     pub fn pairs(&self) -> Result<Vec<Row<A>, A>, AllocError>
         requires { self.now.next ≡ None }
         ensures { IfOk result (λ rows. rows.items ≡ whole self.now.members) }
@@ -116,19 +151,22 @@ impl<H: BuildHasher, A: Allocator + Copy> ZSet<H, A> {
         all_rows(self.alloc, &self.members)
     }
 
-    /// Prepares a command that changes sets: takes all the memory that it needs, and leaves the members as they
-    /// are until `commit` or `drop_prepared`. Refused for want of memory, or where a sum of INCR is no score;
-    /// nothing is prepared then.
+    /// Prepares a command that changes sets: takes all the memory that it needs, and leaves the
+    /// members as they are until `commit` or `drop_prepared`. Refused for want of memory, or where
+    /// a sum of INCR is no score; nothing is prepared then.
     pub fn prepare(&mut self, command: &Command<A>) -> Result<Outline, Refusal>
         requires idle { self.old.next ≡ None }
         requires writing { IsTrue (is_writing command.now.meaning) }
         ensures members { self.new.members ≡ self.old.members }
         ensures ok { OnOk result (IsReady self.old.members command.now.meaning self.new.next) }
-        ensures outline { IfOk result (λ outline. IfSome self.new.next (λ next. IsOutline outline self.old.members next.members)) }
-        ensures refused { IfErr result (λ refusal. IsRefused refusal (step self.old.members command.now.meaning)) }
+        ensures outline { IfOk result
+            (λ outline. IfSome self.new.next
+            (λ next. IsOutline outline self.old.members next.members)) }
+        ensures refused { IfErr result
+            (λ refusal. IsRefused refusal (step self.old.members command.now.meaning)) }
         ensures err { OnErr result (self.new.next ≡ None) }
     {
-        let plan = plan_for(self.alloc, &mut self.members, command)?;
+        let plan = make_plan(self.alloc, &mut self.members, &mut self.column, command)?;
         let outline = plan.outline;
         let asked = Snapshot::of(command);
         self.prepared = Some(Prepared { asked, plan });
@@ -138,12 +176,13 @@ impl<H: BuildHasher, A: Allocator + Copy> ZSet<H, A> {
     /// Makes the prepared change, and gives its reply. It takes no memory.
     pub fn commit(&mut self) -> Reply<A>
         requires { IsSome self.old.next }
-        ensures made { IfSome self.old.next (λ next. (self.new.members ≡ next.members) × (response_of result ≡ next.reply)) }
+        ensures made { IfSome self.old.next
+            (λ next. (self.new.members ≡ next.members) × (response_of result ≡ next.reply)) }
         ensures idle { self.new.next ≡ None }
     {
         match self.prepared.take() {
             None => unreachable!(),
-            Some(prepared) => carry_out(&mut self.members, prepared.plan),
+            Some(prepared) => carry_out(&mut self.members, &mut self.column, prepared.plan),
         }
     }
 
@@ -154,11 +193,7 @@ impl<H: BuildHasher, A: Allocator + Copy> ZSet<H, A> {
         ensures idle { self.new.next ≡ None }
     {
         if let Some(prepared) = self.prepared.take() {
-            roll_back(
-                &mut self.members,
-                prepared.plan.touched.as_slice(),
-                prepared.plan.kept,
-            );
+            let_go(&mut self.members, prepared.plan);
         }
     }
 }

@@ -2,7 +2,7 @@ ghost use Rattle.std.specs.Prelude.{◌≡◌, None, IsSome, OnOk, OnErr, option
 ghost use Rattle.zset_core.specs.Meaning.{key_of};
 
 use crate::{Command, OneOwner, Outline, ZSet};
-use resp_wire::{Bytes, BytesList, Request, write_reply};
+use resp_wire::{Bytes, BytesList, Reply, Request, write_reply};
 use std::alloc::Global;
 use std::hash::RandomState;
 use std::test::*;
@@ -10,7 +10,7 @@ use std::test::*;
 type Owner = OneOwner<RandomState, Global>;
 
 // The command of a text's words, which single spaces part.
-fn command(alloc: Global, text: &str) -> Result<Command<Global>, Fail> {
+pub fn command(alloc: Global, text: &str) -> Result<Command<Global>, Fail> {
     let mut words = Vec::new(alloc);
     for word in text.split(' ') {
         words.push(Bytes::new(Vec::from_slice(alloc, word.as_bytes())?))?;
@@ -22,7 +22,18 @@ fn command(alloc: Global, text: &str) -> Result<Command<Global>, Fail> {
     }
 }
 
-// The bytes of the reply to a command, an end of line as `~`, or the number of its refusal behind `r`.
+// The bytes of a reply, an end of line as `~`.
+pub fn text_of(alloc: Global, reply: &Reply<Global>) -> Result<String, Fail> {
+    let mut bytes = Vec::new(alloc);
+    write_reply(reply, &mut bytes)?;
+    match std::str::from_utf8(bytes.as_slice()) {
+        Ok(text) => Ok(text.replace(alloc, "\r\n", "~")?),
+        Err(_) => Err("no text")?,
+    }
+}
+
+// The bytes of the reply to a command, an end of line as `~`, or the number of its refusal behind
+// `r`.
 fn reply_to(alloc: Global, owner: &mut Owner, text: &str) -> Result<String, Fail>
     requires { owner.old.next ≡ None }
     ensures { owner.new.next ≡ None }
@@ -30,14 +41,7 @@ fn reply_to(alloc: Global, owner: &mut Owner, text: &str) -> Result<String, Fail
     let command = command(alloc, text)?;
     match owner.run(&command) {
         Err(refusal) => Ok(format!(in alloc; "r{}", refusal.number())?),
-        Ok(reply) => {
-            let mut bytes = Vec::new(alloc);
-            write_reply(&reply, &mut bytes)?;
-            match std::str::from_utf8(bytes.as_slice()) {
-                Ok(text) => Ok(text.replace(alloc, "\r\n", "~")?),
-                Err(_) => Err("no text")?,
-            }
-        }
+        Ok(reply) => text_of(alloc, &reply),
     }
 }
 

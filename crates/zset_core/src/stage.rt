@@ -1,12 +1,15 @@
-//! ZADD put beside the scores that members have: new members go last, and new scores wait in their slots.
+//! ZADD put beside the scores that members have: new members go last, and new scores wait in their
+//! slots.
 ghost use Rattle.std.specs.Prelude.{◌≡◌, ℕ, ◌+◌, ◌*◌, ◌^◌, ◌<◌, ◌≤◌, None, Some, length, drop, slice_get, map as map_list, option_map, IfSome, take, List, OnOk, OnErr, IfOk};
 ghost use Rattle.std.specs.FinMap as map;
 ghost use Rattle.indexmap.specs.IndexMap.{IsUnique};
 ghost use Rattle.zset_core.specs.declared.slot.Slot.{Slot as SlotType};
 ghost use Rattle.zset_core.specs.Step.{outcome_of, put_one, put_all, count_all, remove_all};
 ghost use Rattle.zset_core.specs.Form.{scored};
+ghost use Rattle.zset_core.specs.Edited.{Notes};
 ghost use Rattle.zset_core.specs.Kept.{held, next, rows_by, members_by, slot_at, slots, same_bytes, IsSettled, IsWaiting, Grows, bytes_of};
 
+use crate::edits::Edits;
 use crate::pair::{Flags, Outcome};
 use crate::slot::Slot;
 use indexmap::IndexMap;
@@ -20,8 +23,10 @@ pub fn find_slot<H: BuildHasher, A: Allocator + Copy>(
     member: &[u8],
 ) -> Option<(usize, Slot)>
     ensures slot { option_map (λ p. p.1) result ≡ slot_at members.now.entries member.now }
-    ensures score { option_map (λ p. p.1.next) result ≡ map.get (members_by next members.now.entries) member.now }
-    ensures place { IfSome result (λ p. slice_get (slots members.now.entries) p.0 ≡ Some (member.now, p.1)) }
+    ensures score { option_map (λ p. p.1.next) result
+        ≡ map.get (members_by next members.now.entries) member.now }
+    ensures place { IfSome result
+        (λ p. slice_get (slots members.now.entries) p.0 ≡ Some (member.now, p.1)) }
     ensures unique { IsUnique same_bytes members.now }
 {
     let _count = members.len();
@@ -62,9 +67,11 @@ fn put_new<H: BuildHasher, A: Allocator + Copy>(
     score: i64,
 ) -> Result<(), AllocError>
     requires absent { slot_at members.old.entries member.now ≡ None }
-    ensures next { OnOk result (members_by next members.new.entries ≡ map.insert (members_by next members.old.entries) member.now score) }
+    ensures next { OnOk result (members_by next members.new.entries
+        ≡ map.insert (members_by next members.old.entries) member.now score) }
     ensures grows { Grows members.old.entries members.new.entries }
-    ensures waiting { (places : List ℕ) → IsWaiting places members.old.entries → IsWaiting places members.new.entries }
+    ensures waiting { (places : List ℕ) → IsWaiting places members.old.entries
+        → IsWaiting places members.new.entries }
 {
     let key = Vec::from_slice(alloc, member)?;
     let slot = Slot {
@@ -84,7 +91,10 @@ fn put_next<H: BuildHasher, A: Allocator + Copy>(
 ) -> Result<(), AllocError>
     requires within { place < length members.old.entries }
     requires waiting { IsWaiting touched.old.items members.old.entries }
-    ensures next { OnOk result ((q : List ℕ) (slot : SlotType) → slice_get (slots members.old.entries) place ≡ Some (q, slot) → members_by next members.new.entries ≡ map.insert (members_by next members.old.entries) q score) }
+    ensures next { OnOk result ((q : List ℕ) (slot : SlotType)
+        → slice_get (slots members.old.entries) place ≡ Some (q, slot)
+        → members_by next members.new.entries
+        ≡ map.insert (members_by next members.old.entries) q score) }
     ensures grows { Grows members.old.entries members.new.entries }
     ensures waiting { IsWaiting touched.new.items members.new.entries }
 {
@@ -95,18 +105,24 @@ fn put_next<H: BuildHasher, A: Allocator + Copy>(
     Ok(())
 }
 
-/// One pair.
+/// One pair. Its edits are noted.
 pub fn stage_one<H: BuildHasher, A: Allocator + Copy>(
     alloc: A,
     members: &mut IndexMap<Vec<u8, A>, Slot, H, A>,
     touched: &mut Vec<usize, A>,
+    edits: &mut Edits<A>,
     flags: Flags,
     score: i64,
     member: &[u8],
 ) -> Result<Outcome, AllocError>
     requires { IsWaiting touched.old.items members.old.entries }
-    ensures outcome { IfOk result (λ what. what ≡ outcome_of flags (map.get (members_by next members.old.entries) member.now) score) }
-    ensures next { OnOk result (members_by next members.new.entries ≡ put_one flags (members_by next members.old.entries) member.now score) }
+    ensures outcome { IfOk result
+        (λ what. what ≡ outcome_of flags (map.get (members_by next members.old.entries) member.now)
+        score) }
+    ensures next { OnOk result (members_by next members.new.entries
+        ≡ put_one flags (members_by next members.old.entries) member.now score) }
+    ensures edits { OnOk result (Notes 1 (members_by next members.old.entries)
+        (members_by next members.new.entries) edits.old edits.new) }
     ensures grows { Grows members.old.entries members.new.entries }
     ensures waiting { IsWaiting touched.new.items members.new.entries }
 {
@@ -115,6 +131,7 @@ pub fn stage_one<H: BuildHasher, A: Allocator + Copy>(
             let what = Outcome::of(flags, None, score);
             if what == Outcome::Added {
                 put_new(alloc, members, member, score)?;
+                edits.add(alloc, score, member)?;
             }
             Ok(what)
         }
@@ -122,17 +139,21 @@ pub fn stage_one<H: BuildHasher, A: Allocator + Copy>(
             let what = Outcome::of(flags, Some(slot.next), score);
             if what == Outcome::Changed {
                 put_next(members, touched, place, score)?;
+                edits.take(alloc, slot.next, member)?;
+                edits.add(alloc, score, member)?;
             }
             Ok(what)
         }
     }
 }
 
-/// Each pair in turn: a score, and the second of two words as its member. Gives what is counted in the reply.
+/// Each pair in turn: a score, and the second of two words as its member. Gives what is counted in
+/// the reply.
 pub fn stage_all<H: BuildHasher, A: Allocator + Copy>(
     alloc: A,
     members: &mut IndexMap<Vec<u8, A>, Slot, H, A>,
     touched: &mut Vec<usize, A>,
+    edits: &mut Edits<A>,
     flags: Flags,
     changed: bool,
     scores: &[i64],
@@ -140,16 +161,21 @@ pub fn stage_all<H: BuildHasher, A: Allocator + Copy>(
 ) -> Result<u64, AllocError>
     requires pairs { length words.now ≡ 2 * length scores.now }
     requires waiting { IsWaiting touched.old.items members.old.entries }
-    ensures count { IfOk result (λ n. n ≡ count_all flags changed (members_by next members.old.entries) (scored scores.now words.now)) }
+    ensures count { IfOk result (λ n. n
+        ≡ count_all flags changed (members_by next members.old.entries)
+        (scored scores.now words.now)) }
     ensures few { IfOk result (λ n. n ≤ length scores.now) }
-    ensures next { OnOk result (members_by next members.new.entries ≡ put_all flags (members_by next members.old.entries) (scored scores.now words.now)) }
+    ensures next { OnOk result (members_by next members.new.entries
+        ≡ put_all flags (members_by next members.old.entries) (scored scores.now words.now)) }
+    ensures edits { OnOk result (Notes (length scores.now) (members_by next members.old.entries)
+        (members_by next members.new.entries) edits.old edits.new) }
     ensures grows { Grows members.old.entries members.new.entries }
     ensures waiting { IsWaiting touched.new.items members.new.entries }
 {
     let mut count: u64 = 0;
     for (index, score) in scores.iter().enumerate() {
         let member = words[2 * index + 1].as_slice();
-        let what = stage_one(alloc, members, touched, flags, *score, member)?;
+        let what = stage_one(alloc, members, touched, edits, flags, *score, member)?;
         count += what.counted_in(changed);
     }
     Ok(count)
@@ -205,7 +231,8 @@ pub fn take_out<H: BuildHasher, A: Allocator + Copy>(
     removed: &[Vec<u8, A>],
 )
     requires { IsSettled members.old.entries }
-    ensures members { members_by held members.new.entries ≡ remove_all (members_by held members.old.entries) (bytes_of removed.now) }
+    ensures members { members_by held members.new.entries
+        ≡ remove_all (members_by held members.old.entries) (bytes_of removed.now) }
     ensures settled { IsSettled members.new.entries }
 {
     for member in removed {

@@ -3,6 +3,7 @@ use Rattle.zset_core.specs.Step.{remove_all}
 use Rattle.zset_core.specs.Kept.{held, next, members_by, bytes_of, IsWaiting}
 use Rattle.zset_core.proofs.Outlines.{nothing_outline}
 use Rattle.zset_core.proofs.Staging.{members_same, Grows-self, IsWaiting-none}
+use Rattle.zset_core.proofs.Bags.{Turns-none, IsFew-none}
 use Rattle.zset_core.proofs.plan.plan_nothing.Goals as goal
 
 pub returns : goal.returns
@@ -14,5 +15,7 @@ returns g c =
       waiting = subst (λ (ps : List ℕ). IsWaiting ps es) (sym c.new.ensures.items) (IsWaiting-none es c.requires);
       members_are = ap (λ gone. remove_all (members_by next es) (bytes_of gone)) c.new-2.ensures.items ∙ members_same es c.requires;
       reply_is = refl;
+      edits_are = Turns-none (members_by held es) c.none.result c.none.ensures.coming c.none.ensures.leaving;
+      few_edits = IsFew-none c.none.result c.none.ensures.coming c.none.ensures.leaving;
       outline_is = nothing_outline (members_by held es);
     }

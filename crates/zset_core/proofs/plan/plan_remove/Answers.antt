@@ -6,6 +6,7 @@ use Rattle.zset_core.specs.Step.{remove_all}
 use Rattle.zset_core.specs.Kept.{held, members_by, bytes_of, IsWaiting}
 use Rattle.zset_core.proofs.Outlines.{gathered_outline}
 use Rattle.zset_core.proofs.Staging.{members_same, Grows-self, IsWaiting-none}
+use Rattle.zset_core.proofs.Bags.{Turns-noted, IsFew-noted}
 use Rattle.zset_core.proofs.plan.plan_remove.Goals as goal
 
 rest_of : (a b n : ℕ) → a + b ≡ n → a ≡ n - b
@@ -19,8 +20,10 @@ returns g c =
     record {
       kept = c.len.ensures.len;
       grows = Grows-self es;
-      waiting = subst (λ (ps : List ℕ). IsWaiting ps es) (sym c.new.ensures.items) (IsWaiting-none es c.requires);
-      members_are = ap (λ (m : Members). remove_all m (bytes_of c.in_ok-removed.removed.items)) (members_same es c.requires) ∙ c.in_ok-removed.ensures.gone;
+      waiting = subst (λ (ps : List ℕ). IsWaiting ps es) (sym c.new.ensures.items) (IsWaiting-none es c.requires.settled);
+      members_are = ap (λ (m : Members). remove_all m (bytes_of c.in_ok-removed.removed.items)) (members_same es c.requires.settled) ∙ c.in_ok-removed.ensures.gone;
       reply_is = c.tell_count.ensures ∙ ap Integer (ap pos (c.len-count.ensures ∙ same_len ∙ rest_of (length c.in_ok-removed.removed.items) (map.len (remove_all m c.args.names.now)) (map.len m) c.in_ok-removed.ensures.count));
+      edits_are = Turns-noted (length c.args.names.now) m (remove_all m c.args.names.now) c.none-edits.result c.gather.new.edits c.none-edits.ensures.coming c.none-edits.ensures.leaving c.in_ok-removed.ensures.edits;
+      few_edits = IsFew-noted (length c.args.names.now) m (remove_all m c.args.names.now) c.none-edits.result c.gather.new.edits c.none-edits.ensures.coming c.none-edits.ensures.leaving c.requires.few c.in_ok-removed.ensures.edits;
       outline_is = gathered_outline m (remove_all m c.args.names.now) c.in_ok-removed.removed.items c.len-count.result (c.len-count.ensures ∙ same_len) c.in_ok-removed.ensures.gone c.in_ok-removed.ensures.count;
     }

@@ -1,10 +1,11 @@
-use Rattle.std.proofs.Common.{◌∙◌, ap, ℤ, w64, to_z, of_z, to_z-of_z}
+use Rattle.std.proofs.Common.{◌∙◌, ap, arith, ℤ, w64, to_z, of_z, to_z-of_z}
 use Rattle.std.specs.FinMap as map
 use Rattle.zset_core.specs.Sets.{Members}
 use Rattle.zset_core.specs.Step.{put_one, remove_all, told, outcome_of}
 use Rattle.zset_core.specs.Kept.{held, next, members_by, bytes_of}
 use Rattle.zset_core.proofs.Outlines.{outline_same, before, before_grown}
 use Rattle.zset_core.proofs.Staging.{members_same}
+use Rattle.zset_core.proofs.Bags.{Turns-between, IsFew-noted}
 use Rattle.zset_core.proofs.plan.plan_score.Goals as goal
 
 pub returns-in-Ok-clause-ok : goal.returns-in-Ok-clause-ok
@@ -21,6 +22,8 @@ returns-in-Ok-clause-ok g c =
       waiting = c.stage_told.ensures.waiting;
       members_are = ap (λ gone. remove_all (members_by next c.stage_told.new.members.entries) (bytes_of gone)) c.new.ensures.items
           ∙ left;
+      edits_are = Turns-between 1 (members_by next old) (members_by held old) (members_by next new) (put_one c.args.flags (members_by held old) c.args.member.now c.args.score) c.none-edits.result c.stage_told.new.edits same left c.none-edits.ensures.coming c.none-edits.ensures.leaving c.in-Ok.ensures.edits;
+      few_edits = IsFew-noted 1 (members_by next old) (members_by next new) c.none-edits.result c.stage_told.new.edits c.none-edits.ensures.coming c.none-edits.ensures.leaving (omega arith) c.in-Ok.ensures.edits;
       outline_is = outline_same c.outline_staged-outline.result (before new c.len-kept.result) (members_by held old) (members_by next new) (put_one c.args.flags (members_by held old) c.args.member.now c.args.score)
           (before_grown old new c.len-kept.result c.len-kept.ensures.len c.stage_told.ensures.grows) left c.outline_staged-outline.ensures;
       reply_is = c.in-Ok.ensures.reply ∙ ap (λ (m : Members). told (outcome_of c.args.flags (map.get m c.args.member.now) z) z) same

@@ -4,6 +4,7 @@ use Rattle.zset_core.specs.Step.{counted}
 use Rattle.zset_core.specs.Kept.{next, members_by}
 use Rattle.zset_core.proofs.PairSteps.{pairs_step, put_step, count_step, counted_one}
 use Rattle.zset_core.proofs.Staging.{Grows-then}
+use Rattle.zset_core.proofs.Bags.{Notes-then}
 use Rattle.zset_core.proofs.stage.stage_all.Goals as goal
 
 pub loop-index-preserved : goal.loop-index-preserved
@@ -25,6 +26,7 @@ loop-index-preserved g c =
       few = omega (arith, c.loop-index.invariant.few, c.counted_in-count.ensures, counted_one c.args.changed c.in_ok-what.what);
       count = count_step c.args.flags c.args.changed old new z m ps rest c.loop-index.count c.counted_in-count.result _ is c.in_ok-what.ensures.next one c.loop-index.invariant.count;
       next = put_step c.args.flags old new z m ps rest _ is c.in_ok-what.ensures.next c.loop-index.invariant.next;
+      edits = Notes-then c.loop-index.index 1 (members_by next c.args.members.now.entries) old new c.args.edits.now c.loop-index.edits c.stage_one.new.edits c.loop-index.invariant.edits c.in_ok-what.ensures.edits;
       waiting = c.stage_one.ensures.waiting;
       grows = Grows-then c.args.members.now.entries c.loop-index.members.entries c.stage_one.new.members.entries c.loop-index.invariant.grows c.stage_one.ensures.grows;
     }

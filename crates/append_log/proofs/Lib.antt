@@ -1,0 +1,13 @@
+pub mod Bytes
+pub mod Texts
+pub mod Keeps
+pub mod Fronts
+pub mod Replays
+pub mod Nexts
+pub mod Steps
+pub mod Ways
+pub mod Sames
+pub mod Decided
+pub mod Loggeds
+pub mod Pieces
+pub mod Images

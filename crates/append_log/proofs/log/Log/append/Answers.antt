@@ -1,0 +1,111 @@
+use Rattle.std.proofs.Common.{◌≡◌, rules, refl, ◌∙◌, ap, arith, length, take, ◌+◌, ◌<◌, ◌^◌, true, false}
+use Rattle.std.proofs.lemmas.List.{take_all}
+use Rattle.std.specs.Io.KnownBytes.{append_known}
+use Rattle.resp_wire.specs.Spelling.{request}
+use Rattle.append_log.specs.Log.{LogView}
+use Rattle.append_log.proofs.Keeps.{is_log_appends, is_log_breaks, has_appends, has_breaks}
+use Rattle.append_log.proofs.log.Log.append.Goals as goal
+
+pub rise-requires : goal.rise-requires
+rise-requires g c = omega (arith, c.self.invariant.1, c.self.invariant.0.within, c.self.invariant.0.limited, c.if-self-2.false)
+
+pub invariant_of-self : goal.invariant_of-self
+invariant_of-self g c =
+    let wrote = rw c.text.ensures.text at c.write_and_sync-out.ensures in
+    let not_whole : c.write_and_sync-out.result.whole ≡ false = search rules in
+    let fits : length (request c.args.entry.now) < 2 ^ 64 = omega (arith, c.text.type_inv.0, ap length c.text.ensures.text) in (
+      is_log_breaks _ _ c.args.entry.now c.self.invariant.0 c.if-self.false c.text.ensures.is_record fits record {
+        out = c.write_and_sync-out.result.taken;
+        at_most = wrote.at_most;
+        told = wrote.told;
+        synced = wrote.not_synced not_whole;
+        appended = refl;
+        written = refl;
+        limit = refl;
+        broken = refl;
+        parts = refl;
+      },
+      c.self.invariant.1,
+    )
+
+pub returns-then-not-out-clause-refused : goal.returns-then-not-out-clause-refused
+returns-then-not-out-clause-refused g c =
+    let wrote = rw c.text.ensures.text at c.write_and_sync-out.ensures in
+    let not_whole : c.write_and_sync-out.result.whole ≡ false = search rules in
+    λ _. rw (← c.self.view_is) (record {
+      out = c.write_and_sync-out.result.taken;
+      at_most = wrote.at_most;
+      told = wrote.told;
+      synced = wrote.not_synced not_whole;
+      appended = refl;
+      written = refl;
+      limit = refl;
+      broken = refl;
+      parts = refl;
+    })
+
+pub invariant_of-self-2 : goal.invariant_of-self-2
+invariant_of-self-2 g c =
+    let wrote = rw c.text.ensures.text at c.write_and_sync-out.ensures in
+    let whole : c.write_and_sync-out.result.whole ≡ true = search rules in
+    let all = wrote.whole whole in
+    let fits : length (request c.args.entry.now) < 2 ^ 64 = omega (arith, c.text.type_inv.0, ap length c.text.ensures.text) in
+    let text = request c.args.entry.now in
+    let sink = c.self.inside.sink in (
+      is_log_appends _ _ c.args.entry.now c.self.invariant.0 c.if-self.false (omega (arith, c.self.invariant.0.within, c.if-self-2.false)) c.text.ensures.is_record fits record {
+        told = wrote.told ∙ ap (λ n. append_known (g.S.LogSink.told sink) (take n text)) all ∙ ap (append_known (g.S.LogSink.told sink)) (take_all (length text) text (omega arith));
+        synced = wrote.synced whole;
+        appended = refl;
+        written = ap (λ n. c.self.inside.written + n) all;
+        limit = refl;
+        broken = refl;
+        parts = refl;
+        failures = wrote.good whole;
+      },
+      c.rise.ensures.book ∙ ap (λ n. n + 1) c.self.invariant.1,
+    )
+
+pub returns-then-not-out-clause-records : goal.returns-then-not-out-clause-records
+returns-then-not-out-clause-records g c =
+    let S = g.S.LogSink in
+    let from = c.self.inside in
+    let to = c.write_and_sync-out.new.sink in
+    let out = c.write_and_sync-out.result.taken in
+    let wrote = rw c.text.ensures.text at c.write_and_sync-out.ensures in
+    let not_whole : c.write_and_sync-out.result.whole ≡ false = search rules in
+    let old : LogView = record { told = S.told from.sink; synced = S.synced from.sink; calls = S.calls from.sink; failures = S.failures from.sink; appended = from.appended; written = from.written; limit = from.limit; broken = from.broken; parts = from.rest.parts } in
+    let new : LogView = record { told = S.told to; synced = S.synced to; calls = S.calls to; failures = S.failures to; appended = from.appended; written = from.written + out; limit = from.limit; broken = true; parts = from.rest.parts } in
+    λ records has. has_breaks old new c.args.entry.now records c.if-self.false c.text.ensures.is_record (record {
+      out = out;
+      at_most = wrote.at_most;
+      told = wrote.told;
+      synced = wrote.not_synced not_whole;
+      appended = refl;
+      written = refl;
+      limit = refl;
+      broken = refl;
+      parts = refl;
+    }) (rw (← c.self.view_is) at has)
+
+pub returns-clause-records : goal.returns-clause-records
+returns-clause-records g c =
+    let S = g.S.LogSink in
+    let from = c.self.inside in
+    let to = c.write_and_sync-out.new.sink in
+    let out = c.write_and_sync-out.result.taken in
+    let text = request c.args.entry.now in
+    let wrote = rw c.text.ensures.text at c.write_and_sync-out.ensures in
+    let whole : c.write_and_sync-out.result.whole ≡ true = search rules in
+    let all = wrote.whole whole in
+    let old : LogView = record { told = S.told from.sink; synced = S.synced from.sink; calls = S.calls from.sink; failures = S.failures from.sink; appended = from.appended; written = from.written; limit = from.limit; broken = from.broken; parts = from.rest.parts } in
+    let new : LogView = record { told = S.told to; synced = S.synced to; calls = S.calls to; failures = S.failures to; appended = from.appended + 1; written = from.written + out; limit = from.limit; broken = from.broken; parts = from.rest.parts } in
+    λ records has. has_appends old new c.args.entry.now records c.if-self.false c.text.ensures.is_record (record {
+      told = wrote.told ∙ ap (λ n. append_known (S.told from.sink) (take n text)) all ∙ ap (append_known (S.told from.sink)) (take_all (length text) text (omega arith));
+      synced = wrote.synced whole;
+      appended = refl;
+      written = ap (λ n. from.written + n) all;
+      limit = refl;
+      broken = refl;
+      parts = refl;
+      failures = wrote.good whole;
+    }) (rw (← c.self.view_is) at has)

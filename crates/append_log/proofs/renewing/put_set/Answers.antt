@@ -1,0 +1,30 @@
+use Rattle.std.proofs.Common.{refl, ◌≡◌, ◌<◌, ◌∷◌, [], ◌++◌, rules, arith, ◌∙◌, ap, length, take, drop, min, length-drop}
+use Rattle.std.proofs.lemmas.List.{length_push}
+use Rattle.append_log.proofs.Pieces.{cut_more, told_more, front_of_set, take_at_most, drop_at_most, on_err}
+use Rattle.append_log.proofs.renewing.put_set.Goals as goal
+
+pub returns-in_err-put_record-clause-err : goal.returns-in_err-put_record-clause-err
+returns-in_err-put_record-clause-err g c =
+    let i = c.pieces.invariant in
+    let rest = c.pieces.rest.now in
+    let cut_at : c.min.result ≡ min 512 (length rest) = search rules in
+    let some : 0 < length rest = search rules in
+    let piece = c.split_at.ensures.front ∙ ap (λ n. take n rest) cut_at ∙ take_at_most 512 (length rest) rest refl in
+    on_err c.from_residual.result (front_of_set c.args.key.now c.args.rows.now rest i.done i.cut some _ _ _ i.told (rw piece at c.in_err-put_record.ensures.err))
+
+pub pieces-preserved : goal.pieces-preserved
+pieces-preserved g c =
+    let i = c.pieces.invariant in
+    let rest = c.pieces.rest.now in
+    let cut_at : c.min.result ≡ min 512 (length rest) = search rules in
+    let some : 0 < length rest = search rules in
+    let piece = c.split_at.ensures.front ∙ ap (λ n. take n rest) cut_at ∙ take_at_most 512 (length rest) rest refl in
+    let behind = c.split_at.ensures.back ∙ ap (λ n. drop n rest) cut_at ∙ drop_at_most 512 (length rest) rest refl in
+    record {
+      done = i.done ++ take 512 rest ∷ [];
+      cut = rw behind (cut_more c.args.key.now c.args.rows.now rest i.done i.cut some);
+      count_is = omega (arith, i.count_is, length_push i.done (take 512 rest));
+      few = omega (arith, i.few, some, ap length behind, length-drop 512 rest);
+      told = told_more c.args.key.now c.args.rows.now rest i.done i.cut some _ _ _ i.told (rw piece at c.in_ok-put_record.ensures.ok);
+      good = c.in_ok-put_record.ensures.failures ∙ i.good;
+    }

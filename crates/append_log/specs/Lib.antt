@@ -1,0 +1,9 @@
+pub mod Records
+pub mod Replay
+pub mod Sink
+pub mod Log
+pub mod Reload
+pub mod Reloading
+pub mod Logged
+pub mod Image
+pub mod Rewriting

@@ -1,0 +1,99 @@
+-- What a log is seen as, and what holds of every log.
+use Rattle.std.specs.Prelude.{◌≡◌, ℕ, ◌+◌, ◌*◌, ◌^◌, ◌<◌, ◌≤◌, Bool, true, false, List, [], ◌∷◌, ◌++◌, length, take, Option, IfSome, Result, Ok, Err}
+use Rattle.std.specs.Io.KnownBytes.{append_known}
+use Rattle.append_log.specs.Records.{Record, text_of, AreRecords, IsFront, ReadsFront}
+
+-- a log, without the types of its sink and its ledger
+pub record LogView : Type 0 where
+  -- the sink: its bytes where it tells them, how many of them stood at its last good sync, its counts
+  pub told : Option (List ℕ)
+  pub synced : ℕ
+  pub calls : ℕ
+  pub failures : ℕ
+  -- how many records were appended, how many bytes the sink took for them, how many records may be appended
+  pub appended : ℕ
+  pub written : ℕ
+  pub limit : ℕ
+  -- whether an append failed
+  pub broken : Bool
+  -- how many shares it can still give away
+  pub parts : ℕ
+
+-- what stands behind the last record: nothing, or in a broken log the front of one more
+abbrev pub IsTail : Bool → List ℕ → Type 0
+IsTail false tail = tail ≡ []
+IsTail true tail = IsFront tail
+
+-- the last `written` bytes are the text of these `appended` records, and the tail
+pub record Ends (bytes : List ℕ) (records : List Record) (synced appended written : ℕ) (broken : Bool) : Type 0 where
+  pub before : List ℕ
+  pub tail : List ℕ
+  pub whole : bytes ≡ before ++ (text_of records ++ tail)
+  pub each : AreRecords records
+  pub count : length records ≡ appended
+  pub size : length (text_of records ++ tail) ≡ written
+  pub rest : IsTail broken tail
+  -- the last good sync came behind them
+  pub durable : 0 < appended → length (before ++ text_of records) ≤ synced
+
+-- a log's sink ends with these records, where it tells its bytes
+abbrev pub HasRecords : LogView → List Record → Type 0
+HasRecords log records = IfSome log.told (λ bytes. Ends bytes records log.synced log.appended log.written log.broken)
+
+-- what holds of every log
+pub record IsLog (log : LogView) : Type 0 where
+  pub records : List Record
+  pub stands : HasRecords log records
+  pub within : log.appended ≤ log.limit
+  pub limited : log.limit ≤ 2 ^ 40
+  pub small : log.written ≤ 2 ^ 64 * (log.appended + 1)
+  pub small_whole : log.broken ≡ false → log.written ≤ 2 ^ 64 * log.appended
+  pub has_part : 0 < log.parts
+
+-- bytes were written out and synced
+pub record Appends (old new : LogView) (bytes : List ℕ) : Type 0 where
+  pub told : new.told ≡ append_known old.told bytes
+  pub synced : IfSome new.told (λ all. new.synced ≡ length all)
+  pub appended : new.appended ≡ old.appended + 1
+  pub written : new.written ≡ old.written + length bytes
+  pub limit : new.limit ≡ old.limit
+  pub broken : new.broken ≡ old.broken
+  pub parts : new.parts ≡ old.parts
+  pub failures : new.failures ≡ old.failures
+
+-- a front of the bytes was written, perhaps none or all of them, and the log is broken
+pub record Breaks (old new : LogView) (bytes : List ℕ) : Type 0 where
+  pub out : ℕ
+  pub at_most : out ≤ length bytes
+  pub told : new.told ≡ append_known old.told (take out bytes)
+  pub synced : new.synced ≡ old.synced
+  pub appended : new.appended ≡ old.appended
+  pub written : new.written ≡ old.written + out
+  pub limit : new.limit ≡ old.limit
+  pub broken : new.broken ≡ true
+  pub parts : new.parts ≡ old.parts
+
+-- a share's count after an append with this result
+abbrev pub share_after : {T E : Type 0} → ℕ → Result T E → ℕ
+share_after count (Ok _) = count + 1
+share_after count (Err _) = count
+
+-- the records after an append with this result
+abbrev pub records_after : {T E : Type 0} → List Record → Record → Result T E → List Record
+records_after records entry (Ok _) = records ++ entry ∷ []
+records_after records entry (Err _) = records
+
+-- behind `before` stand the bytes that a log wrote. `records` are those that were appended, and `one` is at
+-- most one more
+pub record Readable (bytes : List ℕ) (synced appended written : ℕ) : Type 0 where
+  pub before : List ℕ
+  pub last : List ℕ
+  pub records : List Record
+  pub one : List Record
+  pub whole : bytes ≡ before ++ last
+  pub size : length last ≡ written
+  pub count : length records ≡ appended
+  pub at_most_one : length one ≤ 1
+  pub fronts : (n : ℕ) → n ≤ written → ReadsFront (take n last) (records ++ one)
+  -- a front that reaches the last good sync has all appended records
+  pub durable : 0 < appended → (n : ℕ) → synced ≤ length before + n → length (text_of records) ≤ n

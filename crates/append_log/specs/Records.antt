@@ -1,0 +1,31 @@
+-- The text of an append file: records one behind the other, each the spelling of a request in RESP2.
+use Rattle.std.specs.Prelude.{◌≡◌, ℕ, ◌≤◌, List, ◌++◌, length, take, None}
+use Rattle.std.specs.List.{flat_map, AllByRecursion}
+use Rattle.resp_wire.specs.Spelling.{request, IsRequest}
+use Rattle.resp_wire.specs.Stream.{requests, fault}
+
+-- a record: the words of a command
+abbrev pub Record : Type 0
+Record = List (List ℕ)
+
+-- the bytes of records
+abbrev pub text_of : List Record → List ℕ
+text_of records = flat_map request records
+
+abbrev pub AreRecords : List Record → Type 0
+AreRecords records = AllByRecursion IsRequest records
+
+-- the front of the text of one record, perhaps nothing or all of it
+pub record IsFront (bytes : List ℕ) : Type 0 where
+  pub record_of : Record
+  pub more : List ℕ
+  pub is_record : IsRequest record_of
+  pub whole : bytes ++ more ≡ request record_of
+
+-- bytes that a reload takes without a fault: their requests are the first of these records, and all of those
+-- whose text the bytes reach
+pub record ReadsFront (bytes : List ℕ) (records : List Record) : Type 0 where
+  pub unfaulted : fault bytes ≡ None
+  pub count : ℕ
+  pub requests_are : requests bytes ≡ take count records
+  pub reaches : (k : ℕ) → k ≤ length records → length (text_of (take k records)) ≤ length bytes → k ≤ count

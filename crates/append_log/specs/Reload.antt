@@ -1,0 +1,73 @@
+-- What a reload leaves, by the bytes that it read.
+use Rattle.std.specs.Prelude.{◌≡◌, ℕ, ◌+◌, List, [], ◌++◌, length, Option, None, Some, Result, Ok, Err}
+use Rattle.std.specs.Io.KnownBytes.{prepend_known}
+use Rattle.resp_wire.specs.declared.fault.ProtocolFault.{ProtocolFault}
+use Rattle.resp_wire.specs.declared.fault.Stop.TheVariants.{Wrong}
+use Rattle.resp_wire.specs.Spelling.{request, IsRequest}
+use Rattle.resp_wire.specs.Reading.{item_at}
+use Rattle.resp_wire.specs.Stream.{requests, rest, fault}
+use Rattle.resp_wire.specs.Wire.{Wire}
+use Rattle.zset_core.specs.World.{World}
+use Rattle.append_log.specs.Records.{Record}
+use Rattle.append_log.specs.Replay.{after, replay}
+use Rattle.append_log.specs.declared.loading.Loaded.{Loaded}
+use Rattle.append_log.specs.declared.loading.ReloadFault.{ReloadFault}
+use Rattle.append_log.specs.declared.loading.ReloadFault.TheVariants.{NoMemory, Damaged, ReadFault, NotACommand, TooManyReads}
+
+-- `front` is whole records and skips, and their replay leads from start to world; behind it stands `behind`
+pub record Replayed (start : World) (bytes : List ℕ) (at : ℕ) (behind : List ℕ) (world : World) (count : ℕ) : Type 0 where
+  pub front : List ℕ
+  pub bytes_are : bytes ≡ front ++ behind
+  pub at_is : length front ≡ at
+  pub ends : rest front ≡ []
+  pub replayed : replay start (requests front) ≡ Some world
+  pub count_is : count ≡ length (requests front)
+
+-- a record that no replay takes stands at the front of these bytes
+pub record IsNoCommand (world : World) (bytes : List ℕ) : Type 0 where
+  pub words : Record
+  pub more : List ℕ
+  pub is_record : IsRequest words
+  pub bytes_are : bytes ≡ request words ++ more
+  pub refused : after world words ≡ None
+
+-- all that was read is replayed as far as it is whole, and no fault stands in it
+pub record AllReplayed (start : World) (bytes : List ℕ) (world : World) : Type 0 where
+  pub unfaulted : fault bytes ≡ None
+  pub replayed : replay start (requests bytes) ≡ Some world
+
+-- what a fault tells of the bytes read and of the world that it leaves
+abbrev pub FaultAt : ReloadFault → World → List ℕ → World → Type 0
+FaultAt NoMemory start bytes world = (at : ℕ) × (behind : List ℕ) × (count : ℕ) × Replayed start bytes at behind world count
+FaultAt (Damaged at) start bytes world = (behind : List ℕ) × (count : ℕ) × (f : ProtocolFault) × Replayed start bytes at behind world count × (item_at behind ≡ Err (Wrong f))
+FaultAt ReadFault start bytes world = AllReplayed start bytes world
+FaultAt (NotACommand at) start bytes world = (behind : List ℕ) × (count : ℕ) × Replayed start bytes at behind world count × IsNoCommand world behind
+FaultAt TooManyReads start bytes world = AllReplayed start bytes world
+
+-- a whole stream was replayed
+pub record IsLoaded (start : World) (bytes : List ℕ) (loaded : Loaded) (world : World) : Type 0 where
+  pub all : AllReplayed start bytes world
+  pub records_are : loaded.records ≡ length (requests bytes)
+  pub torn_is : loaded.torn ≡ length (rest bytes)
+  pub whole_is : loaded.whole + loaded.torn ≡ length bytes
+
+abbrev pub Reloaded : Result Loaded ReloadFault → World → List ℕ → World → Type 0
+Reloaded (Ok loaded) start bytes world = IsLoaded start bytes loaded world
+Reloaded (Err f) start bytes world = FaultAt f start bytes world
+
+-- what a reload read, and what it leaves
+pub record Reads (source₀ source₁ : Option (List ℕ)) (start : World) (result : Result Loaded ReloadFault) (world : World) : Type 0 where
+  pub bytes : List ℕ
+  pub read_is : source₀ ≡ prepend_known bytes source₁
+  pub reloaded : Reloaded result start bytes world
+
+-- what a decoder that answered no fault holds stands behind the records that are replayed
+pub record Holds (start : World) (bytes : List ℕ) (wire : Wire) (world : World) (count : ℕ) : Type 0 where
+  pub unfaulted : wire.fault ≡ None
+  pub replayed : Replayed start bytes wire.taken wire.held world count
+
+-- what is held is less than a record or a skip
+pub record IsLess (held : List ℕ) : Type 0 where
+  pub none : requests held ≡ []
+  pub all : rest held ≡ held
+  pub unfaulted : fault held ≡ None

@@ -1,0 +1,243 @@
+//! The log: records one behind the other, each synced before the next.
+
+ghost use Rattle.std.specs.Prelude.{◌≡◌, ℕ, ◌+◌, ◌≤◌, ◌^◌, ◌↔◌, ◌⊎◌, length, take, true, false, OnOk, IsErrOf, IsErr, IfSome, IsTrue};
+ghost use Rattle.std.specs.Io.KnownBytes.{append_known};
+ghost use Rattle.resp_wire.specs.Device.{Rose};
+ghost use Rattle.resp_wire.specs.Spelling.{request};
+ghost use Rattle.append_log.specs.Log.{Appends, Breaks, HasRecords, IsLog, Readable, share_after, records_after};
+
+use crate::record::Record;
+use crate::share::RecordShare;
+use crate::sink::LogSink;
+use resp_wire::{faults, longest};
+use std::alloc::Allocator;
+use std::marker::Model;
+use std::sync::ledger::{Blank, Book, Ledger, Share};
+use zset_core::Refusal;
+
+/// An append file that is being written: records one behind the other in a sink, each synced before
+/// its append is answered. It counts its records and gives away shares of that count.
+#[derive(Drop)]
+pub struct Log<S: LogSink, L: Ledger> {
+    sink: S,
+    book: Book<L>,
+    rest: Share<L>,
+    appended: u64,
+    written: u128,
+    limit: u64,
+    broken: bool,
+}
+
+impl<S: LogSink, L: Ledger> Model for Log<S, L> {
+    ghost use Rattle.std.specs.Prelude.{◌≡◌};
+    ghost use Rattle.append_log.specs.Log.{LogView, IsLog};
+
+    ghost Value = { LogView };
+
+    ghost view = { λ a. record {
+      told = S.told a.sink;
+      synced = S.synced a.sink;
+      calls = S.calls a.sink;
+      failures = S.failures a.sink;
+      appended = a.appended;
+      written = a.written;
+      limit = a.limit;
+      broken = a.broken;
+      parts = a.rest.parts;
+    } };
+
+    ghost invariant = { λ a. IsLog (record {
+      told = S.told a.sink;
+      synced = S.synced a.sink;
+      calls = S.calls a.sink;
+      failures = S.failures a.sink;
+      appended = a.appended;
+      written = a.written;
+      limit = a.limit;
+      broken = a.broken;
+      parts = a.rest.parts;
+    }) × (a.book.total ≡ a.appended) };
+}
+
+/// How far a piece came into a sink.
+#[derive(Clone, Copy, Debug, PartialEq, Eq)]
+pub(crate) struct Out {
+    /// The bytes that the sink took.
+    pub(crate) taken: usize,
+    /// Whether all went well.
+    pub(crate) whole: bool,
+}
+
+/// Writes until all is out, or the sink fails.
+pub(crate) fn write_out<S: LogSink>(sink: &mut S, bytes: &[u8]) -> Out
+    ensures at_most { result.taken ≤ length bytes.now }
+    ensures told { S.told sink.new ≡ append_known (S.told sink.old) (take result.taken bytes.now) }
+    ensures synced { S.synced sink.new ≡ S.synced sink.old }
+    ensures whole { result.whole ≡ true → result.taken ≡ length bytes.now }
+    ensures good { result.whole ≡ true → S.failures sink.new ≡ S.failures sink.old }
+    ensures cause { result.whole ≡ false → Rose (S.failures sink.old) (S.failures sink.new) }
+{
+    let mut taken = 0;
+    while taken < bytes.len() {
+        match sink.write(&bytes[taken..]) {
+            Ok(count) => taken += count,
+            Err(_) => return Out {
+                taken,
+                whole: false,
+            },
+        }
+    }
+    Out { taken, whole: true }
+}
+
+/// Writes all, and then syncs.
+pub(crate) fn write_and_sync<S: LogSink>(sink: &mut S, bytes: &[u8]) -> Out
+    ensures at_most { result.taken ≤ length bytes.now }
+    ensures told { S.told sink.new ≡ append_known (S.told sink.old) (take result.taken bytes.now) }
+    ensures whole { result.whole ≡ true → result.taken ≡ length bytes.now }
+    ensures synced { result.whole ≡ true
+        → IfSome (S.told sink.new) (λ all. S.synced sink.new ≡ length all) }
+    ensures not_synced { result.whole ≡ false → S.synced sink.new ≡ S.synced sink.old }
+    ensures good { result.whole ≡ true → S.failures sink.new ≡ S.failures sink.old }
+    ensures cause { result.whole ≡ false → Rose (S.failures sink.old) (S.failures sink.new) }
+{
+    let out = write_out(sink, bytes);
+    if out.whole && sink.sync().is_err() {
+        return Out {
+            taken: out.taken,
+            whole: false,
+        };
+    }
+    out
+}
+
+impl<S: LogSink, L: Ledger> Log<S, L> {
+    /// A log of no records, behind whatever its sink holds. At most `max_records` can be appended.
+    pub fn new(blank: Blank, sink: S, max_records: u64) -> Self
+        requires name { blank.name ≡ L.name }
+        requires parts { blank.parts ≡ L.parts }
+        requires two { 2 ≤ blank.parts }
+        requires some { 1 ≤ max_records }
+        requires limited { max_records ≤ 2 ^ 40 }
+        ensures { result ≡ record {
+          told = S.told sink;
+          synced = S.synced sink;
+          calls = S.calls sink;
+          failures = S.failures sink;
+          appended = 0;
+          written = 0;
+          limit = max_records;
+          broken = false;
+          parts = blank.parts;
+        } }
+    {
+        let (book, rest) = blank.open::<L>();
+        Log {
+            sink,
+            book,
+            rest,
+            appended: 0,
+            written: 0,
+            limit: max_records,
+            broken: false,
+        }
+    }
+
+    /// One share, of no record yet.
+    pub fn split(&mut self) -> RecordShare<L>
+        requires { 2 ≤ self.old.parts }
+        ensures none { result ≡ 0 }
+        ensures part { self.new.parts + 1 ≡ self.old.parts }
+        ensures same { self.new ≡ record self.old { parts = self.new.parts } }
+        ensures log { IsLog self.new }
+    {
+        RecordShare::new(self.rest.split_off(1, 0))
+    }
+
+    /// Whether an append failed. It is so for good.
+    pub fn is_broken(&self) -> bool
+        ensures { IsTrue result ↔ (self.now.broken ≡ true) }
+    {
+        self.broken
+    }
+
+    /// The number of records that were appended.
+    pub fn appended(&self) -> u64
+        ensures { result ≡ self.now.appended }
+    {
+        self.appended
+    }
+
+    /// Writes a record out whole, and syncs it. Takes no memory of its own.
+    ///
+    /// # Errors
+    ///
+    /// [`Refusal::LogBroken`] where an earlier append failed, and [`Refusal::LogFull`] where as
+    /// many records were appended as may be: the sink is not touched. [`Refusal::LogRefused`] where
+    /// the sink failed in this call: the record may stand there in part or whole, and the log is
+    /// broken for good.
+    pub fn append<A: Allocator>(
+        &mut self,
+        share: &mut RecordShare<L>,
+        entry: &Record<A>,
+    ) -> Result<(), Refusal>
+        ensures ok { OnOk result (Appends self.old self.new (request entry.now)) }
+        ensures share { share.new ≡ share_after share.old result }
+        ensures broken { IsErrOf result Refusal.LogBroken ↔ (self.old.broken ≡ true) }
+        ensures full { IsErrOf result Refusal.LogFull → (self.old.broken ≡ false)
+            × (self.old.appended ≡ self.old.limit) }
+        ensures full_always { self.old.broken ≡ false → self.old.appended ≡ self.old.limit
+            → IsErrOf result Refusal.LogFull }
+        ensures untouched { IsErrOf result Refusal.LogBroken ⊎ IsErrOf result Refusal.LogFull
+            → self.new ≡ self.old }
+        ensures refused { IsErrOf result Refusal.LogRefused
+            → Breaks self.old self.new (request entry.now) }
+        ensures cause { IsErrOf result Refusal.LogRefused
+            → Rose self.old.failures self.new.failures }
+        ensures no_other { IsErr result → IsErrOf result Refusal.LogBroken
+            ⊎ IsErrOf result Refusal.LogFull ⊎ IsErrOf result Refusal.LogRefused }
+        // Whichever records end the sink, they do so again, this one behind them where it was
+        // appended.
+        ensures records { (records : _) → HasRecords self.old records
+            → HasRecords self.new (records_after records entry.now result) }
+    {
+        if self.broken {
+            return Err(Refusal::LogBroken);
+        }
+        if self.appended == self.limit {
+            return Err(Refusal::LogFull);
+        }
+        let out = write_and_sync(&mut self.sink, entry.text());
+        self.written += out.taken as u128;
+        if !out.whole {
+            self.broken = true;
+            return Err(Refusal::LogRefused);
+        }
+        share.rise(&mut self.book);
+        self.appended += 1;
+        Ok(())
+    }
+
+    /// The sink. A reload of what a crash leaves of the bytes that the log wrote meets no fault,
+    /// and replays the first of its records, all of them where the bytes reach the last good sync.
+    pub fn into_sink(self) -> S
+        ensures told { S.told result ≡ self.told }
+        ensures synced { S.synced result ≡ self.synced }
+        ensures counts { (S.calls result ≡ self.calls) × (S.failures result ≡ self.failures) }
+        ensures fronts { IfSome self.told
+            (λ bytes. Readable bytes self.synced self.appended self.written) }
+    {
+        longest();
+        faults();
+        let Log {
+            sink,
+            book: _,
+            rest: _,
+            appended: _,
+            written: _,
+            limit: _,
+            broken: _,
+        } = self;
+        sink
+    }
+}

@@ -1,0 +1,203 @@
+//! An owner of sets whose changes are logged.
+
+ghost use Rattle.std.specs.Prelude.{◌≡◌, ℕ, ◌+◌, ◌≤◌, None, Some, true, false, IfOk, IfErr, OnOk, IsTrue};
+ghost use Rattle.resp_wire.specs.Response.{response_of};
+ghost use Rattle.resp_wire.specs.Spelling.{request};
+ghost use Rattle.zset_core.specs.Meaning.{is_writing};
+ghost use Rattle.zset_core.specs.World.{World as WorldType};
+ghost use Rattle.append_log.specs.Log.{LogView, Appends, HasRecords, records_after, share_after};
+ghost use Rattle.append_log.specs.Logged.{LoggedView, AreSame, Replays, NotRun, Ran, Refused};
+
+use crate::log::Log;
+use crate::record::Record;
+use crate::share::RecordShare;
+use crate::sink::LogSink;
+use resp_wire::Reply;
+use std::alloc::Allocator;
+use std::hash::BuildHasher;
+use std::marker::Model;
+use std::sync::ledger::Ledger;
+use zset_core::{Command, OneOwner, Refusal};
+
+/// Appends the record of a command.
+fn append_command<S: LogSink, L: Ledger, A: Allocator + Copy>(
+    alloc: A,
+    log: &mut Log<S, L>,
+    share: &mut RecordShare<L>,
+    command: &Command<A>,
+) -> Result<(), Refusal>
+    ensures ok { OnOk result (Appends log.old log.new (request command.now.words)) }
+    ensures unbroken { OnOk result (log.old.broken ≡ false) }
+    ensures share { share.new ≡ share_after share.old result }
+    ensures cause { IfErr result
+        (λ refusal. (next : _) → NotRun refusal next (request command.now.words) log.old log.new) }
+    ensures records { (records : _) → HasRecords log.old records
+        → HasRecords log.new (records_after records command.now.words result) }
+{
+    let entry = Record::of_request(alloc, command.request())?;
+    log.append(share, &entry)
+}
+
+/// Runs a command that changes sets: prepares it, appends its record where the set will change,
+/// commits it.
+fn run_writing<H: BuildHasher + Clone + Drop, S: LogSink, L: Ledger, A: Allocator + Copy>(
+    alloc: A,
+    owner: &mut OneOwner<H, A>,
+    log: &mut Log<S, L>,
+    share: &mut RecordShare<L>,
+    command: &Command<A>,
+) -> Result<Reply<A>, Refusal>
+    requires idle { owner.old.next ≡ None }
+    requires writing { IsTrue (is_writing command.now.meaning) }
+    ensures idle { owner.new.next ≡ None }
+    ensures ok { IfOk result (λ reply. Ran
+        (record { world = owner.old.world; log = log.old; share = share.old })
+        (record { world = owner.new.world; log = log.new; share = share.new }) command.now
+        (response_of reply)) }
+    ensures err { IfErr result (λ refusal. Refused
+        (record { world = owner.old.world; log = log.old; share = share.old })
+        (record { world = owner.new.world; log = log.new; share = share.new }) command.now refusal) }
+    ensures unbroken { OnOk result (log.old.broken ≡ true → AreSame owner.old.world owner.new.world) }
+    ensures replays { (start : WorldType)
+        → Replays start (record { world = owner.old.world; log = log.old; share = share.old })
+        → Replays start (record { world = owner.new.world; log = log.new; share = share.new }) }
+{
+    let _request = command.request();
+    let outline = owner.prepare(command)?;
+    if outline.changed {
+        if let Err(refusal) = append_command(alloc, log, share, command) {
+            owner.drop_prepared(command);
+            return Err(refusal);
+        }
+    }
+    Ok(owner.commit(command))
+}
+
+/// Runs a command that reads.
+fn run_reading<H: BuildHasher + Clone + Drop, A: Allocator + Copy>(
+    owner: &mut OneOwner<H, A>,
+    command: &Command<A>,
+) -> Result<Reply<A>, Refusal>
+    requires idle { owner.old.next ≡ None }
+    requires reading { is_writing command.now.meaning ≡ false }
+    ensures idle { owner.new.next ≡ None }
+    ensures same { AreSame owner.old.world owner.new.world }
+    ensures ok { (log : LogView) (share : ℕ)
+        → IfOk result (λ reply. Ran (record { world = owner.old.world; log = log; share = share })
+        (record { world = owner.new.world; log = log; share = share }) command.now
+        (response_of reply)) }
+    ensures err { (log : LogView) (share : ℕ)
+        → IfErr result (λ refusal. Refused
+        (record { world = owner.old.world; log = log; share = share })
+        (record { world = owner.new.world; log = log; share = share }) command.now refusal) }
+    ensures replays { (start : WorldType) (log : LogView) (share : ℕ)
+        → Replays start (record { world = owner.old.world; log = log; share = share })
+        → Replays start (record { world = owner.new.world; log = log; share = share }) }
+{
+    match owner.run(command) {
+        Ok(reply) => Ok(reply),
+        Err(refusal) => Err(refusal),
+    }
+}
+
+/// An owner of sets whose changes are logged: a command that changes a set is answered once its
+/// record was written and synced. A contract sees the sets, the log, and how many records it
+/// appended.
+#[derive(Drop)]
+pub struct LoggedOwner<H: BuildHasher, S: LogSink, L: Ledger, A: Allocator + Copy> {
+    alloc: A,
+    owner: OneOwner<H, A>,
+    log: Log<S, L>,
+    share: RecordShare<L>,
+}
+
+impl<H: BuildHasher, S: LogSink, L: Ledger, A: Allocator + Copy> Model for LoggedOwner<H, S, L, A> {
+    ghost use Rattle.append_log.specs.Logged.{LoggedView};
+
+    ghost Value = { LoggedView };
+
+    ghost use Rattle.std.specs.Coded.{codes};
+    ghost use Rattle.zset_core.specs.View.{coded_members, coded_world};
+
+    ghost coded = { Prim.hlevel (codes, coded_members, coded_world) };
+
+    ghost use Rattle.std.specs.Prelude.{◌≡◌, None};
+
+    ghost view = { λ o. record { world = o.owner.world; log = o.log; share = o.share } };
+
+    ghost invariant = { λ o. o.owner.next ≡ None };
+}
+
+impl<H: BuildHasher + Clone + Drop, S: LogSink, L: Ledger, A: Allocator + Copy> LoggedOwner<
+    H,
+    S,
+    L,
+    A,
+> {
+    /// An owner whose changes go to a log from now on. It takes one of the log's shares, and no
+    /// memory.
+    pub fn new(alloc: A, owner: OneOwner<H, A>, log: Log<S, L>) -> Self
+        requires idle { owner.next ≡ None }
+        requires two { 2 ≤ log.parts }
+        ensures world { result.world ≡ owner.world }
+        ensures log { result.log ≡ record log { parts = result.log.parts } }
+        ensures part { result.log.parts + 1 ≡ log.parts }
+        ensures share { result.share ≡ 0 }
+        // A log that has no record yet leads from the world to the world.
+        ensures replays { log.appended ≡ 0 → Replays owner.world result }
+    {
+        let mut log = log;
+        let share = log.split();
+        LoggedOwner {
+            alloc,
+            owner,
+            log,
+            share,
+        }
+    }
+
+    /// Runs a command. One that changes a set is prepared, its record is appended, and then it is
+    /// committed; one that changes nothing asks the log nothing.
+    ///
+    /// # Errors
+    ///
+    /// All sets are as they were. [`Refusal::NoMemory`] or [`Refusal::ScoreOverflow`]: the log was
+    /// not asked. [`Refusal::LogBroken`], [`Refusal::LogFull`] or [`Refusal::LogRefused`]: as
+    /// [`Log::append`] has them.
+    pub fn run(&mut self, command: &Command<A>) -> Result<Reply<A>, Refusal>
+        ensures ok { IfOk result (λ reply. Ran self.old self.new command.now (response_of reply)) }
+        ensures err { IfErr result (λ refusal. Refused self.old self.new command.now refusal) }
+        ensures unbroken { OnOk result
+            (self.old.log.broken ≡ true → AreSame self.old.world self.new.world) }
+        // Whatever world the log's records led from to this one's, they do so again, refused or
+        // not.
+        ensures replays { (start : WorldType) → Replays start self.old → Replays start self.new }
+    {
+        if command.writes() {
+            run_writing(
+                self.alloc,
+                &mut self.owner,
+                &mut self.log,
+                &mut self.share,
+                command,
+            )
+        } else {
+            run_reading(&mut self.owner, command)
+        }
+    }
+
+    /// The owner and the log. The share of the records that were appended here is let go.
+    pub fn into_parts(self) -> (OneOwner<H, A>, Log<S, L>)
+        ensures world { result.0.world ≡ self.world }
+        ensures idle { result.0.next ≡ None }
+        ensures log { result.1 ≡ self.log }
+    {
+        let LoggedOwner {
+            alloc: _,
+            owner,
+            log,
+            share: _,
+        } = self;
+        (owner, log)
+    }
+}

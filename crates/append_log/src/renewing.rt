@@ -1,0 +1,188 @@
+//! Writing an append file anew.
+
+ghost use Rattle.std.specs.Prelude.{◌≡◌, ◌≤◌, [], ◌∷◌, ◌++◌, length, min, ◌-◌, ◌^◌, IfOk, IfErr, IfSome, OnOk, OnErr, MatchResult};
+ghost use Rattle.std.specs.Io.KnownBytes.{append_known};
+ghost use Rattle.resp_wire.specs.Device.{Rose};
+ghost use Rattle.resp_wire.specs.Spelling.{request};
+ghost use Rattle.append_log.specs.Image.{add_record, pieces, piece_records, set_records, image};
+ghost use Rattle.append_log.specs.Records.{text_of as text_of_records};
+ghost use Rattle.append_log.specs.Rewriting.{TakesFront, SinkFailed};
+ghost use Rattle.append_log.specs.declared.renewing.RewriteFault.TheVariants as faults;
+ghost use Rattle.score_bounds.specs.Scores.{score_text};
+
+use crate::log::write_out;
+use crate::sink::LogSink;
+use crack_kernel::Row;
+use resp_wire::{Bytes, BytesList, Reply, write_reply};
+use score_bounds::write_score;
+use std::alloc::{AllocError, Allocator};
+use std::hash::BuildHasher;
+use thiserror::Error;
+use zset_core::OneOwner;
+
+/// The most pairs of one record.
+const PIECE: usize = 512;
+
+/// Why a rewrite ended.
+#[derive(Clone, Copy, Debug, PartialEq, Eq, Error)]
+pub enum RewriteFault {
+    #[error("out of memory")]
+    NoMemory,
+    #[error("the new append file failed")]
+    Sink,
+}
+
+impl From<AllocError> for RewriteFault {
+    ghost from_gives = { λ _ fault. fault ≡ faults.NoMemory };
+
+    fn from(_error: AllocError) -> RewriteFault {
+        RewriteFault::NoMemory
+    }
+}
+
+/// A byte string of these bytes.
+fn bytes_of<A: Allocator>(alloc: A, bytes: &[u8]) -> Result<Bytes<A>, AllocError>
+    ensures { IfOk result (λ text. text ≡ bytes.now) }
+{
+    Ok(Bytes::new(Vec::from_slice(alloc, bytes)?))
+}
+
+/// A score as a byte string.
+fn score_bytes<A: Allocator>(alloc: A, score: i64) -> Result<Bytes<A>, AllocError>
+    ensures { IfOk result (λ text. text ≡ score_text score) }
+{
+    let mut text = Vec::new(alloc);
+    write_score(score, &mut text)?;
+    Ok(Bytes::new(text))
+}
+
+/// A score and its member, as two words more.
+fn push_pair<A: Allocator + Copy>(
+    alloc: A,
+    words: &mut Vec<Bytes<A>, A>,
+    pair: &Row<A>,
+) -> Result<(), AllocError>
+    ensures { OnOk result (words.new.items ≡ words.old.items ++ score_text pair.now.0 ∷ pair.now.1
+        ∷ []) }
+{
+    words.push(score_bytes(alloc, pair.score())?)?;
+    words.push(bytes_of(alloc, pair.member())?)?;
+    Ok(())
+}
+
+/// The words of ZADD with these pairs.
+fn words_of<A: Allocator + Copy>(
+    alloc: A,
+    key: &[u8],
+    pairs: &[Row<A>],
+) -> Result<BytesList<A>, AllocError>
+    ensures { IfOk result (λ words. words ≡ add_record key.now pairs.now) }
+{
+    let mut words = Vec::new(alloc);
+    words.push(bytes_of(alloc, b"ZADD")?)?;
+    words.push(bytes_of(alloc, key)?)?;
+    for row in pairs {
+        push_pair(alloc, &mut words, row)?;
+    }
+    Ok(BytesList::new(words))
+}
+
+/// The text of a record of these pairs.
+fn text_of<A: Allocator + Copy>(
+    alloc: A,
+    key: &[u8],
+    pairs: &[Row<A>],
+) -> Result<Vec<u8, A>, AllocError>
+    ensures { IfOk result (λ text. text.items ≡ request (add_record key.now pairs.now)) }
+{
+    let words = words_of(alloc, key, pairs)?;
+    let mut text = Vec::new(alloc);
+    // An array of bulk strings is spelled the same as a reply and as a request.
+    write_reply(&Reply::List(words), &mut text)?;
+    Ok(text)
+}
+
+/// Writes a record of these pairs.
+fn put_record<S: LogSink, A: Allocator + Copy>(
+    alloc: A,
+    sink: &mut S,
+    key: &[u8],
+    pairs: &[Row<A>],
+) -> Result<(), RewriteFault>
+    ensures ok { OnOk result (S.told sink.new
+        ≡ append_known (S.told sink.old) (request (add_record key.now pairs.now))) }
+    ensures err { OnErr result (TakesFront (S.told sink.old) (S.told sink.new)
+        (request (add_record key.now pairs.now))) }
+    ensures failures { MatchResult result (λ _. S.failures sink.new ≡ S.failures sink.old)
+        (λ fault. SinkFailed fault (S.failures sink.old) (S.failures sink.new)) }
+{
+    let text = text_of(alloc, key, pairs)?;
+    if write_out(sink, &text).whole {
+        Ok(())
+    } else {
+        Err(RewriteFault::Sink)
+    }
+}
+
+/// Writes the records of one set, and gives their number.
+fn put_set<S: LogSink, A: Allocator + Copy>(
+    alloc: A,
+    sink: &mut S,
+    key: &[u8],
+    rows: &[Row<A>],
+) -> Result<usize, RewriteFault>
+    ensures count { IfOk result (λ n. n ≡ length (piece_records key.now rows.now)) }
+    ensures few { IfOk result (λ n. n ≤ length rows.now) }
+    ensures ok { OnOk result (S.told sink.new
+        ≡ append_known (S.told sink.old) (text_of_records (piece_records key.now rows.now))) }
+    ensures err { OnErr result (TakesFront (S.told sink.old) (S.told sink.new)
+        (text_of_records (piece_records key.now rows.now))) }
+    ensures failures { MatchResult result (λ _. S.failures sink.new ≡ S.failures sink.old)
+        (λ fault. SinkFailed fault (S.failures sink.old) (S.failures sink.new)) }
+{
+    let mut count = 0;
+    let mut rest = rows;
+    'pieces: while !rest.is_empty() {
+        let (piece, behind) = rest.split_at(PIECE.min(rest.len()));
+        put_record(alloc, sink, key, piece)?;
+        count += 1;
+        rest = behind;
+    }
+    Ok(count)
+}
+
+/// Writes the sets of an owner anew, as the shortest list of records that leads to them: the pairs
+/// of each set in the order of their listing, 512 to a record, the sets in the byte order of their
+/// keys. Then syncs. Gives the number of records, which stays at 2^64 - 1.
+///
+/// # Errors
+///
+/// A front of these bytes was written then.
+pub fn rewrite<H: BuildHasher + Clone + Drop, S: LogSink, A: Allocator + Copy>(
+    alloc: A,
+    owner: &OneOwner<H, A>,
+    sink: &mut S,
+) -> Result<u64, RewriteFault>
+    requires idle { owner.now.next ≡ None }
+    ensures count { IfOk result (λ n. n ≡ min (length (image owner.now.world)) (2 ^ 64 - 1)) }
+    ensures told { OnOk result (S.told sink.new
+        ≡ append_known (S.told sink.old) (text_of_records (image owner.now.world))) }
+    ensures synced { OnOk result (IfSome (S.told sink.new) (λ all. S.synced sink.new ≡ length all)) }
+    ensures refused { OnErr result
+        (TakesFront (S.told sink.old) (S.told sink.new) (text_of_records (image owner.now.world))) }
+    ensures failures { MatchResult result (λ _. S.failures sink.new ≡ S.failures sink.old)
+        (λ fault. SinkFailed fault (S.failures sink.old) (S.failures sink.new)) }
+{
+    let mut count: u64 = 0;
+    'keys: for index in 0..owner.key_count() {
+        let Some(key) = owner.key_at(index) else {
+            unreachable!()
+        };
+        let rows = owner.pairs(key)?;
+        count = count.saturating_add(put_set(alloc, sink, key, &rows)? as u64);
+    }
+    match sink.sync() {
+        Ok(()) => Ok(count),
+        Err(_) => Err(RewriteFault::Sink),
+    }
+}

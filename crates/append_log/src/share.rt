@@ -1,0 +1,52 @@
+//! What its holders were told of a log's appends.
+
+ghost use Rattle.std.specs.Prelude.{◌≡◌, ◌+◌, ◌<◌, ◌^◌};
+
+use std::marker::Model;
+use std::sync::ledger::{Book, Ledger, Share};
+
+/// How many records were appended by its holder: one part of the log's own count. A contract sees
+/// the number.
+#[derive(Drop)]
+pub struct RecordShare<L: Ledger> {
+    count: u64,
+    share: Share<L>,
+}
+
+impl<L: Ledger> Model for RecordShare<L> {
+    ghost use Rattle.std.specs.Prelude.{ℕ, ◌≡◌};
+
+    ghost Value = { ℕ };
+
+    ghost view = { λ s. s.share.amount };
+
+    ghost invariant = { λ s. (s.share.amount ≡ s.count) × (s.share.parts ≡ 1) };
+}
+
+impl<L: Ledger> RecordShare<L> {
+    pub(crate) fn new(share: Share<L>) -> RecordShare<L>
+        requires part { share.parts ≡ 1 }
+        requires none { share.amount ≡ 0 }
+        ensures { result ≡ 0 }
+    {
+        RecordShare { count: 0, share }
+    }
+
+    /// The number of records.
+    pub fn count(&self) -> u64
+        ensures { result ≡ self.now }
+    {
+        self.count
+    }
+
+    // One record more, in the share and in the book.
+    pub(crate) fn rise(&mut self, book: &mut Book<L>)
+        requires { book.old.total < 2 ^ 40 }
+        ensures share { self.new ≡ self.old + 1 }
+        ensures book { book.new.total ≡ book.old.total + 1 }
+    {
+        book.audit(&mut self.share);
+        book.add(&mut self.share, 1);
+        self.count += 1;
+    }
+}

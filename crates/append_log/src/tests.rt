@@ -1,0 +1,245 @@
+ghost use Rattle.std.specs.Prelude.{◌≡◌, ◌≤◌, ◌^◌, None};
+
+use crate::{FuseSink, Loaded, Log, LoggedOwner, MemorySink, ReloadFault, reload, rewrite};
+use resp_wire::{Bytes, BytesList, MemorySource, Reply, Request, write_reply, write_request};
+use std::alloc::Global;
+use std::hash::RandomState;
+use std::marker::Brand;
+use std::sync::ledger::{Blank, Ledger};
+use std::test::*;
+use zset_core::{Command, OneOwner, Refusal};
+
+type Owner = OneOwner<RandomState, Global>;
+
+// The request of a text's words, which single spaces part.
+fn request(alloc: Global, text: &str) -> Result<Request<Global>, Fail> {
+    let mut words = Vec::new(alloc);
+    for word in text.split(' ') {
+        words.push(Bytes::new(Vec::from_slice(alloc, word.as_bytes())?))?;
+    }
+    Ok(Request::new(BytesList::new(words)).ok_or("no request")?)
+}
+
+fn command(alloc: Global, text: &str) -> Result<Command<Global>, Fail> {
+    match Command::read(alloc, request(alloc, text)?) {
+        Ok(command) => Ok(command),
+        Err(_) => Err("no command")?,
+    }
+}
+
+// The bytes of a reply, an end of line as `~`, or the number of a refusal behind `r`.
+fn shown(alloc: Global, answer: &Result<Reply<Global>, Refusal>) -> Result<String, Fail> {
+    match answer {
+        Err(refusal) => Ok(format!(in alloc; "r{}", refusal.number())?),
+        Ok(reply) => {
+            let mut bytes = Vec::new(alloc);
+            write_reply(reply, &mut bytes)?;
+            match std::str::from_utf8(bytes.as_slice()) {
+                Ok(text) => Ok(text.replace(alloc, "\r\n", "~")?),
+                Err(_) => Err("no text")?,
+            }
+        }
+    }
+}
+
+fn answer(alloc: Global, owner: &mut Owner, text: &str) -> Result<String, Fail>
+    requires { owner.old.next ≡ None }
+    ensures { owner.new.next ≡ None }
+{
+    let command = command(alloc, text)?;
+    let answer = owner.run(&command);
+    shown(alloc, &answer)
+}
+
+// What commands came to that were run one after the other.
+#[derive(Drop)]
+struct Played {
+    // The replies, a space behind each.
+    replies: String,
+    appended: u64,
+    is_broken: bool,
+    sink: FuseSink<MemorySink<Global>>,
+}
+
+fn play<L: Ledger>(
+    alloc: Global,
+    hasher: RandomState,
+    blank: Blank,
+    sink: FuseSink<MemorySink<Global>>,
+    max_records: u64,
+    commands: &[&str],
+) -> Result<Played, Fail>
+    requires name { blank.name ≡ L.name }
+    requires parts { blank.parts ≡ L.parts }
+    requires two { blank.parts ≡ 2 }
+    requires some { 1 ≤ max_records }
+    requires limited { max_records ≤ 2 ^ 40 }
+{
+    let log = Log::<_, L>::new(blank, sink, max_records);
+    let mut owner = LoggedOwner::new(alloc, OneOwner::new(alloc, hasher), log);
+    let mut replies = String::new(alloc);
+    for text in commands {
+        let command = command(alloc, text)?;
+        let answer = owner.run(&command);
+        replies.push_str(shown(alloc, &answer)?.as_str())?;
+        replies.push(' ')?;
+    }
+    let (_, log) = owner.into_parts();
+    let appended = log.appended();
+    let is_broken = log.is_broken();
+    Ok(Played {
+        replies,
+        appended,
+        is_broken,
+        sink: log.into_sink(),
+    })
+}
+
+// What a reload of these bytes gives, and the reply to a command after it.
+fn load(
+    alloc: Global,
+    hasher: RandomState,
+    bytes: &[u8],
+    question: &str,
+) -> Result<(Result<Loaded, ReloadFault>, String), Fail> {
+    let mut owner = OneOwner::new(alloc, hasher);
+    let mut source = MemorySource::new(bytes, 65536);
+    let loaded = reload(alloc, &mut source, &mut owner, 35, 1000);
+    let reply = answer(alloc, &mut owner, question)?;
+    Ok((loaded, reply))
+}
+
+fn loaded(records: u64, whole: u64, torn: u64) -> Result<Loaded, ReloadFault> {
+    Ok(Loaded {
+        records,
+        whole,
+        torn,
+    })
+}
+
+// A sink that fails leaves the sets, and the log is broken for good; what a full log refuses leaves
+// them too.
+#[test]
+fn logged_commands(rt: HostRuntime) -> Result<(), Fail> {
+    let alloc = rt.alloc();
+
+    // The second write fails: the front of a record stands in the sink.
+    let sink = FuseSink::new(MemorySink::new(alloc, 7), 2);
+    let talk = ["ZADD k 1 a", "ZCARD k", "ZADD k 1 a", "ZREM k z"];
+    let torn = play::<Brand>(
+        alloc,
+        RandomState::new(&rt)?,
+        Blank::new(2),
+        sink,
+        10,
+        &talk,
+    )?;
+    assert_eq!(rt; torn.replies.as_str(), "r16 :0~ r14 :0~ ");
+    assert_eq!(rt; torn.is_broken, true);
+    assert_eq!(rt; torn.sink.calls(), 2);
+    let torn_sink = torn.sink.into_inner();
+    assert_eq!(rt; torn_sink.bytes(), b"*4\r\n$4\r".as_slice());
+    let (after_torn, _) = load(alloc, RandomState::new(&rt)?, torn_sink.bytes(), "ZCARD k")?;
+    assert_eq!(rt; after_torn, loaded(0, 0, 7));
+
+    // The sync fails: the refused record stands there whole.
+    let sink = FuseSink::new(MemorySink::new(alloc, 64), 2);
+    let talk = ["ZADD k 1 a", "ZCARD k"];
+    let unsynced = play::<Brand>(
+        alloc,
+        RandomState::new(&rt)?,
+        Blank::new(2),
+        sink,
+        10,
+        &talk,
+    )?;
+    assert_eq!(rt; unsynced.replies.as_str(), "r16 :0~ ");
+    let unsynced_sink = unsynced.sink.into_inner();
+    let (after_unsynced, score) = load(
+        alloc,
+        RandomState::new(&rt)?,
+        unsynced_sink.bytes(),
+        "ZSCORE k a",
+    )?;
+    assert_eq!(rt; after_unsynced, loaded(1, 35, 0));
+    assert_eq!(rt; score.as_str(), "$1~1~");
+
+    // One record alone may be appended.
+    let sink = FuseSink::new(MemorySink::new(alloc, 64), 0);
+    let talk = [
+        "ZADD k 1 a",
+        "ZADD k 2 b",
+        "ZADD k 1 a",
+        "ZREM k a",
+        "ZCARD k",
+    ];
+    let full = play::<Brand>(alloc, RandomState::new(&rt)?, Blank::new(2), sink, 1, &talk)?;
+    assert_eq!(rt; full.replies.as_str(), ":1~ r15 :0~ r15 :1~ ");
+    assert_eq!(rt; full.is_broken, false);
+    assert_eq!(rt; full.appended, 1);
+    Ok(())
+}
+
+// The bytes of records.
+fn file(alloc: Global, records: &[&str]) -> Result<Vec<u8>, Fail> {
+    let mut bytes = Vec::new(alloc);
+    for text in records {
+        write_request(&request(alloc, text)?, &mut bytes)?;
+    }
+    Ok(bytes)
+}
+
+#[test]
+fn reloaded_files(rt: HostRuntime) -> Result<(), Fail> {
+    let alloc = rt.alloc();
+    let mut whole = file(alloc, &["ZADD k 1 a", "ZADD k 2 b", "ZREM k a"])?;
+    assert_eq!(rt; whole.len(), 98);
+    let listing = "ZRANGEBYSCORE k -inf +inf WITHSCORES";
+
+    let (all, pairs) = load(alloc, RandomState::new(&rt)?, whole.as_slice(), listing)?;
+    assert_eq!(rt; all, loaded(3, 98, 0));
+    assert_eq!(rt; pairs.as_str(), "*2~$1~b~$1~2~");
+
+    let mut cut = file(alloc, &["ZADD k 1 a", "ZADD k 2 b", "ZREM k a"])?;
+    cut.truncate(80);
+    let (front, _) = load(alloc, RandomState::new(&rt)?, cut.as_slice(), listing)?;
+    assert_eq!(rt; front, loaded(2, 70, 10));
+
+    if let Some(byte) = whole.get_mut(39) {
+        *byte = b'!';
+    }
+    let (damaged, pairs) = load(alloc, RandomState::new(&rt)?, whole.as_slice(), listing)?;
+    assert_eq!(rt; damaged, Err(ReloadFault::Damaged(35)));
+    assert_eq!(rt; pairs.as_str(), "*2~$1~a~$1~1~");
+
+    let reads = file(alloc, &["ZADD k 1 a", "ZADD k 2 b", "ZCARD k"])?;
+    let (no_command, _) = load(alloc, RandomState::new(&rt)?, reads.as_slice(), listing)?;
+    assert_eq!(rt; no_command, Err(ReloadFault::NotACommand(70)));
+
+    let (empty, _) = load(alloc, RandomState::new(&rt)?, b"", listing)?;
+    assert_eq!(rt; empty, loaded(0, 0, 0));
+
+    // What stands for no request is passed over: it is no record, and counts among the whole bytes.
+    let (skips, card) = load(alloc, RandomState::new(&rt)?, b"*0\r\n*-1\r\n", "ZCARD k")?;
+    assert_eq!(rt; skips, loaded(0, 9, 0));
+    assert_eq!(rt; card.as_str(), ":0~");
+    Ok(())
+}
+
+#[test]
+fn rewritten_sets(rt: HostRuntime) -> Result<(), Fail> {
+    let alloc = rt.alloc();
+    let mut owner = OneOwner::new(alloc, RandomState::new(&rt)?);
+    answer(alloc, &mut owner, "ZADD k 1 b 1 a 1 B")?;
+    answer(alloc, &mut owner, "ZADD j -3 x")?;
+    let mut sink = MemorySink::new(alloc, 7);
+    assert_eq!(rt; rewrite(alloc, &owner, &mut sink), Ok(2));
+    let records = file(alloc, &["ZADD j -3 x", "ZADD k 1 B 1 a 1 b"])?;
+    assert_eq!(rt; records.len(), 99);
+    assert_eq!(rt; sink.bytes(), records.as_slice());
+    let listing = "ZRANGEBYSCORE k -inf +inf WITHSCORES";
+    let (again, pairs) = load(alloc, RandomState::new(&rt)?, sink.bytes(), listing)?;
+    assert_eq!(rt; again, loaded(2, 99, 0));
+    assert_eq!(rt; pairs.as_str(), "*6~$1~B~$1~1~$1~a~$1~1~$1~b~$1~1~");
+    Ok(())
+}

@@ -1,0 +1,109 @@
+-- What a set keeps of its column as it prepares a command.
+use Rattle.std.proofs.Common.{◌≡◌, ℕ, ℤ, List, [], ◌∷◌, map, length, take, count_by, Option, None, Some, refl, sym, ap, subst, ◌∙◌, arith}
+use Rattle.std.specs.FinMap as fin
+use Rattle.resp_wire.specs.Response.{Response}
+use Rattle.ripple_column.specs.Content.{ColumnState, Holds, SameContent}
+use Rattle.zset_core.specs.Sets.{Members, pairs}
+use Rattle.zset_core.specs.Kept.{Entry, held, rows_by, members_by, IsBack, IsSettled}
+use Rattle.zset_core.specs.Edited.{HasRoom}
+use Rattle.zset_core.specs.Planned.{Plans, Prepares, left_by}
+use Rattle.zset_core.specs.Outlined.{IsOutline}
+use Rattle.zset_core.specs.View.{SetView, Next}
+use Rattle.zset_core.specs.Viewed.{view_of, next_of, IsIdle, IsPlanned, IsSound}
+use Rattle.zset_core.specs.declared.plan.Plan.{Plan}
+use Rattle.zset_core.specs.declared.set.Prepared.{Prepared}
+
+not_none : (n : Next) → ◌≡◌ {A = Option Next} (Some n) None → ⊥
+not_none n e = cc
+
+module _ {A : Type 0} where
+  -- a plan was made from the entries, whatever its commit leaves and replies
+  pub Prepares-some : (old new : List (Entry A)) (plan : Plan A) (o : Option (Members × Response)) → Plans old new plan o → (done : Members × Response) × Prepares old new plan done.0 done.1
+  Prepares-some old new plan None h = absurd h
+  Prepares-some old new plan (Some done) h = (done, h)
+
+  -- the entries before a plan, once its new entries are let go
+  pub IsBack-let_go : (old mid new : List (Entry A)) (plan : Plan A) (o : Option (Members × Response)) → Plans old mid plan o → rows_by held new ≡ take plan.kept (rows_by held mid) → IsSettled new → IsBack old new
+  IsBack-let_go old mid new plan o h is settled =
+      let p = (Prepares-some old mid plan o h).1 in
+      record { same = is ∙ ap (λ (n : ℕ). take n (rows_by held mid)) p.kept ∙ p.grows.front; settled = settled }
+
+  pub IsIdle-of : (es : List (Entry A)) (c : ColumnState) (p : Option (Prepared A)) (v : SetView) → view_of es p ≡ v → v.next ≡ None → IsSound es c p → IsIdle es c
+  IsIdle-of es c None v is idle s = s
+  IsIdle-of es c (Some q) v is idle s =
+      let shown : Some (next_of es q) ≡ v.next = ap (λ (w : SetView). w.next) is in
+      absurd (not_none (next_of es q) (shown ∙ idle))
+
+  pub IsSound-idle : (es new : List (Entry A)) (c : ColumnState) (p : Option (Prepared A)) (v : SetView) → view_of es p ≡ v → v.next ≡ None → IsIdle new c → IsSound new c p
+  IsSound-idle es new c None v is idle s = s
+  IsSound-idle es new c (Some q) v is idle s =
+      let shown : Some (next_of es q) ≡ v.next = ap (λ (w : SetView). w.next) is in
+      absurd (not_none (next_of es q) (shown ∙ idle))
+
+  pub members_idle : (es : List (Entry A)) (p : Option (Prepared A)) (v : SetView) → view_of es p ≡ v → v.next ≡ None → members_by held es ≡ v.members
+  members_idle es None v is idle = ap (λ (w : SetView). w.members) is
+  members_idle es (Some q) v is idle =
+      let shown : Some (next_of es q) ≡ v.next = ap (λ (w : SetView). w.next) is in
+      absurd (not_none (next_of es q) (shown ∙ idle))
+
+  pub outline_left : (old new : List (Entry A)) (plan : Plan A) (o : Option (Members × Response)) (m : Members) → members_by held old ≡ m → Plans old new plan o → IsOutline plan.outline m (left_by new plan)
+  outline_left old new plan o m is h =
+      let p = (Prepares-some old new plan o h).1 in
+      subst (λ (k : Members). IsOutline plan.outline k (left_by new plan)) is (subst (IsOutline plan.outline (members_by held old)) (sym p.members_are) p.outline_is)
+
+  -- the content is the bag of the members that show
+  pub Holds-shown : (es : List (Entry A)) (c : ColumnState) (p : Option (Prepared A)) (v : SetView) → view_of es p ≡ v → IsSound es c p → Holds c (pairs v.members)
+  Holds-shown es c None v is s = subst (λ (m : Members). Holds c (pairs m)) (ap (λ (w : SetView). w.members) is) s.content
+  Holds-shown es c (Some q) v is s = subst (λ (m : Members). Holds c (pairs m)) (ap (λ (w : SetView). w.members) is) s.content
+
+  pub IsPlanned-of : (es : List (Entry A)) (c : ColumnState) (p : Option (Prepared A)) (q : Prepared A) → Some q ≡ p → IsSound es c p → IsPlanned es c q.plan
+  IsPlanned-of es c p q is s = subst (IsSound es c) (sym is) s
+
+  pub IsSound-none : (es : List (Entry A)) (c : ColumnState) (p : Option (Prepared A)) → p ≡ None → IsIdle es c → IsSound es c p
+  IsSound-none es c p is s = subst (IsSound es c) (sym is) s
+
+  -- the content stays that of the members as long as these stay
+  pub IsIdle-same : (old new : List (Entry A)) (c c' : ColumnState) → IsIdle old c → rows_by held new ≡ rows_by held old → IsSettled new → SameContent c c' → IsIdle new c'
+  IsIdle-same old new c c' idle same settled content = record {
+    settled = settled;
+    content = λ p. content p ∙ idle.content p ∙ ap (λ (rows : List (List ℕ × ℤ)). count_by p (pairs (fin.from_entries rows))) (sym same);
+  }
+
+  pub IsPlanned-made : (old new : List (Entry A)) (c c' : ColumnState) (plan : Plan A) (o : Option (Members × Response)) → IsIdle old c → Plans old new plan o → SameContent c c' → HasRoom c' plan.edits → IsPlanned new c' plan
+  IsPlanned-made old new c c' plan o idle h content room =
+      let done = (Prepares-some old new plan o h).0 in
+      let p = (Prepares-some old new plan o h).1 in
+      let front : take plan.kept (rows_by held new) ≡ rows_by held old = ap (λ (n : ℕ). take n (rows_by held new)) p.kept ∙ p.grows.front in
+      record {
+        kept = omega (arith, p.kept, p.grows.longer);
+        waiting = p.waiting;
+        content = λ t. content t ∙ idle.content t ∙ ap (λ (rows : List (List ℕ × ℤ)). count_by t (pairs (fin.from_entries rows))) (sym front);
+        turns = λ t.
+            let left = ap (λ (m : Members). count_by t (pairs m)) p.members_are in
+            omega (arith, left, p.edits_are t, content t, idle.content t);
+        room = room;
+      }
+
+  -- once the plan is let go
+  pub IsIdle-let_go : (es new : List (Entry A)) (c : ColumnState) (plan : Plan A) → IsPlanned es c plan → rows_by held new ≡ take plan.kept (rows_by held es) → IsSettled new → IsIdle new c
+  IsIdle-let_go es new c plan p is settled = record {
+    settled = settled;
+    content = λ t. p.content t ∙ ap (λ (rows : List (List ℕ × ℤ)). count_by t (pairs (fin.from_entries rows))) (sym is);
+  }
+
+empty_list : {X : Type 0} (xs : List X) → length xs ≡ 0 → xs ≡ []
+empty_list [] h = refl
+empty_list (x ∷ xs) h = absurd (omega arith)
+
+-- an empty column holds the pairs of the empty set
+pub Holds-empty : (c : ColumnState) (m : Members) → m ≡ fin.empty → c.rows ≡ [] → c.insertions ≡ [] → Holds c (pairs m)
+unfolding pairs
+Holds-empty c m none rows insertions p =
+    let len : length (fin.entries m) ≡ 0 = sym (fin.len-entries m) ∙ ap fin.len none ∙ fin.len-empty _ ℤ in
+    let no_pairs = ap (λ (es : List (List ℕ × ℤ)). count_by p (map (λ (e : List ℕ × ℤ). (e.1, e.0)) es)) (empty_list (fin.entries m) len) in
+    let a : count_by p c.rows ≡ 0 = ap (count_by p) rows in
+    let b : count_by p c.insertions ≡ 0 = ap (count_by p) insertions in
+    omega (arith, no_pairs, a, b)
+
+pub IsIdle-empty : {A : Type 0} (es : List (Entry A)) (c : ColumnState) → es ≡ [] → IsSettled es → c.rows ≡ [] → c.insertions ≡ [] → IsIdle es c
+IsIdle-empty {A} es c none settled rows insertions = record { settled = settled; content = Holds-empty c (members_by held es) (ap (λ (l : List (Entry A)). members_by held l) none) rows insertions }

@@ -1,0 +1,17 @@
+use Rattle.zset_core.specs.Kept.{held, members_by}
+use Rattle.zset_core.specs.Step.{step}
+use Rattle.zset_core.proofs.Planning.{IsIdle-of, IsPlanned-made, members_idle, outline_left}
+use Rattle.zset_core.proofs.set.ZSet.prepare.Goals as goal
+
+pub invariant_of-self-2 : goal.invariant_of-self-2
+invariant_of-self-2 g c =
+    let old = c.self.inside.members.entries in
+    IsPlanned-made old c.make_plan.new.members.entries c.self.inside.column c.make_plan.new.column c.in_ok-plan.plan (step (members_by held old) c.args.command.now.meaning)
+    (IsIdle-of old c.self.inside.column c.self.inside.prepared c.args.self.now c.self.view_is c.requires.idle c.self.invariant)
+    c.in_ok-plan.ensures.ok c.in_ok-plan.ensures.content c.in_ok-plan.ensures.room
+
+pub returns-clause-outline : goal.returns-clause-outline
+returns-clause-outline g c =
+    let old = c.self.inside.members.entries in
+    outline_left old c.make_plan.new.members.entries c.in_ok-plan.plan (step (members_by held old) c.args.command.now.meaning) c.args.self.now.members
+    (members_idle old c.self.inside.prepared c.args.self.now c.self.view_is c.requires.idle) c.in_ok-plan.ensures.ok

@@ -1,0 +1,186 @@
+ghost use Rattle.std.specs.Prelude.{◌≡◌, None};
+
+use crate::ZSet;
+use crate::set_tests::{command, text_of};
+use resp_wire::Reply;
+use score_bounds::{Bound, Range};
+use std::alloc::Global;
+use std::hash::RandomState;
+use std::process::Abort;
+use std::test::*;
+
+type Set = ZSet<RandomState, Global>;
+
+// The reply to a command that is run on a set.
+fn run(alloc: Global, set: &mut Set, text: &str) -> Result<Reply<Global>, Fail>
+    requires { set.old.next ≡ None }
+    ensures { set.new.next ≡ None }
+{
+    let command = command(alloc, text)?;
+    if command.key().is_none() {
+        Err("no key")?;
+    }
+    if !command.writes() {
+        return Ok(set.answer(&command)?);
+    }
+    match set.prepare(&command) {
+        Err(_) => Err("refused")?,
+        Ok(_) => Ok(set.commit()),
+    }
+}
+
+// How many rows the column of a set has, how many wait to come in and to go out, and its pivots.
+fn state_of(alloc: Global, set: &Set) -> Result<String, Fail> {
+    let column = set.column();
+    let (coming, leaving) = column.pending();
+    let mut text = format!(in alloc; "{} rows +{} -{}", column.len(), coming, leaving)?;
+    for (value, place) in column.pivot_list() {
+        let pivot = format!(in alloc; " ({value}, {place})")?;
+        text.push_str(pivot.as_str())?;
+    }
+    Ok(text)
+}
+
+// Commands in turn on one set, with their replies and with the column that they leave.
+fn expect<R: Abort>(
+    rt: &R,
+    alloc: Global,
+    set: &mut Set,
+    rows: &[(&str, &str, &str)],
+) -> Result<(), Fail>
+    requires { set.old.next ≡ None }
+    ensures { set.new.next ≡ None }
+{
+    for (text, reply, state) in rows {
+        let told = run(alloc, set, text)?;
+        assert_eq!(rt; text_of(alloc, &told)?.as_str(), *reply, "{text}");
+        assert_eq!(rt; state_of(alloc, set)?.as_str(), *state, "{text}");
+    }
+    Ok(())
+}
+
+#[test]
+fn a_range_merges_and_cracks(rt: HostRuntime) -> Result<(), Fail> {
+    let alloc = rt.alloc();
+    let mut set = ZSet::with_hasher(alloc, RandomState::new(&rt)?);
+    let rows = [
+        (
+            "ZADD k 1 m1 2 m2 3 m3 4 m4 5 m5 6 m6 7 m7 8 m8 9 m9 10 m10",
+            ":10~",
+            "0 rows +10 -0",
+        ),
+        ("ZCOUNT k -inf +inf", ":10~", "10 rows +0 -0"),
+        ("ZCOUNT k 3 6", ":4~", "10 rows +0 -0 (3, 2) (7, 6)"),
+        ("ZADD k 1 x 5 y 9 z", ":3~", "10 rows +3 -0 (3, 2) (7, 6)"),
+        ("ZREM k y", ":1~", "10 rows +2 -0 (3, 2) (7, 6)"),
+        (
+            "ZRANGEBYSCORE k 0 10",
+            "*12~$2~m1~$1~x~$2~m2~$2~m3~$2~m4~$2~m5~$2~m6~$2~m7~$2~m8~$2~m9~$1~z~$3~m10~",
+            "12 rows +0 -0 (0, 0) (3, 3) (7, 7) (11, 12)",
+        ),
+    ];
+    expect(&rt, alloc, &mut set, rows.as_slice())
+}
+
+#[test]
+fn a_member_moves_between_pieces(rt: HostRuntime) -> Result<(), Fail> {
+    let alloc = rt.alloc();
+    let mut set = ZSet::with_hasher(alloc, RandomState::new(&rt)?);
+    let rows = [
+        ("ZADD k 1 a 5 b 9 c", ":3~", "0 rows +3 -0"),
+        ("ZCOUNT k -inf +inf", ":3~", "3 rows +0 -0"),
+        ("ZCOUNT k 4 6", ":1~", "3 rows +0 -0 (4, 1) (7, 2)"),
+        ("ZADD k CH 8 a", ":1~", "3 rows +1 -1 (4, 1) (7, 2)"),
+        ("ZCOUNT k -inf (4", ":0~", "2 rows +1 -0 (4, 0) (7, 1)"),
+        ("ZCOUNT k 4 6", ":1~", "2 rows +1 -0 (4, 0) (7, 1)"),
+        ("ZCOUNT k 7 +inf", ":2~", "3 rows +0 -0 (4, 0) (7, 1)"),
+        ("ZADD k CH 2 a", ":1~", "3 rows +1 -1 (4, 0) (7, 1)"),
+        ("ZCOUNT k -inf (4", ":1~", "4 rows +0 -1 (4, 1) (7, 2)"),
+        ("ZCOUNT k 7 +inf", ":1~", "3 rows +0 -0 (4, 1) (7, 2)"),
+    ];
+    expect(&rt, alloc, &mut set, rows.as_slice())
+}
+
+#[test]
+fn the_last_member_leaves_its_pivots(rt: HostRuntime) -> Result<(), Fail> {
+    let alloc = rt.alloc();
+    let mut set = ZSet::with_hasher(alloc, RandomState::new(&rt)?);
+    let rows = [
+        ("ZADD k 1 a", ":1~", "0 rows +1 -0"),
+        ("ZCOUNT k 0 2", ":1~", "1 rows +0 -0 (0, 0) (3, 1)"),
+        ("ZREM k a", ":1~", "1 rows +0 -1 (0, 0) (3, 1)"),
+        ("ZRANGEBYSCORE k 0 2", "*0~", "0 rows +0 -0 (0, 0) (3, 0)"),
+        ("ZCARD k", ":0~", "0 rows +0 -0 (0, 0) (3, 0)"),
+        ("ZADD k 1 b", ":1~", "0 rows +1 -0 (0, 0) (3, 0)"),
+        ("ZCOUNT k 0 2", ":1~", "1 rows +0 -0 (0, 0) (3, 1)"),
+    ];
+    expect(&rt, alloc, &mut set, rows.as_slice())
+}
+
+#[test]
+fn pivots_past_the_limit_go(rt: HostRuntime) -> Result<(), Fail> {
+    let alloc = rt.alloc();
+    let mut set = ZSet::with_hasher(alloc, RandomState::new(&rt)?);
+    run(alloc, &mut set, "ZADD k 5 a")?;
+    for i in 0..2048u32 {
+        let low = 10 * i;
+        let text = format!(in alloc; "ZCOUNT k {} {}", low, low + 4)?;
+        run(alloc, &mut set, text.as_str())?;
+    }
+    assert_eq!(rt; set.column().pivot_list().len(), 4096);
+    run(alloc, &mut set, "ZCOUNT k 50001 50002")?;
+    assert_eq!(rt; set.column().pivot_list().len(), 2);
+    Ok(())
+}
+
+// The next of a row of numbers below 2^31 (the generator of Park and Miller).
+fn next(number: u64) -> u64 {
+    number.wrapping_mul(48271) % 2147483647
+}
+
+// A change or a reading command, by a number.
+fn random_text(alloc: Global, number: u64) -> Result<String, Fail> {
+    let member = number / 8 % 12;
+    let score = number / 128 % 20;
+    Ok(match number % 4 {
+        0 => format!(in alloc; "ZREM k m{member}")?,
+        1 => format!(in alloc; "ZADD k INCR 7 m{member}")?,
+        _ => format!(in alloc; "ZADD k {score} m{member} {} m{}", member, score % 12)?,
+    })
+}
+
+// Asks a range of a set, and looks for the same number in a filter of the whole listing.
+fn expect_range<R: Abort>(rt: &R, alloc: Global, set: &mut Set, low: i64) -> Result<(), Fail>
+    requires { set.old.next ≡ None }
+    ensures { set.new.next ≡ None }
+{
+    let range = Range {
+        min: Bound::Excl(low),
+        max: Bound::Incl(low.wrapping_add(6)),
+    };
+    let pairs = set.pairs()?;
+    let plain = pairs
+        .iter()
+        .filter(|row| range.contains(row.score()))
+        .count();
+    let text = format!(in alloc; "ZCOUNT k ({low} {}", low.wrapping_add(6))?;
+    let counted = run(alloc, set, text.as_str())?;
+    let want = format!(in alloc; ":{plain}~")?;
+    assert_eq!(rt; text_of(alloc, &counted)?, want, "{text}");
+    Ok(())
+}
+
+#[test]
+fn random_commands_agree_with_a_plain_filter(rt: HostRuntime) -> Result<(), Fail> {
+    let alloc = rt.alloc();
+    let mut set = ZSet::with_hasher(alloc, RandomState::new(&rt)?);
+    let mut number = 1;
+    for _ in 0..3000u32 {
+        number = next(number);
+        let text = random_text(alloc, number)?;
+        run(alloc, &mut set, text.as_str())?;
+        let low = (number / 65536 % 24) as i64;
+        expect_range(&rt, alloc, &mut set, low)?;
+    }
+    Ok(())
+}
