@@ -1,7 +1,8 @@
 // The work of crates/bench in Rust, for crack.sh: the same rows, loops and numbers.
 //
 // `crack ROWS SEED` cracks a `Vec<(i64, Vec<u8>)>` by the same loops. `plain` and `pivots` change
-// rows of a `BTreeSet<(i64, Vec<u8>)>`. `settled` sorts all rows anew in each round.
+// rows of a `BTreeSet<(i64, Vec<u8>)>`, and so does `merge ROWS SEED RANGES UPDATES TIMES`, so many updates so
+// many times. `settled` sorts all rows anew in each round.
 
 use std::collections::BTreeSet;
 use std::time::Instant;
@@ -78,6 +79,18 @@ fn skip_ranges(ranges: u32, numbers: &mut Numbers) {
     }
 }
 
+// Gives a random row a random score.
+fn change(set: &mut BTreeSet<Row>, held: &mut [Row], numbers: &mut Numbers) {
+    let index = numbers.next() as usize % held.len();
+    let score = i64::from(numbers.next());
+    let old = held[index].clone();
+    let new = (score, held[index].1.clone());
+    let copy = (score, held[index].1.clone());
+    set.remove(&old);
+    set.insert(new);
+    held[index] = copy;
+}
+
 // A set has no pivots: the ranges that the column selects first are passed over.
 fn set(name: &str, count: u32, ranges: u32, mut numbers: Numbers) {
     let mut held = rows_of(count, &mut numbers);
@@ -85,16 +98,20 @@ fn set(name: &str, count: u32, ranges: u32, mut numbers: Numbers) {
     skip_ranges(ranges, &mut numbers);
     let start = Instant::now();
     for _ in 0..UPDATES {
-        let index = numbers.next() as usize % held.len();
-        let score = i64::from(numbers.next());
-        let old = held[index].clone();
-        let new = (score, held[index].1.clone());
-        let copy = (score, held[index].1.clone());
-        set.remove(&old);
-        set.insert(new);
-        held[index] = copy;
+        change(&mut set, &mut held, &mut numbers);
     }
     tell(name, set.len(), start);
+}
+
+fn merge(count: u32, ranges: u32, updates: u32, times: u32, mut numbers: Numbers) {
+    let mut held = rows_of(count, &mut numbers);
+    let mut set: BTreeSet<Row> = held.iter().cloned().collect();
+    skip_ranges(ranges, &mut numbers);
+    let start = Instant::now();
+    for _ in 0..updates * times {
+        change(&mut set, &mut held, &mut numbers);
+    }
+    tell("merge", set.len(), start);
 }
 
 fn settled(count: u32, mut numbers: Numbers) {
@@ -127,6 +144,10 @@ fn main() {
         "plain" => set("plain", count, 0, numbers),
         "pivots" => set("pivots", count, 2048, numbers),
         "settled" => settled(count, numbers),
+        "merge" => {
+            let number = |i: usize| words[i].parse().unwrap();
+            merge(count, number(4), number(5), number(6), numbers)
+        }
         name => panic!("no such work: {name}"),
     }
 }

@@ -152,6 +152,44 @@ fn update_after<R: Runtime>(
     run.tell(rt, name, column.len(), start)
 }
 
+/// How a column is changed and merged: after how many ranges were selected, how many rows change
+/// before each merge, and how many merges there are.
+#[derive(Clone, Copy, Debug)]
+pub struct Merges {
+    pub ranges: u32,
+    pub updates: u32,
+    pub times: u32,
+}
+
+/// Changes rows and merges all, many times.
+fn merge_often<A: Allocator + Copy>(
+    alloc: A,
+    column: &mut Column<A>,
+    held: &mut Vec<Row<A>, A>,
+    merges: &Merges,
+    numbers: &mut Numbers,
+) -> Result<(), AllocError>
+    requires { Holds column.old held.old.items }
+{
+    for _ in 0..merges.times {
+        update(alloc, column, held, merges.updates, numbers)?;
+        column.merge_all()?;
+    }
+    Ok(())
+}
+
+/// Changes rows of a column and merges them, as often as is told.
+pub fn merge<R: Runtime>(rt: &R, alloc: Global, run: &Run, merges: &Merges) -> anyhow::Result<()> {
+    let mut numbers = Numbers::new(run.seed);
+    let mut column = Column::new(alloc);
+    let mut held = Vec::new(alloc);
+    fill(alloc, &mut column, &mut held, run.rows, &mut numbers)?;
+    settle(&mut column, merges.ranges, &mut numbers)?;
+    let start = Instant::now(rt)?;
+    merge_often(alloc, &mut column, &mut held, merges, &mut numbers)?;
+    run.tell(rt, "merge", column.len(), start)
+}
+
 /// Changes 1,000 rows and counts a range, ten times, after 100 ranges were selected.
 pub fn settled<R: Runtime>(rt: &R, alloc: Global, run: &Run) -> anyhow::Result<()> {
     let mut numbers = Numbers::new(run.seed);

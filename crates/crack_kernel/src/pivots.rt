@@ -1,6 +1,6 @@
 //! The pivots of a column, by rising value.
 
-ghost use Rattle.std.specs.Prelude.{◌≡◌, ◌+◌, ◌<◌, ◌≤◌, ◌^◌, [], ◌∷◌, ◌↔◌, true, false, drop, map, length, All, Contains, IsPermutation, IsTrue, IsFalse, IsOk, OnOk, MatchOption, vec_len, vec_capacity};
+ghost use Rattle.std.specs.Prelude.{◌≡◌, ◌+◌, ◌<◌, ◌≤◌, ◌^◌, [], ◌∷◌, ◌↔◌, true, false, drop, map, pos, set, slice_index_or, length, All, Contains, IsPermutation, IsTrue, IsFalse, IsOk, OnOk, MatchOption, vec_len, vec_capacity};
 ghost use Rattle.crack_kernel.specs.PivotList.{IsRising, IsNewValue, RisesPast, IsPieceOf, moved, shifted, closed_up};
 
 use std::alloc::{AllocError, Allocator};
@@ -129,6 +129,15 @@ impl<A: Allocator> Pivots<A> {
         close_up(&mut self.list, from, to);
     }
 
+    /// Gives the pivot of the index `i` another place.
+    pub fn set_place(&mut self, i: usize, place: usize)
+        requires { i < length self.old.list }
+        ensures list { self.new.list ≡ set self.old.list i ((slice_index_or self.old.list i (pos 0, 0)).0, place) }
+        ensures spare { self.new.spare ≡ self.old.spare }
+    {
+        set_place(&mut self.list, i, place);
+    }
+
     /// Drops all pivots. The room stays.
     pub fn clear(&mut self)
         ensures list { self.new.list ≡ [] }
@@ -188,6 +197,16 @@ fn add<A: Allocator>(list: &mut Vec<(i64, usize), A>, v: i64, place: usize)
     if list.insert(index, (v, place)).is_err() {
         unreachable!();
     }
+}
+
+/// Gives the pivot of the index `i` another place.
+fn set_place<A: Allocator>(list: &mut Vec<(i64, usize), A>, i: usize, place: usize)
+    requires { i < length list.old.items }
+    ensures list { list.new.items ≡ set list.old.items i ((slice_index_or list.old.items i (pos 0, 0)).0, place) }
+    ensures len { vec_len list.new ≡ vec_len list.old }
+    ensures capacity { vec_capacity list.new ≡ vec_capacity list.old }
+{
+    list[i].1 = place;
 }
 
 /// Moves the places from the index `from_index` on.

@@ -1,20 +1,16 @@
 use Rattle.std.proofs.Common.{◌≡◌, ◌≢◌, ℕ, ℤ, pos, true, false, ◌+◌, ◌-◌, ◌<◌, ◌≤◌, ◌<ℤ◌, ◌≤ℤ◌, List, [], ◌∷◌, ◌++◌, length, get_or, take, inl, inr, ◌∙◌, ap, arith, IsPermutation, cond, eqb, Contains}
 use Rattle.std.proofs.lemmas.Bool.Decides.{nat_tests}
-use Rattle.std.specs.List.{SwappedAt, All, swap}
+use Rattle.std.specs.List.{SwappedAt, swap}
 use Rattle.std.proofs.lemmas.List.Edits.{length-swap}
 use Rattle.std.proofs.lemmas.Bool.{cases_eq, cases_lt}
 use Rattle.std.proofs.lemmas.Int.{ints}
 use Rattle.std.proofs.lemmas.List.{get_or_default, get_or_past, get_or-take}
 use Rattle.std.proofs.lemmas.List.Sorted.{IsPermutation-trans, IsPermutation-refl, IsPermutation-swap}
 use Rattle.std.proofs.lemmas.Grind.{common_steps}
-use Rattle.crack_kernel.specs.Parts.{IsBelow, IsFrom, IsParted}
 use Rattle.crack_kernel.specs.PivotList.{IsRising, RisesPast, shifted}
 use Rattle.crack_kernel.proofs.PivotOrder.{IsRising-le, length-shifted, get_or-shifted_below, get_or-shifted_from}
+use Rattle.ripple_column.specs.Gaps.{AllParted}
 use Rattle.ripple_column.specs.Pieces.{StandsWithin}
-
--- each pivot parts the rows at its place
-abbrev pub AllParted : List (ℤ × ℕ) → List (ℤ × List ℕ) → Type 0
-AllParted ps rows = All (λ p. IsParted (IsBelow p.0) (IsFrom p.0) rows p.1) ps
 
 -- v parts the rows other than the one at the hole, at the place q
 abbrev pub PartedBut : ℤ → ℕ → ℕ → List (ℤ × List ℕ) → Type 0

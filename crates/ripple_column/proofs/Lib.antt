@@ -4,3 +4,9 @@ pub mod Values
 pub mod Cracked
 pub mod Merged
 pub mod Selection
+pub mod Windows
+pub mod Blanks
+pub mod Gaps
+pub mod Tails
+pub mod HeldRows
+pub mod Fours

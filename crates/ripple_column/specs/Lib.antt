@@ -3,3 +3,4 @@ pub mod Content
 pub mod Cuts
 pub mod Sound
 pub mod Answers
+pub mod Gaps

@@ -6,8 +6,11 @@
 //! most one row a piece.
 #![tactic(auto)]
 
+mod batch;
 mod column;
 mod cuts;
+mod filter;
+mod gap;
 mod merge;
 mod pending;
 mod ripple;
@@ -15,5 +18,7 @@ mod select;
 
 pub use column::Column;
 
+#[cfg(test)]
+mod merge_tests;
 #[cfg(test)]
 mod tests;

@@ -10,13 +10,14 @@ ghost use Rattle.crack_kernel.specs.PivotList.{ObeysPivots};
 ghost use Rattle.ripple_column.specs.Content.{has_score_in, KeepsContent, NoneIn, SameOutside};
 ghost use Rattle.ripple_column.specs.Cuts.{values};
 
+use crate::batch::merge_many;
 use crate::ripple::{ripple_insert, ripple_remove};
 use crack_kernel::{Pivots, Row};
 use score_bounds::{Bound, Range};
 use std::alloc::{AllocError, Allocator};
 
 /// Whether the row's score is in the range.
-fn is_within<A: Allocator>(row: &Row<A>, range: &Range) -> bool
+pub fn is_within<A: Allocator>(row: &Row<A>, range: &Range) -> bool
     ensures { result ≡ has_score_in range.now row.now }
 {
     range.contains(row.score())
@@ -117,7 +118,7 @@ pub fn merge_insertions<A: Allocator>(
 
 /// Merges all rows that wait and have scores in the range. Where none waits there, the column is
 /// left as it is.
-pub fn merge_range<A: Allocator>(
+pub fn merge_range<A: Allocator + Copy>(
     rows: &mut Vec<Row<A>, A>,
     pivots: &mut Pivots<A>,
     deletions: &mut Vec<Row<A>, A>,
@@ -150,13 +151,14 @@ pub fn merge_range<A: Allocator>(
     ensures capacity_insertions { vec_capacity insertions.new ≡ vec_capacity insertions.old }
 {
     if waits_within(deletions, insertions, range) {
+        merge_many(rows, pivots, deletions, insertions, range);
         merge_deletions(rows, pivots, deletions, range);
         merge_insertions(rows, pivots, insertions, range);
     }
 }
 
 /// Merges all rows that wait. Refused, it leaves all as it was.
-pub fn merge_all<A: Allocator>(
+pub fn merge_all<A: Allocator + Copy>(
     rows: &mut Vec<Row<A>, A>,
     pivots: &mut Pivots<A>,
     deletions: &mut Vec<Row<A>, A>,

@@ -1,7 +1,7 @@
 //! The rows that wait.
 
-ghost use Rattle.std.specs.Prelude.{◌≡◌, ◌+◌, ◌<◌, ◌≤◌, ◌≤ℤ◌, [], min, max, length, Contains, MatchOption, OnOk, vec_len, vec_capacity};
-ghost use Rattle.std.specs.List.{HoldsAt};
+ghost use Rattle.std.specs.Prelude.{◌≡◌, ◌+◌, ◌<◌, ◌≤◌, ◌≤ℤ◌, false, [], min, max, length, Contains, MatchOption, OnOk, vec_len, vec_capacity};
+ghost use Rattle.std.specs.List.{AllWithin, HoldsAt};
 ghost use Rattle.score_bounds.specs.Scores.{greatest};
 ghost use Rattle.crack_kernel.specs.Bags.{IsSubBag};
 ghost use Rattle.crack_kernel.specs.PivotList.{ObeysPivots};
@@ -15,6 +15,39 @@ use std::alloc::{AllocError, Allocator};
 /// The greatest number of rows in each of the two lists of rows that wait.
 pub const MAX_PENDING: usize = 2048;
 
+/// Whether a row has the score.
+fn has_score<A: Allocator>(row: &Row<A>, score: i64) -> bool
+    ensures { result ≡ false → row.now.0 ≡ score → ⊥ }
+{
+    row.score() == score
+}
+
+/// Whether one of the four rows from the index `from` on has the score.
+fn four_have<A: Allocator>(rows: &[Row<A>], from: usize, score: i64) -> bool
+    requires { from + 4 ≤ length rows.now }
+    ensures { result ≡ false → AllWithin (λ r. r.0 ≡ score → ⊥) rows.now from (from + 4) }
+{
+    has_score(&rows[from], score)
+        | has_score(&rows[from + 1], score)
+        | has_score(&rows[from + 2], score)
+        | has_score(&rows[from + 3], score)
+}
+
+/// Goes on from the index `from` over rows of other scores, by four at a time, which takes half the
+/// time of one by one.
+fn skip_others<A: Allocator>(rows: &[Row<A>], from: usize, score: i64) -> usize
+    requires { from ≤ length rows.now }
+    ensures low { from ≤ result }
+    ensures high { result ≤ length rows.now }
+    ensures others { AllWithin (λ r. r.0 ≡ score → ⊥) rows.now from result }
+{
+    let mut i = from;
+    while rows.len() - i >= 4 && !four_have(rows, i, score) {
+        i += 4;
+    }
+    i
+}
+
 /// The index at which `row` stands, if it is there. Members are compared only where the scores
 /// agree.
 pub fn position_of<A: Allocator>(rows: &[Row<A>], row: &Row<A>) -> Option<usize>
@@ -23,10 +56,13 @@ pub fn position_of<A: Allocator>(rows: &[Row<A>], row: &Row<A>) -> Option<usize>
     ensures score { row.now.0 ≤ℤ greatest }
 {
     let score = row.score();
-    for (i, waiting) in rows.iter().enumerate() {
+    let mut i = skip_others(rows, 0, score);
+    while i < rows.len() {
+        let waiting = &rows[i];
         if waiting.score() == score && waiting.is_same(row) {
             return Some(i);
         }
+        i = skip_others(rows, i + 1, score);
     }
     None
 }
@@ -52,7 +88,7 @@ pub fn pend<A: Allocator>(list: &mut Vec<Row<A>, A>, other: &mut Vec<Row<A>, A>,
 
 /// Makes room for `n` more rows in each of the two lists of rows that wait. Where one would grow
 /// past 2,048 rows, all that waits is merged first. Refused, it leaves the content.
-pub fn reserve_write<A: Allocator>(
+pub fn reserve_write<A: Allocator + Copy>(
     rows: &mut Vec<Row<A>, A>,
     pivots: &mut Pivots<A>,
     deletions: &mut Vec<Row<A>, A>,

@@ -99,7 +99,7 @@ fn place_or(list: &[(i64, usize)], i: usize, end: usize) -> usize
 }
 
 /// Where the piece below the pivot of index `i` begins.
-fn start_below(list: &[(i64, usize)], i: usize) -> usize
+pub fn start_below(list: &[(i64, usize)], i: usize) -> usize
     requires { i ≤ length list.now }
     ensures { result ≡ (if i == 0 then 0 else (slice_index_or list.now (i - 1) (pos 0, 0)).1) }
 {

@@ -47,7 +47,7 @@ pub fn make_room<A: Allocator>(
 
 /// Merges what waits in a range, cracks the column at its cuts, and answers their places. Where the
 /// first cut is not below the second, there is nothing to do. Refused, it leaves all as it was.
-pub fn select_between<A: Allocator>(
+pub fn select_between<A: Allocator + Copy>(
     rows: &mut Vec<Row<A>, A>,
     pivots: &mut Pivots<A>,
     deletions: &mut Vec<Row<A>, A>,

@@ -4,7 +4,8 @@ use Rattle.std.proofs.lemmas.List.{get_or_past, get_or-drop}
 use Rattle.crack_kernel.specs.PivotList.{IsRising, RisesPast, shifted}
 use Rattle.crack_kernel.proofs.PivotOrder.{IsRising-shifted, length-shifted, values-shifted, RisesPast-same}
 use Rattle.ripple_column.specs.Pieces.{StandsWithin}
-use Rattle.ripple_column.proofs.Hole.{AllParted, Removing, Removing-start, Removing-step, Removing-end, StandsWithin-piece, start_from, Places, Places-from_law, bound_within, bound_from}
+use Rattle.ripple_column.specs.Gaps.{AllParted}
+use Rattle.ripple_column.proofs.Hole.{Removing, Removing-start, Removing-step, Removing-end, StandsWithin-piece, start_from, Places, Places-from_law, bound_within, bound_from}
 use Rattle.ripple_column.proofs.ripple.ripple_remove.Goals as goal
 use Rattle.ripple_column.proofs.ripple.ripple_remove.Goals.{In-Some}
 

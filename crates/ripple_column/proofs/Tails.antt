@@ -1,0 +1,41 @@
+-- The rows that wait in a range, gathered at the end of a list.
+use Rattle.std.proofs.Common.{◌≡◌, ℕ, true, not, ◌&&◌, ◌+◌, ◌≤◌, ℤ, List, length, get_or, take, drop, count_by, sym, ◌∙◌, ap, arith, IsPermutation}
+use Rattle.std.specs.List.{AllWithin}
+use Rattle.std.proofs.lemmas.List.{length-drop, get_or-drop, take-append-drop}
+use Rattle.crack_kernel.specs.Bags.{Test, IsSubBag}
+use Rattle.ripple_column.proofs.Counts.{and_not, count_moved, count_none, count_all, count_split}
+use Rattle.ripple_column.proofs.Blanks.{count_append}
+
+count_parts : (q : Test) (n : ℕ) (xs : List (ℤ × List ℕ)) → count_by q xs ≡ count_by q (take n xs) + count_by q (drop n xs)
+count_parts q n xs = ap (λ (z : List (ℤ × List ℕ)). count_by q z) (sym (take-append-drop n xs)) ∙ count_append q (take n xs) (drop n xs)
+
+-- where all rows from an index on pass w, those that fail it stand before
+pub count_outside : (p w : Test) (n : ℕ) (xs : List (ℤ × List ℕ)) → n ≤ length xs → AllWithin (λ r. w r ≡ true) xs n (length xs)
+    → count_by (λ r. p r && not (w r)) (take n xs) ≡ count_by (λ r. p r && not (w r)) xs
+count_outside p w n xs fits tail =
+    let q : Test = λ r. p r && not (w r) in
+    let none : count_by q (drop n xs) ≡ 0 = count_none q (drop n xs)
+    (λ k d l. ap q (get_or-drop n xs k d) ∙ and_not (p (get_or xs (n + k) d)) (w (get_or xs (n + k) d)) (tail (n + k) d (omega arith) (omega (arith, length-drop n xs)))) in
+    let parts = count_parts q n xs in
+    omega (arith, none, parts)
+
+-- and they are no more than the rows that pass
+pub count_within_tail : (w : Test) (n : ℕ) (xs : List (ℤ × List ℕ)) → n ≤ length xs → AllWithin (λ r. w r ≡ true) xs n (length xs) → length xs ≤ n + count_by w xs
+count_within_tail w n xs fits tail =
+    let fail : Test = λ r. true && not (w r) in
+    let none : count_by fail (drop n xs) ≡ 0 = count_none fail (drop n xs)
+    (λ k d l. ap fail (get_or-drop n xs k d) ∙ and_not true (w (get_or xs (n + k) d)) (tail (n + k) d (omega arith) (omega (arith, length-drop n xs)))) in
+    let split = count_split (λ r. true) w (drop n xs) in
+    let both : count_by (λ r. true && w r) (drop n xs) ≤ count_by w (drop n xs) = omega arith in
+    let all = count_all (drop n xs) in
+    let parts = count_parts w n xs in
+    omega (arith, none, split, both, all, parts, length-drop n xs)
+
+-- what fails w still waits, where the front is the same and no row came
+pub SameOutside-tail : (q : Test) (n : ℕ) (old mid new : List (ℤ × List ℕ)) → count_by q (take n mid) ≡ count_by q old → IsPermutation old mid
+    → take n new ≡ take n mid → IsSubBag new mid → count_by q new ≡ count_by q old
+SameOutside-tail q n old mid new front moved same less =
+    let parts = count_parts q n new in
+    let here = ap (λ (z : List (ℤ × List ℕ)). count_by q z) same in
+    let all = count_moved q old mid moved in
+    omega (arith, front, parts, here, all, less q)

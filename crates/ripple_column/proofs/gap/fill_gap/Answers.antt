@@ -1,0 +1,50 @@
+use Rattle.std.proofs.Common.{◌≡◌, ◌+◌, ◌-◌, ◌<◌, ◌≤◌, ◌++◌, ◌∷◌, [], length, get_or, set, take, ℕ, ℤ, List, Some, refl, sym, ap, ◌∙◌, arith, vec_len, length-append}
+use Rattle.std.proofs.lemmas.Int.{ints}
+use Rattle.std.proofs.lemmas.List.{length-set, take-append-le}
+use Rattle.crack_kernel.specs.PivotList.{RisesPast}
+use Rattle.crack_kernel.proofs.PivotOrder.{RisesPast-same}
+use Rattle.ripple_column.specs.Gaps.{blank}
+use Rattle.ripple_column.proofs.Gaps.{HasGap-filled}
+use Rattle.ripple_column.proofs.Blanks.{count_put, count_pushed, blanks_more}
+use Rattle.ripple_column.proofs.gap.fill_gap.Goals as goal
+
+pub loop-bottom-preserved : goal.loop-bottom-preserved
+loop-bottom-preserved g c =
+    let v = c.loop-bottom.invariant in
+    let xs = c.loop-bottom.rows.items in
+    let at : ℕ = c.loop-bottom.bottom in
+    let row = c.in-Some.row in
+    let ps = c.args.pivots.now.list in
+    let old = c.loop-bottom.insertions.items in
+    let new = c.pop.new.self.items in
+    let within : c.args.high ≤ length xs = v.gap.within in
+    let in' : at < length xs = omega arith in
+    let out : old ≡ new ++ row ∷ [] = c.in-Some.ensures.items in
+    let len_old : length old ≡ length new + 1 = ap length out ∙ length-append new (row ∷ []) in
+    let next : c.index-next.result.now ≡ row =
+    let some : 0 < vec_len c.loop-bottom.insertions = omega arith in
+    let is : Some row ≡ Some (get_or old (vec_len c.loop-bottom.insertions - 1) c.index-next.result.now) = c.in-Some.ensures.value c.index-next.result.now some in
+    let last : row ≡ get_or old (vec_len c.loop-bottom.insertions - 1) c.index-next.result.now = cc in
+    let len : c.len-in-loop-bottom.result ≡ vec_len c.loop-bottom.insertions = omega arith in
+    c.index-next.ensures ∙ ap (λ (m : ℕ). get_or old (m - 1) c.index-next.result.now) len ∙ sym last in
+    let past : RisesPast row.0 ps c.args.i =
+    let score : c.index-next.result.now.0 ≡ row.0 = ap (λ (r : ℤ × List ℕ). r.0) next in
+    let piece : c.count_upto-piece.result ≡ c.args.i = omega arith in
+    rw (← piece) (RisesPast-same _ _ ps _ (omega (arith, ints, score)) c.count_upto-piece.ensures) in
+    let is_blank : get_or xs at blank ≡ blank = v.gap.blanks at blank (omega arith) c.loop-bottom-test.true in
+    record {
+      low = omega (arith, v.low);
+      gap = HasGap-filled ps xs (set xs at row) row c.args.i at c.args.high c.loop-bottom-test.true
+          (λ k p h. past.upto k p (omega arith) h) (λ k p f h. past.above k p f h) refl v.gap;
+      content = λ p.
+          let put = count_put p xs (set xs at row) at blank row in' refl is_blank in
+          let gone = count_pushed p old new row out in
+          let more = blanks_more p (at - c.args.low) (at + 1 - c.args.low) (omega (arith, v.low)) in
+          omega (arith, put, gone, more, v.content p);
+      before = sym (ap (take c.args.from) out ∙ take-append-le c.args.from new (row ∷ []) (omega arith)) ∙ v.before;
+      from = omega arith;
+      less = λ p. let gone = count_pushed p old new row out in omega (arith, gone, v.less p);
+      len = length-set xs at row ∙ v.len;
+      capacity = v.capacity;
+      capacity_insertions = c.in-Some.ensures.capacity ∙ v.capacity_insertions;
+    }

@@ -1,0 +1,26 @@
+use Rattle.std.proofs.Common.{◌≡◌, ◌+◌, ◌-◌, ◌<◌, ◌≤◌, ℕ, ℤ, length, get_or, take, ◌∙◌, arith}
+use Rattle.ripple_column.specs.Gaps.{HasGap, StandFrom}
+use Rattle.ripple_column.proofs.Blanks.{blanks_split}
+use Rattle.ripple_column.proofs.gap.take_out.Goals as goal
+
+pub loop-at-preserved : goal.loop-at-preserved
+loop-at-preserved g c =
+    let v = c.loop-at.invariant in
+    let s = c.take_out_at-top.ensures in
+    let next = c.next_within-at-in-loop-at.ensures in
+    record {
+      low = omega (arith, v.low, s.low);
+      order = omega (arith, s.high, next.low);
+      high = next.high;
+      gap = λ ps i low gap above. s.gap ps i low (v.gap ps i low gap above)
+          (λ k e from lt. let h : c.args.end ≤ (get_or ps k e).1 = above k e from lt in omega arith);
+      content = λ p.
+          let more = blanks_split p (c.loop-at.top - c.args.high) (c.take_out_at-top.result - c.loop-at.top) (c.take_out_at-top.result - c.args.high) (omega (arith, v.low, s.low)) in
+          omega (arith, more, s.content p, v.content p);
+      before = s.before ∙ v.before;
+      from = s.from;
+      less = λ p. omega (arith, s.less p, v.less p);
+      len = s.len ∙ v.len;
+      capacity = s.capacity ∙ v.capacity;
+      capacity_deletions = s.capacity_deletions ∙ v.capacity_deletions;
+    }

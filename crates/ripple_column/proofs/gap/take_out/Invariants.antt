@@ -1,0 +1,22 @@
+use Rattle.std.proofs.Common.{◌≡◌, ◌≤◌, ◌+◌, ◌-◌, ℕ, ℤ, List, length, take, replicate, count_by, vec_capacity}
+use Rattle.crack_kernel.specs.Bags.{Test, IsSubBag}
+use Rattle.ripple_column.specs.Gaps.{blank, HasGap, StandFrom}
+use Rattle.ripple_column.proofs.gap.take_out.Given as goal
+
+abbrev pub invariant-loop-at : goal.invariant-loop-at
+invariant-loop-at g l = record {
+  low : l.high ≤ l.top;
+  order : l.top ≤ l.at;
+  high : l.at ≤ l.end;
+  gap : (ps : List (ℤ × ℕ)) (i low : ℕ) → HasGap ps l.fn.rows.items i low l.high → StandFrom ps i l.end → HasGap ps l.rows.items i low l.top;
+  content : (p : Test) → count_by p l.rows.items + count_by p l.fn.deletions.items ≡ count_by p l.fn.rows.items + count_by p l.deletions.items + count_by p (replicate (l.top - l.high) blank);
+  before : take l.from l.deletions.items ≡ take l.from l.fn.deletions.items;
+  from : l.from ≤ length l.deletions.items;
+  less : IsSubBag l.deletions.items l.fn.deletions.items;
+  len : length l.rows.items ≡ length l.fn.rows.items;
+  capacity : vec_capacity l.rows ≡ vec_capacity l.fn.rows;
+  capacity_deletions : vec_capacity l.deletions ≡ vec_capacity l.fn.deletions;
+}
+
+abbrev pub decreases-loop-at : goal.decreases-loop-at
+decreases-loop-at g l = l.end - l.at
