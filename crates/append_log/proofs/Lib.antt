@@ -11,3 +11,10 @@ pub mod Decided
 pub mod Loggeds
 pub mod Pieces
 pub mod Images
+pub mod Listings
+pub mod Unions
+pub mod Adds
+pub mod Leads
+pub mod Spelled
+pub mod Walks
+mod Sent

@@ -66,7 +66,7 @@ asks bytes records is = ap asked is ∙ asked-items records
 pub reads_text : ((text : List ℕ) → (text ≡ flat_map spelled (items text) ++ rest text) × AllByRecursion IsItem (items text))
     → ((others : List Item) (more : List ℕ) → AllByRecursion IsItem others → items (flat_map spelled others ++ more) ≡ others ++ items more)
     → (bytes : List ℕ) (records : List Record) (part : List ℕ) → AreRecords records → item_at part ≡ Err Short → bytes ≡ text_of records ++ part
-    → (requests bytes ≡ records) × (fault bytes ≡ None)
+    → (requests bytes ≡ records) × (fault bytes ≡ None) × (rest bytes ≡ part)
 reads_text whole most bytes records part each short is =
     let spelt : bytes ≡ flat_map spelled (items_of records) ++ part = is ∙ ap (λ (l : List ℕ). l ++ part) (sym (text_of-items records)) in
     let all : items bytes ≡ items_of records =
@@ -76,4 +76,5 @@ reads_text whole most bytes records part each short is =
     ap (λ (l : List ℕ). l ++ rest bytes) (sym (text_of-items records))
     ∙ ap (λ (l : List Item). flat_map spelled l ++ rest bytes) (sym all)
     ∙ sym (whole bytes).0 ∙ is in
-    (asks bytes records all, fault_at bytes part (append_cancel_left (text_of records) (rest bytes) part behind) short)
+    let left = append_cancel_left (text_of records) (rest bytes) part behind in
+    (asks bytes records all, fault_at bytes part left short, left)

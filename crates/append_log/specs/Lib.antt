@@ -1,6 +1,7 @@
 pub mod Records
 pub mod Replay
 pub mod Sink
+pub mod Kept
 pub mod Log
 pub mod Reload
 pub mod Reloading

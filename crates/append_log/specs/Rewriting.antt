@@ -1,7 +1,11 @@
--- How far a rewrite came.
-use Rattle.std.specs.Prelude.{◌≡◌, ℕ, List, ◌++◌, Option}
+-- How far a rewrite came, and what a rewrite leads back to.
+use Rattle.std.specs.Prelude.{◌≡◌, ℕ, List, [], ◌++◌, Option}
+use Rattle.std.specs.FinMap as fin
 use Rattle.std.specs.Io.KnownBytes.{append_known}
 use Rattle.resp_wire.specs.Device.{Rose}
+use Rattle.resp_wire.specs.Stream.{rest}
+use Rattle.zset_core.specs.World.{World}
+use Rattle.append_log.specs.Reload.{AllReplayed}
 use Rattle.append_log.specs.declared.renewing.RewriteFault.{RewriteFault}
 use Rattle.append_log.specs.declared.renewing.RewriteFault.TheVariants.{NoMemory, Sink}
 
@@ -16,3 +20,8 @@ pub record TakesFront (old new : Option (List ℕ)) (bytes : List ℕ) : Type 0 
 abbrev pub SinkFailed : RewriteFault → ℕ → ℕ → Type 0
 SinkFailed NoMemory old new = new ≡ old
 SinkFailed Sink old new = Rose old new
+
+-- a reload of these bytes alone ends without a fault and with no torn end, and leads from no sets to this world
+pub record LeadsTo (bytes : List ℕ) (world : World) : Type 0 where
+  pub all : AllReplayed fin.empty bytes world
+  pub whole : rest bytes ≡ []

@@ -6,6 +6,7 @@
 #![tactic(auto)]
 
 mod file;
+mod kept;
 mod loading;
 mod log;
 mod logged;

@@ -6,14 +6,15 @@ ghost use Rattle.resp_wire.specs.Device.{Rose};
 ghost use Rattle.resp_wire.specs.Spelling.{request};
 ghost use Rattle.append_log.specs.Image.{add_record, pieces, piece_records, set_records, image};
 ghost use Rattle.append_log.specs.Records.{text_of as text_of_records};
-ghost use Rattle.append_log.specs.Rewriting.{TakesFront, SinkFailed};
+ghost use Rattle.append_log.specs.Rewriting.{LeadsTo, TakesFront, SinkFailed};
 ghost use Rattle.append_log.specs.declared.renewing.RewriteFault.TheVariants as faults;
 ghost use Rattle.score_bounds.specs.Scores.{score_text};
 
 use crate::log::write_out;
 use crate::sink::LogSink;
 use crack_kernel::Row;
-use resp_wire::{Bytes, BytesList, Reply, write_reply};
+use resp_wire::{Bytes, BytesList, Reply, longest, write_reply};
+use score_bounds::laws::printed_scores;
 use score_bounds::write_score;
 use std::alloc::{AllocError, Allocator};
 use std::hash::BuildHasher;
@@ -151,9 +152,19 @@ fn put_set<S: LogSink, A: Allocator + Copy>(
     Ok(count)
 }
 
-/// Writes the sets of an owner anew, as the shortest list of records that leads to them: the pairs
-/// of each set in the order of their listing, 512 to a record, the sets in the byte order of their
-/// keys. Then syncs. Gives the number of records, which stays at 2^64 - 1.
+/// A law: the text of an owner's records leads back to its sets. The body does nothing.
+fn leads_back<H: BuildHasher + Clone + Drop, A: Allocator + Copy>(owner: &OneOwner<H, A>)
+    ensures { LeadsTo (text_of_records (image owner.now.world)) owner.now.world }
+{
+    owner.bounds();
+    printed_scores();
+    longest();
+}
+
+/// Writes the sets of an owner anew: the pairs of each set in the order of their listing, as
+/// records of ZADD with 512 of them, the last with what remains, and the sets in the byte order of
+/// their keys. Then syncs. A reload of these bytes leads from no sets to the owner's. Gives the
+/// number of records, which stays at 2^64 - 1.
 ///
 /// # Errors
 ///
@@ -167,19 +178,20 @@ pub fn rewrite<H: BuildHasher + Clone + Drop, S: LogSink, A: Allocator + Copy>(
     ensures count { IfOk result (λ n. n ≡ min (length (image owner.now.world)) (2 ^ 64 - 1)) }
     ensures told { OnOk result (S.told sink.new
         ≡ append_known (S.told sink.old) (text_of_records (image owner.now.world))) }
+    ensures leads_back { LeadsTo (text_of_records (image owner.now.world)) owner.now.world }
     ensures synced { OnOk result (IfSome (S.told sink.new) (λ all. S.synced sink.new ≡ length all)) }
     ensures refused { OnErr result
         (TakesFront (S.told sink.old) (S.told sink.new) (text_of_records (image owner.now.world))) }
     ensures failures { MatchResult result (λ _. S.failures sink.new ≡ S.failures sink.old)
         (λ fault. SinkFailed fault (S.failures sink.old) (S.failures sink.new)) }
 {
+    leads_back(owner);
     let mut count: u64 = 0;
-    'keys: for index in 0..owner.key_count() {
-        let Some(key) = owner.key_at(index) else {
-            unreachable!()
-        };
+    let mut next = owner.key_after(None);
+    'keys: while let Some(key) = next {
         let rows = owner.pairs(key)?;
         count = count.saturating_add(put_set(alloc, sink, key, &rows)? as u64);
+        next = owner.key_after(Some(key));
     }
     match sink.sync() {
         Ok(()) => Ok(count),

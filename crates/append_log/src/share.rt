@@ -2,6 +2,7 @@
 
 ghost use Rattle.std.specs.Prelude.{◌≡◌, ◌+◌, ◌<◌, ◌^◌};
 
+use crate::kept::Kept;
 use std::marker::Model;
 use std::sync::ledger::{Book, Ledger, Share};
 
@@ -10,7 +11,7 @@ use std::sync::ledger::{Book, Ledger, Share};
 #[derive(Drop)]
 pub struct RecordShare<L: Ledger> {
     count: u64,
-    share: Share<L>,
+    kept: Kept<L>,
 }
 
 impl<L: Ledger> Model for RecordShare<L> {
@@ -18,9 +19,9 @@ impl<L: Ledger> Model for RecordShare<L> {
 
     ghost Value = { ℕ };
 
-    ghost view = { λ s. s.share.amount };
+    ghost view = { λ s. s.kept.amount };
 
-    ghost invariant = { λ s. (s.share.amount ≡ s.count) × (s.share.parts ≡ 1) };
+    ghost invariant = { λ s. (s.kept.amount ≡ s.count) × (s.kept.parts ≡ 1) };
 }
 
 impl<L: Ledger> RecordShare<L> {
@@ -29,7 +30,10 @@ impl<L: Ledger> RecordShare<L> {
         requires none { share.amount ≡ 0 }
         ensures { result ≡ 0 }
     {
-        RecordShare { count: 0, share }
+        RecordShare {
+            count: 0,
+            kept: Kept::new(share),
+        }
     }
 
     /// The number of records.
@@ -45,8 +49,8 @@ impl<L: Ledger> RecordShare<L> {
         ensures share { self.new ≡ self.old + 1 }
         ensures book { book.new.total ≡ book.old.total + 1 }
     {
-        book.audit(&mut self.share);
-        book.add(&mut self.share, 1);
+        self.kept.audit(book);
+        self.kept.add_one(book);
         self.count += 1;
     }
 }

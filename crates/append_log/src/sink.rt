@@ -6,20 +6,12 @@ ghost use Rattle.resp_wire.specs.Device.{moved, risen, failures_after};
 ghost use Rattle.append_log.specs.Sink.{synced_after};
 
 use std::alloc::Allocator;
-use std::error::Error;
-use std::fmt;
+use thiserror::Error;
 
 /// A write or a sync failed.
-#[derive(Clone, Copy, Debug, PartialEq, Eq)]
+#[derive(Clone, Copy, Debug, PartialEq, Eq, Error)]
+#[error("the sink failed")]
 pub struct SinkFault;
-
-impl fmt::Display for SinkFault {
-    fn fmt<W: fmt::Write>(&self, f: &mut fmt::Formatter<W>) -> fmt::Result {
-        f.write_str("the sink failed")
-    }
-}
-
-impl Error for SinkFault {}
 
 /// Where a log writes. A sink counts its calls and its failures, and tells its bytes where it knows
 /// them: a file doesn't, memory does. A call that fails moves no told byte.

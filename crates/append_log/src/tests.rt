@@ -243,3 +243,24 @@ fn rewritten_sets(rt: HostRuntime) -> Result<(), Fail> {
     assert_eq!(rt; pairs.as_str(), "*6~$1~B~$1~1~$1~a~$1~1~$1~b~$1~1~");
     Ok(())
 }
+
+// It takes only what threads may hold and share.
+fn is_shared<T: Send + Sync>(_value: &T) {}
+
+fn first_count<L: Ledger + Send + Sync>(blank: Blank, sink: MemorySink<Global>) -> u64
+    requires name { blank.name ≡ L.name }
+    requires parts { blank.parts ≡ L.parts }
+    requires two { blank.parts ≡ 2 }
+{
+    let mut log = Log::<_, L>::new(blank, sink, 10);
+    let share = log.split();
+    is_shared(&share);
+    share.count()
+}
+
+#[test]
+fn shared_counts(rt: HostRuntime) -> Result<(), Fail> {
+    let sink = MemorySink::new(rt.alloc(), 64);
+    assert_eq!(rt; first_count::<Brand>(Blank::new(2), sink), 0);
+    Ok(())
+}

@@ -1,6 +1,12 @@
 //! The append file: opened for a session, and written anew.
 
-ghost use Rattle.std.specs.Prelude.{◌≡◌, None};
+ghost use Rattle.std.specs.Prelude.{◌≡◌, ◌^◌, ◌-◌, None, min, length, IfOk, IfErr, OnOk};
+ghost use Rattle.std.specs.Io.KnownBytes.{append_known};
+ghost use Rattle.resp_wire.specs.Device.{Rose};
+ghost use Rattle.append_log.specs.Image.{image};
+ghost use Rattle.zcrackd.specs.Files as files;
+ghost use Rattle.zcrackd.specs.Files.{PrintsRecords, records_text};
+ghost use Rattle.zcrackd.specs.declared.finish.Line.TheVariants as lines;
 
 use crate::finish::{Finish, Line};
 use append_log::{FileSink, Loaded, ReloadFault, RewriteFault, reload, rewrite};
@@ -18,7 +24,9 @@ const BUFFER: usize = 16_384;
 const MAX_READS: u64 = 1 << 40;
 
 /// The line that tells why a file could not be reloaded.
-fn reload_line(fault: ReloadFault) -> Line {
+fn reload_line(fault: ReloadFault) -> Line
+    ensures { result ≡ files.reload_line fault }
+{
     match fault {
         ReloadFault::NoMemory => Line::OutOfMemory,
         ReloadFault::Damaged(at) => Line::FileDamaged(at),
@@ -29,7 +37,9 @@ fn reload_line(fault: ReloadFault) -> Line {
 }
 
 /// How the program ends where a file can't be used, for the cause of the line.
-pub fn file_fault(line: Line) -> Finish {
+pub fn file_fault(line: Line) -> Finish
+    ensures { result ≡ files.file_fault line }
+{
     let status = match line {
         Line::OutOfMemory => 4,
         Line::WriteFault => 1,
@@ -39,7 +49,9 @@ pub fn file_fault(line: Line) -> Finish {
 }
 
 /// The notice of a torn end, where there is one.
-pub fn torn_notice(loaded: &Loaded) -> Option<Line> {
+pub fn torn_notice(loaded: &Loaded) -> Option<Line>
+    ensures { result ≡ files.torn_notice loaded.now }
+{
     if loaded.torn == 0 {
         None
     } else {
@@ -119,6 +131,7 @@ fn write_new<R: Files, H: BuildHasher + Clone + Drop>(
     owner: &OneOwner<H, Global>,
 ) -> Result<u64, Line>
     requires { owner.now.next ≡ None }
+    ensures { IfOk result (λ count. count ≡ min (length (image owner.now.world)) (2 ^ 64 - 1)) }
 {
     let Ok(file) = OpenOptions::new()
         .write(true)
@@ -138,19 +151,31 @@ fn write_new<R: Files, H: BuildHasher + Clone + Drop>(
     }
 }
 
-/// Prints the number of records.
-fn print_records<D: ByteDrain>(alloc: Global, drain: &mut D, records: u64) -> Result<(), Line> {
-    let Ok(text) = format!(in alloc; "records {records}\n") else {
-        return Err(Line::OutOfMemory);
-    };
-    let mut rest = text.as_bytes();
-    while !rest.is_empty() {
-        match drain.write(rest) {
-            Ok(n) => rest = rest.split_at(n).1,
+/// Writes a text to the drain, and sends it on.
+fn print<D: ByteDrain>(drain: &mut D, text: &[u8]) -> Result<(), Line>
+    ensures told { OnOk result (D.told drain.new ≡ append_known (D.told drain.old) text.now) }
+    ensures cause { IfErr result (λ line. (line ≡ lines.WriteFault)
+        × Rose (D.failures drain.old) (D.failures drain.new)) }
+{
+    let mut taken = 0;
+    while taken < text.len() {
+        match drain.write(&text[taken..]) {
+            Ok(count) => taken += count,
             Err(_) => return Err(Line::WriteFault),
         }
     }
     drain.flush().map_err(|_| Line::WriteFault)
+}
+
+/// Prints the number of records.
+fn print_records<D: ByteDrain>(alloc: Global, drain: &mut D, records: u64) -> Result<(), Line>
+    ensures { OnOk result (D.told drain.new
+        ≡ append_known (D.told drain.old) (records_text records)) }
+{
+    let Ok(text) = format!(in alloc; "records {records}\n") else {
+        return Err(Line::OutOfMemory);
+    };
+    print(drain, text.as_bytes())
 }
 
 /// Writes the append file `new` with the records of the sets that the append file `old` leads to,
@@ -163,7 +188,9 @@ pub fn rewrite_run<R: Files, D: ByteDrain>(
     old: &str,
     new: &str,
     drain: &mut D,
-) -> Finish {
+) -> Finish
+    ensures { PrintsRecords result (D.told drain.old) (D.told drain.new) }
+{
     let mut owner = OneOwner::new(alloc, hasher);
     let loaded = match read_old(rt, alloc, old, &mut owner) {
         Ok(loaded) => loaded,

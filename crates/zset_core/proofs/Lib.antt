@@ -7,11 +7,17 @@ pub mod Order
 pub mod Bags
 pub mod Planning
 pub mod RangeRows
+pub mod Ranks
+pub mod Limits
+pub mod PieceEnds
+pub mod Windows
 pub mod Worlds
 pub mod Outlines
 mod Options
 mod Pairs
 mod Adding
-mod Asked
+pub mod Asked
 mod ReadingLaws
 pub mod OwnerViews
+pub mod Bounds
+pub mod OwnerBounds

@@ -1,5 +1,5 @@
 -- Listings: a sorted list with the same pairs is the listing.
-use Rattle.std.proofs.Common.{◌≡◌, ℕ, ◌+◌, ◌-◌, ◌<◌, ◌≤◌, ℤ, pos, negsuc, take, Bool, true, false, cond, ◌&&◌, ◌||◌, List, [], ◌∷◌, map, filter, length, Option, None, Some, option_map, is_some, refl, sym, ap, subst, ◌∙◌, arith, get_or, ◌++◌, slice_get, drop, zero, suc, append_assoc, add-one}
+use Rattle.std.proofs.Common.{◌≡◌, ℕ, ◌+◌, ℤ, Bool, true, false, cond, ◌&&◌, ◌||◌, List, [], ◌∷◌, map, filter, length, Option, None, Some, option_map, is_some, refl, sym, ap, subst, ◌∙◌, arith, get_or, ◌++◌, slice_get, drop, zero, suc, append_assoc, add-one}
 use Rattle.std.specs.List.{AllByRecursion, IsDistinct, list_any}
 use Rattle.std.specs.List.Sorted.{IsStrictlySortedBy, IsPermutation, IsSorted}
 use Rattle.std.specs.Map.{lookup, keys_of}
@@ -17,19 +17,13 @@ use Rattle.std.specs.FinMap.Entries.{below_all, is_some-find}
 use Rattle.std.proofs.lemmas.Cmp.{int_cmp_total, then_total, on_total}
 use Rattle.std.proofs.lemmas.Map.Lookups.{exact_pairs, exact_signed, exact_bytes}
 use Rattle.std.proofs.lemmas.Map.Text.{is_eq-slice_cmp}
-use Rattle.std.proofs.lemmas.List.{length-map, length-drop, drop-map, take-map}
-use lib.Signed.{lt_z}
-use Rattle.std.proofs.lemmas.Bool.{true≢false}
-use Rattle.std.proofs.Math.IntN.{nat_abs}
-use Rattle.std.proofs.Math.ListN.{drop_of_length-le}
-use Rattle.std.proofs.Math.Seq.{take-length}
-use Rattle.zset_core.specs.Step.{from_offset, at_most}
+use Rattle.std.proofs.lemmas.List.{length-map}
 use Rattle.std.proofs.lemmas.Map.Views.{any-filter_same}
 use Rattle.std.proofs.lemmas.Map.Keys.{sorted_from_all_adjacent, apart_from_distinct, IsDistinct-IsPermutation, IsDistinct-head, IsDistinct-tail, IsDistinct-cons}
 use Rattle.std.proofs.lemmas.List.Sorted.{IsPermutation-map, list_any-IsPermutation}
 use Rattle.zset_core.specs.Sets.{Members, Pair, bytes_cmp, pair_cmp, pairs, marks, listing}
 use Rattle.zset_core.specs.Kept.{Entry, held, rows_by, members_by, slot_at, same_bytes}
-use Rattle.zset_core.specs.Listed.{Shown, picked, pair_of, pairs_of}
+use Rattle.zset_core.specs.Listed.{Shown, picked, pair_of, pairs_of, shown_cmp}
 use Rattle.zset_core.proofs.Bridge.{get_members, total}
 
 pub pair_total : IsTotalOrder pair_cmp
@@ -42,7 +36,7 @@ pair_exact = exact_pairs int_cmp bytes_cmp exact_signed exact_bytes
 abbrev pub is_pair : Pair → Pair → Bool
 is_pair q p = eq_by_cmp pair_cmp q p
 
-keys_marks : (l : List Pair) → map (λ e. e.0) (marks l) ≡ l
+pub keys_marks : (l : List Pair) → map (λ e. e.0) (marks l) ≡ l
 keys_marks [] = refl
 keys_marks (p ∷ l) = ap (λ k. p ∷ k) (keys_marks l)
 
@@ -63,7 +57,7 @@ marked : (x : Option (Unit {0})) → x ≡ cond (is_some x) (Some tt) None
 marked None = refl
 marked (Some u) = refl
 
-find_marks : (q : Pair) (l : List Pair) → find pair_cmp q (marks l) ≡ cond (list_any (is_pair q) l) (Some tt) None
+pub find_marks : (q : Pair) (l : List Pair) → find pair_cmp q (marks l) ≡ cond (list_any (is_pair q) l) (Some tt) None
 find_marks q l = marked (find pair_cmp q (marks l)) ∙ ap (λ b. cond b (Some tt) None) (is_some-find pair_cmp q (marks l) ∙ ap (list_any (is_pair q)) (keys_marks l))
 
 pub listing_is : (t : ℤ → Bool) (m : Members) (l : List Pair) → IsStrictlySortedBy pair_cmp l → ((q : Pair) → list_any (is_pair q) l ≡ list_any (is_pair q) (filter (λ p. t p.0) (pairs m))) → l ≡ listing t m
@@ -194,11 +188,8 @@ same_under t q ps qs h =
     tied Greater e = cc
 
 -- ---- the program's rows
-abbrev pub shown_cmp : Shown → Shown → Ordering
-shown_cmp a b = pair_cmp (pair_of a) (pair_of b)
-
 -- neighbours that do not fall and do not tie rise
-rises_step : (a b : Pair) → is_lt (pair_cmp b a) ≡ false → is_pair a b ≡ false → pair_cmp a b ≡ Less
+pub rises_step : (a b : Pair) → is_lt (pair_cmp b a) ≡ false → is_pair a b ≡ false → pair_cmp a b ≡ Less
 rises_step a b up ne = by (pair_cmp b a) refl (pair_total.antisymm a b)
   where
     by : (o : Ordering) → pair_cmp b a ≡ o → pair_cmp a b ≡ ordering_reverse (pair_cmp b a) → pair_cmp a b ≡ Less
@@ -361,18 +352,3 @@ rows_step t es i e z m done more at same value pushed all =
     ap (λ l. l ++ picked t (drop (i + 1) es)) (pushed ∙ ap (λ y. done ++ filter (λ p. t p.0) ((y, m) ∷ [])) value ∙ ap (λ y. done ++ filter (λ p. t p.0) ((held e.1, y) ∷ [])) same)
     ∙ append_assoc done (filter (λ p. t p.0) ((held e.1, e.0.items) ∷ [])) (picked t (drop (i + 1) es)) ∙ ap (λ j. done ++ (filter (λ p. t p.0) ((held e.1, e.0.items) ∷ []) ++ picked t (drop j es))) (add-one i)
     ∙ ap (λ l. done ++ l) (sym (picked_step t es i e at)) ∙ all
-
--- ---- a part of a listing
-pub pairs_from : (z y : ℤ) (ps : List Shown) → lt_z y (pos 0) ≡ false → y ≡ z → nat_abs y < length ps → pairs_of (take (length ps - nat_abs y) (drop (nat_abs y) ps)) ≡ from_offset z (pairs_of ps)
-pairs_from (pos n) y ps up is lt =
-    ap (λ (x : ℤ). pairs_of (take (length ps - nat_abs x) (drop (nat_abs x) ps))) is
-    ∙ ap (λ k. pairs_of (take k (drop n ps))) (sym (length-drop n ps)) ∙ ap (λ (l : List Shown). pairs_of l) (take-length (drop n ps)) ∙ sym (drop-map pair_of n ps)
-pairs_from (negsuc n) y ps up is lt = absurd (true≢false (ap (λ (x : ℤ). lt_z x (pos 0)) (sym is) ∙ up))
-
-pub pairs_past : (z y : ℤ) (ps : List Shown) → lt_z y (pos 0) ≡ false → y ≡ z → length ps ≤ nat_abs y → [] ≡ from_offset z (pairs_of ps)
-pairs_past (pos n) y ps up is le = sym (drop_of_length-le (pairs_of ps) (subst (λ k. k ≤ n) (sym (length-map ps pair_of)) (subst (λ (x : ℤ). length ps ≤ nat_abs x) is le)))
-pairs_past (negsuc n) y ps up is le = absurd (true≢false (ap (λ (x : ℤ). lt_z x (pos 0)) (sym is) ∙ up))
-
-pub pairs_upto : (z y : ℤ) (ps : List Shown) → lt_z y (pos 0) ≡ false → y ≡ z → pairs_of (take (nat_abs y) ps) ≡ at_most z (pairs_of ps)
-pairs_upto (pos n) y ps up is = ap (λ (x : ℤ). pairs_of (take (nat_abs x) ps)) is ∙ sym (take-map pair_of n ps)
-pairs_upto (negsuc n) y ps up is = absurd (true≢false (ap (λ (x : ℤ). lt_z x (pos 0)) (sym is) ∙ up))

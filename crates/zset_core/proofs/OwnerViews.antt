@@ -26,13 +26,10 @@ use Rattle.std.specs.FinMap as fin
 use Rattle.std.specs.declared.snapshot.Snapshot.{Snapshot}
 use Rattle.zset_core.specs.Sets.{Members, bytes_cmp}
 use Rattle.zset_core.specs.Meaning.{Asked, key_of}
-use Rattle.zset_core.specs.View.{SetView, Next, OwnerView, next_for, set_view}
+use Rattle.zset_core.specs.View.{SetView, Next, OwnerView, next_for, IsSetAt, HasNoSet}
 use Rattle.zset_core.specs.World.{World, set_at}
 use Rattle.zset_core.specs.Owned.{Keyed, world_of, names_of, IsRising, set_in, next_at, IsResting, AllRest, IsHeld, owner_view, IsOwned}
 use Rattle.zset_core.proofs.Worlds.{keyed, key_cmp, filled_view, get_world, set_at_entry, set_at_none, next_here}
-
-same_view : (s : SetView) (m : Members) (n : Option Next) → s.members ≡ m → s.next ≡ n → s ≡ record { members = m; next = n }
-same_view s m n e f = λ i. record { members = e i; next = f i }
 
 pub match_of : (r : Option (Bor SetView)) (o : Option SetView) (P : Type 0) (Q : SetView → Type 0) → option_copied r ≡ o → (o ≡ None → P) → ((s : SetView) → o ≡ Some s → Q s) → MatchOption r P (λ b. Q b.now)
 match_of None o P Q is none some = none (sym is)
@@ -105,23 +102,23 @@ module _ {A : Type 0} where
               inner None = refl
               inner (Some n) = ap (λ b. cond b (Some n) None) e
 
-  pub view_some : (es : List (Keyed A)) (a : Option (Snapshot Asked)) (v : OwnerView) (q : List ℕ) (s : SetView) → owner_view es a ≡ v → IsOwned es a → set_in es q ≡ Some s → s ≡ set_view v q
-  view_some es a v q s is owned at = shown a owned ∙ ap (λ (w : OwnerView). set_view w q) is
+  pub view_some : (es : List (Keyed A)) (a : Option (Snapshot Asked)) (v : OwnerView) (q : List ℕ) (s : SetView) → owner_view es a ≡ v → IsOwned es a → set_in es q ≡ Some s → IsSetAt v q s
+  view_some es a v q s is owned at = subst (λ (w : OwnerView). IsSetAt w q s) is (shown a owned)
     where
       rest : (o : Option SetView) → o ≡ Some s → IfSome o IsResting → s.next ≡ None
       rest None e h = cc
       rest (Some t) e h = let same : t ≡ s = cc in sym (ap (λ (v : SetView). v.next) same) ∙ h.idle
 
-      shown : (a : Option (Snapshot Asked)) → IsOwned es a → s ≡ set_view (owner_view es a) q
-      shown None owned = same_view s (set_at (world_of es) q) None (sym (set_at_entry es q s at)) (rest (set_in es q) at (owned q))
-      shown (Some asked) owned = same_view s (set_at (world_of es) q) (next_for (next_at es (key_of asked.value.meaning)) q) (sym (set_at_entry es q s at)) (next_held es (key_of asked.value.meaning) q s owned at)
+      shown : (a : Option (Snapshot Asked)) → IsOwned es a → IsSetAt (owner_view es a) q s
+      shown None owned = record { members = sym (set_at_entry es q s at); next = rest (set_in es q) at (owned q) }
+      shown (Some asked) owned = record { members = sym (set_at_entry es q s at); next = next_held es (key_of asked.value.meaning) q s owned at }
 
-  pub view_none : (es : List (Keyed A)) (a : Option (Snapshot Asked)) (v : OwnerView) (q : List ℕ) → owner_view es a ≡ v → IsOwned es a → set_in es q ≡ None → set_view v q ≡ record { members = fin.empty; next = None }
-  view_none es a v q is owned at = ap (λ (w : OwnerView). set_view w q) (sym is) ∙ shown a owned
+  pub view_none : (es : List (Keyed A)) (a : Option (Snapshot Asked)) (v : OwnerView) (q : List ℕ) → owner_view es a ≡ v → IsOwned es a → set_in es q ≡ None → HasNoSet v q
+  view_none es a v q is owned at = subst (λ (w : OwnerView). HasNoSet w q) is (shown a owned)
     where
-      shown : (a : Option (Snapshot Asked)) → IsOwned es a → set_view (owner_view es a) q ≡ record { members = fin.empty; next = None }
-      shown None owned = same_view (set_view (owner_view es None) q) fin.empty None (set_at_none es q at) refl
-      shown (Some asked) owned = same_view (set_view (owner_view es (Some asked)) q) fin.empty None (set_at_none es q at) (none_held es (key_of asked.value.meaning) q owned at)
+      shown : (a : Option (Snapshot Asked)) → IsOwned es a → HasNoSet (owner_view es a) q
+      shown None owned = record { members = set_at_none es q at; next = refl }
+      shown (Some asked) owned = record { members = set_at_none es q at; next = none_held es (key_of asked.value.meaning) q owned at }
 
   -- ---- the keys of a world
   find_rows : (es : List (Keyed A)) (q : List ℕ) → find bytes_cmp q (rows_of es) ≡ option_map (λ v. v.members) (set_in es q)
@@ -212,11 +209,11 @@ module _ {A : Type 0} where
 
   pub set_shown : (es : List (Keyed A)) (a : Option (Snapshot Asked)) (v : OwnerView) (q : List ℕ) (s : SetView) → owner_view es a ≡ v → IsOwned es a → v.next ≡ None → set_in es q ≡ Some s → (s.members ≡ set_at v.world q) × (s.next ≡ None)
   set_shown es a v q s is owned idle at =
-      let whole_view = view_some es a v q s is owned at in
-      (ap (λ (x : SetView). x.members) whole_view, ap (λ (x : SetView). x.next) whole_view ∙ ap (λ n. next_for n q) idle)
+      let shown = view_some es a v q s is owned at in
+      (shown.members, shown.next ∙ ap (λ n. next_for n q) idle)
 
   pub none_shown : (es : List (Keyed A)) (a : Option (Snapshot Asked)) (v : OwnerView) (q : List ℕ) → owner_view es a ≡ v → IsOwned es a → set_in es q ≡ None → set_at v.world q ≡ fin.empty
-  none_shown es a v q is owned at = ap (λ (x : SetView). x.members) (view_none es a v q is owned at)
+  none_shown es a v q is owned at = (view_none es a v q is owned at).members
 
 none_distinct : (A : Type 0) → IsDistinct (same_bytes {A = A}) []
 unfolding IsDistinct

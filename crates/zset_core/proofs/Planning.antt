@@ -28,21 +28,21 @@ module _ {A : Type 0} where
       let p = (Prepares-some old mid plan o h).1 in
       record { same = is ∙ ap (λ (n : ℕ). take n (rows_by held mid)) p.kept ∙ p.grows.front; settled = settled }
 
-  pub IsIdle-of : (es : List (Entry A)) (c : ColumnState) (p : Option (Prepared A)) (v : SetView) → view_of es p ≡ v → v.next ≡ None → IsSound es c p → IsIdle es c
+  pub IsIdle-of : (es : List (Entry A)) (c : ColumnState) (p : Option (Prepared A)) (v : SetView) → view_of es c p ≡ v → v.next ≡ None → IsSound es c p → IsIdle es c
   IsIdle-of es c None v is idle s = s
   IsIdle-of es c (Some q) v is idle s =
       let shown : Some (next_of es q) ≡ v.next = ap (λ (w : SetView). w.next) is in
       absurd (not_none (next_of es q) (shown ∙ idle))
 
-  pub IsSound-idle : (es new : List (Entry A)) (c : ColumnState) (p : Option (Prepared A)) (v : SetView) → view_of es p ≡ v → v.next ≡ None → IsIdle new c → IsSound new c p
+  pub IsSound-idle : (es new : List (Entry A)) (c : ColumnState) (p : Option (Prepared A)) (v : SetView) → view_of es c p ≡ v → v.next ≡ None → IsIdle new c → IsSound new c p
   IsSound-idle es new c None v is idle s = s
   IsSound-idle es new c (Some q) v is idle s =
       let shown : Some (next_of es q) ≡ v.next = ap (λ (w : SetView). w.next) is in
       absurd (not_none (next_of es q) (shown ∙ idle))
 
-  pub members_idle : (es : List (Entry A)) (p : Option (Prepared A)) (v : SetView) → view_of es p ≡ v → v.next ≡ None → members_by held es ≡ v.members
-  members_idle es None v is idle = ap (λ (w : SetView). w.members) is
-  members_idle es (Some q) v is idle =
+  pub members_idle : (es : List (Entry A)) (c : ColumnState) (p : Option (Prepared A)) (v : SetView) → view_of es c p ≡ v → v.next ≡ None → members_by held es ≡ v.members
+  members_idle es c None v is idle = ap (λ (w : SetView). w.members) is
+  members_idle es c (Some q) v is idle =
       let shown : Some (next_of es q) ≡ v.next = ap (λ (w : SetView). w.next) is in
       absurd (not_none (next_of es q) (shown ∙ idle))
 
@@ -51,10 +51,14 @@ module _ {A : Type 0} where
       let p = (Prepares-some old new plan o h).1 in
       subst (λ (k : Members). IsOutline plan.outline k (left_by new plan)) is (subst (IsOutline plan.outline (members_by held old)) (sym p.members_are) p.outline_is)
 
+  pub column_shown : (es : List (Entry A)) (c : ColumnState) (p : Option (Prepared A)) (v : SetView) → view_of es c p ≡ v → c ≡ v.column
+  column_shown es c None v is = ap (λ (w : SetView). w.column) is
+  column_shown es c (Some q) v is = ap (λ (w : SetView). w.column) is
+
   -- the content is the bag of the members that show
-  pub Holds-shown : (es : List (Entry A)) (c : ColumnState) (p : Option (Prepared A)) (v : SetView) → view_of es p ≡ v → IsSound es c p → Holds c (pairs v.members)
-  Holds-shown es c None v is s = subst (λ (m : Members). Holds c (pairs m)) (ap (λ (w : SetView). w.members) is) s.content
-  Holds-shown es c (Some q) v is s = subst (λ (m : Members). Holds c (pairs m)) (ap (λ (w : SetView). w.members) is) s.content
+  pub Holds-shown : (es : List (Entry A)) (c : ColumnState) (p : Option (Prepared A)) (v : SetView) → view_of es c p ≡ v → IsSound es c p → Holds v.column (pairs v.members)
+  Holds-shown es c None v is s = subst (λ (w : SetView). Holds w.column (pairs w.members)) is s.content
+  Holds-shown es c (Some q) v is s = subst (λ (w : SetView). Holds w.column (pairs w.members)) is s.content
 
   pub IsPlanned-of : (es : List (Entry A)) (c : ColumnState) (p : Option (Prepared A)) (q : Prepared A) → Some q ≡ p → IsSound es c p → IsPlanned es c q.plan
   IsPlanned-of es c p q is s = subst (IsSound es c) (sym is) s

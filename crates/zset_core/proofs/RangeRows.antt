@@ -1,15 +1,12 @@
 -- The rows of a range of a column: in the order of a listing they are the listing.
-use Rattle.std.proofs.Common.{◌≡◌, ℕ, ◌+◌, ◌<◌, ◌≤◌, ℤ, Bool, true, false, cond, nat_lt, ◌&&◌, ◌||◌, List, [], ◌∷◌, filter, length, count_by, pos, Option, Some, Result, Ok, Err, IfOk, refl, sym, ap, subst, ◌∙◌, arith}
+use Rattle.std.proofs.Common.{◌≡◌, ℕ, ◌+◌, ◌<◌, ◌≤◌, ℤ, Bool, true, false, cond, nat_lt, ◌&&◌, ◌||◌, List, [], ◌∷◌, filter, length, count_by, pos, Option, Some, Result, Ok, Err, IfOk, refl, sym, ap, ◌∙◌, arith}
 use Rattle.std.proofs.lemmas.List.{length-map}
 use Rattle.std.specs.Prelude.{slice_range}
 use Rattle.std.specs.List.{AllByRecursion, IsDistinct, list_any}
-use Rattle.std.specs.List.Sorted.{IsPermutation, IsSorted}
 use Rattle.std.specs.Cmp.{eq_by_cmp_equiv}
 use Rattle.std.specs.FinMap as fin
 use Rattle.std.proofs.lemmas.Bool.Decides.{nat_tests}
 use Rattle.std.proofs.lemmas.List.Sums.{sum_by-cons}
-use Rattle.std.proofs.lemmas.List.Sorted.{IsPermutation-map, list_any-IsPermutation}
-use Rattle.std.proofs.lemmas.Map.Keys.{IsDistinct-IsPermutation}
 use Rattle.score_bounds.specs.declared.bounds.Range.{Range}
 use Rattle.score_bounds.specs.Bounds.{is_in}
 use Rattle.crack_kernel.specs.Bags.{Test, SameBag}
@@ -21,8 +18,7 @@ use Rattle.resp_wire.specs.Response.{Response, Integer, Array}
 use Rattle.zset_core.specs.Meaning.{Meaning, Count, ListRange}
 use Rattle.zset_core.specs.Step.{step, elements, limited}
 use Rattle.zset_core.specs.declared.limit.Limit.{Limit}
-use Rattle.zset_core.specs.Listed.{Shown, pair_of, pairs_of}
-use Rattle.zset_core.proofs.Order.{is_pair, is_equal, pair_total, listing_is, rises, rises_pairs, rows_apart, filter_apart, len_marks, shown_cmp, pairs_apart}
+use Rattle.zset_core.proofs.Order.{is_pair, is_equal, pair_total, filter_apart, len_marks, pairs_apart}
 
 count_cons : (p : Test) (x : Pair) (xs : List Pair) → count_by p (x ∷ xs) ≡ cond {A = ℕ} (p x) 1 0 + count_by p xs
 count_cons p x xs = sum_by-cons (λ z. cond (p z) 1 0) x xs
@@ -35,7 +31,7 @@ any_step : (b a : Bool) (n m : ℕ) → m ≡ cond {A = ℕ} b 1 0 + n → a ≡
 any_step true a n m e h = sym (positive m (omega arith))
 any_step false a n m e h = let same : n ≡ m = omega arith in h ∙ ap (nat_lt 0) same
 
-any_count : (p : Test) (xs : List Pair) → list_any p xs ≡ nat_lt 0 (count_by p xs)
+pub any_count : (p : Test) (xs : List Pair) → list_any p xs ≡ nat_lt 0 (count_by p xs)
 any_count p [] = refl
 any_count p (x ∷ xs) = any_step (p x) (list_any p xs) (count_by p xs) (count_by p (x ∷ xs)) (count_cons p x xs) (any_count p xs)
 
@@ -54,7 +50,7 @@ count_nothing p (x ∷ xs) h = (by (p x) (count_cons p x xs), count_nothing p xs
     by false e = refl
 
 -- pairs that are apart are counted once
-count_once : (q : Pair) (xs : List Pair) → IsDistinct is_pair xs → count_by (is_pair q) xs ≤ 1
+pub count_once : (q : Pair) (xs : List Pair) → IsDistinct is_pair xs → count_by (is_pair q) xs ≤ 1
 unfolding IsDistinct
 count_once q [] d = omega arith
 count_once q (x ∷ xs) d = by (is_pair q x) refl (count_cons (is_pair q) x xs) (count_once q xs d.1)
@@ -66,7 +62,7 @@ count_once q (x ∷ xs) d = by (is_pair q x) refl (count_cons (is_pair q) x xs) 
     by false is e rest = omega (arith, e, rest)
 
 -- and pairs that are counted once are apart
-apart_once : (xs : List Pair) → ((q : Pair) → count_by (is_pair q) xs ≤ 1) → IsDistinct is_pair xs
+pub apart_once : (xs : List Pair) → ((q : Pair) → count_by (is_pair q) xs ≤ 1) → IsDistinct is_pair xs
 unfolding IsDistinct
 apart_once [] h = tt
 apart_once (x ∷ xs) h =
@@ -93,7 +89,7 @@ pub SameBag-range : (c : ColumnState) (m : Members) (range : Range) (answer : �
     → SameBag (slice_range c.rows answer.0 answer.1) (filter (λ p. is_in range p.0) (pairs m))
 SameBag-range c m range answer holds within p = within.rows p ∙ holds (λ r. p r && is_in range r.0) ∙ count_filter p (λ r. is_in range r.0) (pairs m)
 
--- as long as the listing
+-- they are as many as the listing has
 pub length_listing : (t : ℤ → Bool) (m : Members) (rows : List Pair) → SameBag rows (filter (λ p. t p.0) (pairs m)) → length (listing t m) ≡ length rows
 unfolding listing
 length_listing t m rows bag =
@@ -101,24 +97,10 @@ length_listing t m rows bag =
     length-map (fin.entries (fin.from_entries {R = pair_cmp} (marks L))) (λ (e : Pair × Unit {0}). e.0) ∙ sym (fin.len-entries (fin.from_entries {R = pair_cmp} (marks L)))
     ∙ len_marks L (filter_apart (λ p. t p.0) (pairs m) (pairs_apart m)) ∙ sym (count_all L) ∙ sym (bag (λ x. true)) ∙ count_all rows
 
--- and sorted the listing itself
-pub sorted_listing : (t : ℤ → Bool) (m : Members) (rows : List Pair) (shown sorted : List Shown) → SameBag rows (filter (λ p. t p.0) (pairs m)) → pairs_of shown ≡ rows → IsPermutation shown sorted → IsSorted shown_cmp sorted
-    → pairs_of sorted ≡ listing t m
-sorted_listing t m rows shown sorted bag is moved up =
-    let L : List Pair = filter (λ p. t p.0) (pairs m) in
-    let once : (q : Pair) → count_by (is_pair q) rows ≤ 1 = λ q. let most = count_once q L (filter_apart (λ p. t p.0) (pairs m) (pairs_apart m)) in omega (arith, most, bag (is_pair q)) in
-    let E : Shown → Shown → Bool = λ a b. is_pair (pair_of a) (pair_of b) in
-    let apart : IsDistinct E sorted = IsDistinct-IsPermutation E (λ x y. (eq_by_cmp_equiv pair_total).symm (pair_of x) (pair_of y)) shown sorted moved
-    (rows_apart shown (subst (IsDistinct is_pair) (sym is) (apart_once rows once))) in
-    listing_is t m (pairs_of sorted) (rises_pairs sorted (rises sorted up apart)) (λ q.
-    sym (list_any-IsPermutation (is_pair q) (pairs_of shown) (pairs_of sorted) (IsPermutation-map pair_of shown sorted moved)) ∙ ap (list_any (is_pair q)) is
-    ∙ any_count (is_pair q) rows ∙ ap (nat_lt 0) (bag (is_pair q)) ∙ sym (any_count (is_pair q) L))
-
 -- the replies to the commands that name a range
-pub count_reply : (m : Members) (meaning : Meaning) (key : List ℕ) (range : Range) (rows : List Pair) (reply : Response) → meaning ≡ Count key range
-    → SameBag rows (filter (λ p. is_in range p.0) (pairs m)) → reply ≡ Integer (pos (length rows)) → step m meaning ≡ Some (m, reply)
-count_reply m meaning key range rows reply is bag told =
-    ap (step m) is ∙ ap (λ (n : ℕ). Some (m, Integer (pos n))) (length_listing (is_in range) m rows bag) ∙ ap (λ (r : Response). Some (m, r)) (sym told)
+pub count_reply : (m : Members) (meaning : Meaning) (key : List ℕ) (range : Range) (reply : Response) → meaning ≡ Count key range
+    → reply ≡ Integer (pos (length (listing (is_in range) m))) → step m meaning ≡ Some (m, reply)
+count_reply m meaning key range reply is told = ap (step m) is ∙ ap (λ (r : Response). Some (m, r)) (sym told)
 
 pub list_reply : (m : Members) (meaning : Meaning) (key : List ℕ) (range : Range) (with_scores : Bool) (limit : Option Limit) (reply : Response) → meaning ≡ ListRange key range with_scores limit
     → reply ≡ Array (elements with_scores (limited limit (listing (is_in range) m))) → step m meaning ≡ Some (m, reply)
@@ -131,7 +113,3 @@ IfOk-all (Err e) all h = tt
 -- a column of the same content
 pub Holds-same : (c c' : ColumnState) (m : Members) → SameContent c c' → Holds c (pairs m) → Holds c' (pairs m)
 Holds-same c c' m same holds p = same p ∙ holds p
-
-pub SameBag-rows : (c : ColumnState) (m : Members) (range : Range) (answer : ℕ × ℕ) (rows : List Pair) → rows ≡ slice_range c.rows answer.0 answer.1 → Holds c (pairs m) → HoldsRange c range answer
-    → SameBag rows (filter (λ p. is_in range p.0) (pairs m))
-SameBag-rows c m range answer rows is holds within p = ap (count_by p) is ∙ SameBag-range c m range answer holds within p

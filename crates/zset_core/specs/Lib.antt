@@ -10,6 +10,7 @@ pub mod Viewed
 pub mod Refused
 pub mod Gathered
 pub mod Listed
+pub mod Windows
 pub mod Owned
 pub mod Edited
 pub mod Readied
@@ -17,3 +18,4 @@ pub mod Outlined
 pub mod Asking
 pub mod Reading
 pub mod Refusals
+pub mod Bounded

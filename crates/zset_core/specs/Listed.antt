@@ -2,7 +2,8 @@
 use Rattle.std.specs.Prelude.{ℕ, Bool, ℤ, List, map}
 use Rattle.std.specs.List.{filter}
 use Rattle.std.specs.Borrow.{Bor}
-use Rattle.zset_core.specs.Sets.{Pair}
+use Rattle.std.specs.declared.cmp.Ordering.{Ordering}
+use Rattle.zset_core.specs.Sets.{Pair, pair_cmp}
 use Rattle.zset_core.specs.Kept.{Entry, held}
 
 -- a score, and a member's bytes
@@ -14,6 +15,10 @@ pair_of p = (p.0, p.1.now)
 
 abbrev pub pairs_of : List Shown → List Pair
 pairs_of ps = map pair_of ps
+
+-- their order in a listing
+abbrev pub shown_cmp : Shown → Shown → Ordering
+shown_cmp a b = pair_cmp (pair_of a) (pair_of b)
 
 -- the pairs of entries whose score passes a test, in the entries' order
 abbrev pub picked : {A : Type 0} → (ℤ → Bool) → List (Entry A) → List Pair

@@ -1,20 +1,9 @@
 -- Commands that are answered with the column as it stands.
-use Rattle.std.specs.Prelude.{ℕ, Bool, true, false}
+use Rattle.std.specs.Prelude.{ℕ}
 use Rattle.score_bounds.specs.declared.bounds.Range.{Range}
 use Rattle.ripple_column.specs.Content.{ColumnState}
 use Rattle.ripple_column.specs.Answers.{IsAnswer}
 use Rattle.zset_core.specs.Meaning.{Meaning, Ping, Add, Increase, Remove, Score, Card, Count, ListRange}
-
--- whether a command names a range
-abbrev pub is_ranged : Meaning → Bool
-is_ranged (Ping text) = false
-is_ranged (Add key flags changed pairs) = false
-is_ranged (Increase key flags given member) = false
-is_ranged (Remove key members) = false
-is_ranged (Score key member) = false
-is_ranged (Card key) = false
-is_ranged (Count key range) = true
-is_ranged (ListRange key range with_scores limit) = true
 
 -- the column has an answer for a range as it stands
 abbrev pub HasAnswer : ColumnState → Range → Type 0

@@ -1,9 +1,10 @@
--- What callers see of a set and of an owner: the members, and, while a command is prepared, what it asks for and what its commit will leave and reply.
+-- What callers see of a set and of an owner: the members, and, while a command is prepared, what it asks for and what its commit will leave and reply; of a set also its column.
 use Rattle.std.specs.Prelude.{◌≡◌, ℕ, if◌then◌else◌, List, Option, None, Some}
 use Rattle.std.specs.Coded.{Coded, coded_ℕ, coded_ℤ, coded_list}
 use Rattle.std.specs.Str.{bytes_eq}
 use Rattle.std.specs.FinMap as fin
 use Rattle.resp_wire.specs.Response.{Response}
+use Rattle.ripple_column.specs.Content.{ColumnState}
 use Rattle.zset_core.specs.Sets.{Members}
 use Rattle.zset_core.specs.Meaning.{Meaning}
 use Rattle.zset_core.specs.Step.{step}
@@ -15,10 +16,11 @@ pub record Next : Type 0 where
   pub members : Members
   pub reply : Response
 
--- a set; `next` is there while it is prepared
+-- a set; `next` is there while it is prepared. Its column is told for one thing alone: which commands it can answer as it stands
 pub record SetView : Type 0 where
   pub members : Members
   pub next : Option Next
+  pub column : ColumnState
 
 -- what a set shows that has prepared a command
 abbrev pub Shows : Option (Members × Response) → Meaning → Option Next → Type 0
@@ -47,8 +49,15 @@ abbrev pub next_for : Option (List ℕ × Next) → List ℕ → Option Next
 next_for None key = None
 next_for (Some next) key = if bytes_eq next.0 key then Some next.1 else None
 
-abbrev pub set_view : OwnerView → List ℕ → SetView
-set_view owner key = record { members = set_at owner.world key; next = next_for owner.next key }
+-- a set is the one at a key
+pub record IsSetAt (owner : OwnerView) (key : List ℕ) (set : SetView) : Type 0 where
+  pub members : set.members ≡ set_at owner.world key
+  pub next : set.next ≡ next_for owner.next key
+
+-- the set at a key is empty, and nothing is prepared in it
+pub record HasNoSet (owner : OwnerView) (key : List ℕ) : Type 0 where
+  pub members : set_at owner.world key ≡ fin.empty
+  pub next : next_for owner.next key ≡ None
 
 -- codes, by which a proof tells such values apart
 abbrev pub coded_members : Coded Members

@@ -14,9 +14,9 @@ use Rattle.zset_core.specs.declared.set.Prepared.{Prepared}
 abbrev pub next_of : {A : Type 0} → List (Entry A) → Prepared A → Next
 next_of entries p = record { meaning = p.asked.value.meaning; members = left_by entries p.plan; reply = response_of p.plan.reply }
 
-abbrev pub view_of : {A : Type 0} → List (Entry A) → Option (Prepared A) → SetView
-view_of entries None = record { members = members_by held entries; next = None }
-view_of entries (Some p) = record { members = fin.from_entries (take p.plan.kept (rows_by held entries)); next = Some (next_of entries p) }
+abbrev pub view_of : {A : Type 0} → List (Entry A) → ColumnState → Option (Prepared A) → SetView
+view_of entries column None = record { members = members_by held entries; next = None; column = column }
+view_of entries column (Some p) = record { members = fin.from_entries (take p.plan.kept (rows_by held entries)); next = Some (next_of entries p); column = column }
 
 -- a set with nothing prepared: the content of its column is the bag of the members' pairs
 pub record IsIdle {A : Type 0} (entries : List (Entry A)) (column : ColumnState) : Type 0 where

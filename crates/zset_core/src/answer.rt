@@ -1,8 +1,8 @@
 //! Commands that read a set.
-ghost use Rattle.std.specs.Prelude.{◌≡◌, ◌↔◌, ℤ, Bool, Some, None, false, filter, slice_get, IfOk, IfSome, IsSome};
+ghost use Rattle.std.specs.Prelude.{◌≡◌, ◌≤◌, ◌↔◌, ℤ, pos, Bool, Some, None, false, length, filter, slice_get, slice_range, IfOk, IfSome, IsSome, OnOk};
 ghost use Rattle.std.specs.FinMap as map;
 ghost use Rattle.crack_kernel.specs.Bags.{SameBag};
-ghost use Rattle.resp_wire.specs.Response.{Array, response_of};
+ghost use Rattle.resp_wire.specs.Response.{Array, Integer, response_of};
 ghost use Rattle.ripple_column.specs.Content.{Holds, SameContent};
 ghost use Rattle.zset_core.specs.Meaning as Meanings;
 ghost use Rattle.zset_core.specs.Meaning.{is_writing, key_of};
@@ -14,11 +14,11 @@ ghost use Rattle.zset_core.specs.Kept.{held, members_by, IsSettled, same_bytes};
 use crate::command::Command;
 use crate::form::Form;
 use crate::limit::Limit;
-use crate::listing::{elements_of, limit_to, sorted_rows};
+use crate::listing::elements_of;
 use crate::slot::Slot;
 use crate::stage::{card_of, score_of};
 use crate::told::{tell_count, tell_score};
-use crack_kernel::Row;
+use crate::window::{piece_end, piece_start, ranks_of, shown_rows, window_of};
 use indexmap::IndexMap;
 use resp_wire::{Bytes, Reply};
 use ripple_column::Column;
@@ -36,6 +36,7 @@ pub fn answer_from<H: BuildHasher, A: Allocator + Copy>(
     requires keyed { IsSome (key_of command.now.meaning) }
     requires content { Holds column.old (pairs (members_by held members.now.entries)) }
     ensures content { SameContent column.old column.new }
+    ensures ready { OnOk result (IsReadyFor column.new command.now.meaning) }
     ensures reply { IfOk result (λ reply. step (members_by held members.now.entries)
         command.now.meaning ≡ Some (members_by held members.now.entries, response_of reply)) }
 {
@@ -45,7 +46,7 @@ pub fn answer_from<H: BuildHasher, A: Allocator + Copy>(
         Form::Card => Ok(tell_count(card_of(members))),
         Form::Count { range } => {
             let (from, to) = column.select(range)?;
-            Ok(tell_count(column.rows(from, to).len()))
+            Ok(count_rows(column, from, to))
         }
         Form::ListRange {
             range,
@@ -53,7 +54,7 @@ pub fn answer_from<H: BuildHasher, A: Allocator + Copy>(
             limit,
         } => {
             let (from, to) = column.select(range)?;
-            list_rows(alloc, column.rows(from, to), limit, *with_scores)
+            list_rows(alloc, column, from, to, limit, *with_scores)
         }
         _ => unreachable!(),
     }
@@ -78,7 +79,7 @@ pub fn ready_from<H: BuildHasher, A: Allocator + Copy>(
         Form::Card => Some(Ok(tell_count(card_of(members)))),
         Form::Count { range } => {
             let (from, to) = column.ready(range)?;
-            Some(Ok(tell_count(column.rows(from, to).len())))
+            Some(Ok(count_rows(column, from, to)))
         }
         Form::ListRange {
             range,
@@ -86,26 +87,50 @@ pub fn ready_from<H: BuildHasher, A: Allocator + Copy>(
             limit,
         } => {
             let (from, to) = column.ready(range)?;
-            Some(list_rows(alloc, column.rows(from, to), limit, *with_scores))
+            Some(list_rows(alloc, column, from, to, limit, *with_scores))
         }
         _ => None,
     }
 }
 
-/// The reply to ZRANGEBYSCORE from the rows of its range.
+/// The reply to ZCOUNT from the rows of its range, which stand from one place on and before another.
+fn count_rows<A: Allocator + Copy>(column: &Column<A>, from: usize, to: usize) -> Reply<A>
+    requires order { from ≤ to }
+    requires within { to ≤ length column.now.rows }
+    ensures { (test : ℤ → Bool) (members : Members)
+        → SameBag (slice_range column.now.rows from to) (filter (λ p. test p.0) (pairs members))
+        → response_of result ≡ Integer (pos (length (listing test members))) }
+{
+    tell_count(column.rows(from, to).len())
+}
+
+/// The reply to ZRANGEBYSCORE from the rows of its range, which stand from one place on and before
+/// another. Only the pieces that the limit's window touches are looked into.
 fn list_rows<A: Allocator + Copy>(
     alloc: A,
-    rows: &[Row<A>],
+    column: &Column<A>,
+    from: usize,
+    to: usize,
     limit: &Option<Limit>,
     with_scores: bool,
 ) -> Result<Reply<A>, AllocError>
+    requires order { from ≤ to }
+    requires within { to ≤ length column.now.rows }
     ensures { IfOk result (λ reply. (test : ℤ → Bool) (members : Members)
-        → SameBag rows.now (filter (λ p. test p.0) (pairs members)) → response_of reply
-        ≡ Array (elements with_scores (limited limit.now (listing test members)))) }
+        → SameBag (slice_range column.now.rows from to) (filter (λ p. test p.0) (pairs members))
+        → response_of reply ≡ Array (elements with_scores (limited limit.now (listing test
+        members)))) }
 {
-    let sorted = sorted_rows(alloc, rows)?;
-    let wanted = limit_to(sorted.as_slice(), limit);
-    Ok(Reply::List(elements_of(alloc, wanted, with_scores)?))
+    let (start, end) = ranks_of(limit, to - from);
+    if start == end {
+        return Ok(Reply::List(elements_of(alloc, &[], with_scores)?));
+    }
+    let pivots = column.pivot_list();
+    let low = piece_start(pivots, from, from + start);
+    let high = piece_end(pivots, to, from + end);
+    let mut shown = shown_rows(alloc, column.rows(low, high))?;
+    let window = window_of(&mut shown, from + start - low, from + end - low);
+    Ok(Reply::List(elements_of(alloc, window, with_scores)?))
 }
 
 /// The reply to PING: the text to repeat, or `PONG`.

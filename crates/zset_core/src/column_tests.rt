@@ -3,8 +3,8 @@ ghost use Rattle.std.specs.Prelude.{◌≡◌, None};
 use crate::ZSet;
 use crate::set_tests::{command, text_of};
 use resp_wire::Reply;
-use score_bounds::{Bound, Range};
 use std::alloc::Global;
+use std::collections::BTreeMap;
 use std::hash::RandomState;
 use std::process::Abort;
 use std::test::*;
@@ -133,54 +133,225 @@ fn pivots_past_the_limit_go(rt: HostRuntime) -> Result<(), Fail> {
     Ok(())
 }
 
+// A plain set: scores of members, each of which is named by a number.
+type Plain = BTreeMap<u64, i64, Global>;
+
+// What is asked for: scores above `low` and up to `high`.
+#[derive(Clone, Copy)]
+struct Question {
+    low: i64,
+    high: i64,
+    with_scores: bool,
+    limit: Option<(i64, i64)>,
+}
+
+// The pairs of a plain set that are asked for, in their order, LIMIT aside.
+fn plain_rows(alloc: Global, plain: &Plain, asked: &Question) -> Result<Vec<(i64, String)>, Fail> {
+    let mut rows = Vec::new(alloc);
+    for (member, score) in plain {
+        if asked.low < *score && *score <= asked.high {
+            rows.push((*score, format!(in alloc; "m{member}")?))?;
+        }
+    }
+    rows.sort()?;
+    Ok(rows)
+}
+
+// Whether LIMIT wants the pair of a rank.
+fn is_wanted(rank: i64, limit: Option<(i64, i64)>) -> bool {
+    match limit {
+        None => true,
+        Some((offset, count)) => {
+            let behind = rank.wrapping_sub(offset);
+            offset >= 0 && behind >= 0 && (count < 0 || behind < count)
+        }
+    }
+}
+
+// The text of ZRANGEBYSCORE.
+fn listing_text(alloc: Global, asked: &Question) -> Result<String, Fail> {
+    let Question {
+        low,
+        high,
+        with_scores,
+        limit,
+    } = *asked;
+    let scores = if with_scores { " WITHSCORES" } else { "" };
+    Ok(match limit {
+        None => format!(in alloc; "ZRANGEBYSCORE k ({low} {high}{scores}")?,
+        Some((offset, count)) => {
+            format!(in alloc; "ZRANGEBYSCORE k ({low} {high}{scores} LIMIT {offset} {count}")?
+        }
+    })
+}
+
+// The reply to it, an end of line as `~`.
+fn listing_reply(alloc: Global, rows: &[(i64, String)], asked: &Question) -> Result<String, Fail> {
+    let mut elements = 0u64;
+    let mut text = String::new(alloc);
+    for (rank, (score, name)) in rows.iter().enumerate() {
+        if !is_wanted(rank as i64, asked.limit) {
+            continue;
+        }
+        elements = elements.wrapping_add(1);
+        text.push_str(format!(in alloc; "${}~{name}~", name.len())?.as_str())?;
+        if asked.with_scores {
+            elements = elements.wrapping_add(1);
+            let score = format!(in alloc; "{score}")?;
+            text.push_str(format!(in alloc; "${}~{score}~", score.len())?.as_str())?;
+        }
+    }
+    Ok(format!(in alloc; "*{elements}~{text}")?)
+}
+
+// Asks a set, and asks it again as it stands then: both replies are those of the plain set.
+fn expect_listing<R: Abort>(
+    rt: &R,
+    alloc: Global,
+    set: &mut Set,
+    plain: &Plain,
+    asked: &Question,
+) -> Result<(), Fail>
+    requires { set.old.next ≡ None }
+    ensures { set.new.next ≡ None }
+{
+    let rows = plain_rows(alloc, plain, asked)?;
+    let want = listing_reply(alloc, rows.as_slice(), asked)?;
+    let text = listing_text(alloc, asked)?;
+    let told = run(alloc, set, text.as_str())?;
+    assert_eq!(rt; text_of(alloc, &told)?, want, "{text}");
+    let command = command(alloc, text.as_str())?;
+    if command.key().is_none() {
+        Err("no key")?;
+    }
+    let again = set.ready(&command).ok_or("not ready")??;
+    assert_eq!(rt; text_of(alloc, &again)?, want, "{text}");
+    Ok(())
+}
+
+// A set of 20 members with 10 scores, and the same plain.
+fn twenty(alloc: Global, set: &mut Set) -> Result<Plain, Fail>
+    requires { set.old.next ≡ None }
+    ensures { set.new.next ≡ None }
+{
+    let mut plain = BTreeMap::new(alloc);
+    for member in 0..20u64 {
+        let score = (member * 7 % 10) as i64;
+        let text = format!(in alloc; "ZADD k {score} m{member}")?;
+        run(alloc, set, text.as_str())?;
+        plain.insert(member, score)?;
+    }
+    Ok(plain)
+}
+
+#[test]
+fn windows_are_cut_out_of_the_listing(rt: HostRuntime) -> Result<(), Fail> {
+    let alloc = rt.alloc();
+    let mut set = ZSet::with_hasher(alloc, RandomState::new(&rt)?);
+    let plain = twenty(alloc, &mut set)?;
+    for crack in ["ZCARD k", "ZCOUNT k 2 4", "ZCOUNT k (6 8"] {
+        run(alloc, &mut set, crack)?;
+        for offset in -2..23 {
+            for count in -2..23 {
+                let asked = Question {
+                    low: -1,
+                    high: 9,
+                    with_scores: false,
+                    limit: Some((offset, count)),
+                };
+                expect_listing(&rt, alloc, &mut set, &plain, &asked)?;
+            }
+        }
+    }
+    Ok(())
+}
+
 // The next of a row of numbers below 2^31 (the generator of Park and Miller).
 fn next(number: u64) -> u64 {
     number.wrapping_mul(48271) % 2147483647
 }
 
-// A change or a reading command, by a number.
-fn random_text(alloc: Global, number: u64) -> Result<String, Fail> {
+// A change, by a number, of a plain set; and the command that makes it.
+fn random_change(alloc: Global, plain: &mut Plain, number: u64) -> Result<String, Fail> {
     let member = number / 8 % 12;
-    let score = number / 128 % 20;
+    let score = (number / 128 % 20) as i64;
     Ok(match number % 4 {
-        0 => format!(in alloc; "ZREM k m{member}")?,
-        1 => format!(in alloc; "ZADD k INCR 7 m{member}")?,
-        _ => format!(in alloc; "ZADD k {score} m{member} {} m{}", member, score % 12)?,
+        0 => {
+            plain.remove(&member);
+            format!(in alloc; "ZREM k m{member}")?
+        }
+        1 => {
+            let old = plain.get(&member).copied().unwrap_or(0);
+            plain.insert(member, old.wrapping_add(7))?;
+            format!(in alloc; "ZADD k INCR 7 m{member}")?
+        }
+        2 => {
+            if plain.contains_key(&member) {
+                plain.insert(member, score)?;
+            }
+            format!(in alloc; "ZADD k XX {score} m{member}")?
+        }
+        _ => {
+            let other = (member + number / 4096) % 12;
+            plain.insert(member, score)?;
+            plain.insert(other, 3)?;
+            format!(in alloc; "ZADD k {score} m{member} 3 m{other}")?
+        }
     })
 }
 
-// Asks a range of a set, and looks for the same number in a filter of the whole listing.
-fn expect_range<R: Abort>(rt: &R, alloc: Global, set: &mut Set, low: i64) -> Result<(), Fail>
+// What is asked for, by a number.
+fn random_question(number: u64) -> Question {
+    let low = (number / 65536 % 24) as i64;
+    let offset = (number / 64 % 9) as i64;
+    let count = (number / 1024 % 9) as i64;
+    Question {
+        low,
+        high: low + 6,
+        with_scores: number % 3 == 0,
+        limit: if number % 2 == 0 {
+            None
+        } else {
+            Some((offset - 1, count - 1))
+        },
+    }
+}
+
+// Counts a range of a set, as the plain set has it.
+fn expect_count<R: Abort>(
+    rt: &R,
+    alloc: Global,
+    set: &mut Set,
+    plain: &Plain,
+    asked: &Question,
+) -> Result<(), Fail>
     requires { set.old.next ≡ None }
     ensures { set.new.next ≡ None }
 {
-    let range = Range {
-        min: Bound::Excl(low),
-        max: Bound::Incl(low.wrapping_add(6)),
-    };
-    let pairs = set.pairs()?;
-    let plain = pairs
-        .iter()
-        .filter(|row| range.contains(row.score()))
-        .count();
-    let text = format!(in alloc; "ZCOUNT k ({low} {}", low.wrapping_add(6))?;
-    let counted = run(alloc, set, text.as_str())?;
-    let want = format!(in alloc; ":{plain}~")?;
-    assert_eq!(rt; text_of(alloc, &counted)?, want, "{text}");
+    let rows = plain_rows(alloc, plain, asked)?;
+    let want = format!(in alloc; ":{}~", rows.len())?;
+    let text = format!(in alloc; "ZCOUNT k ({} {}", asked.low, asked.high)?;
+    let told = run(alloc, set, text.as_str())?;
+    assert_eq!(rt; text_of(alloc, &told)?, want, "{text}");
     Ok(())
 }
 
 #[test]
-fn random_commands_agree_with_a_plain_filter(rt: HostRuntime) -> Result<(), Fail> {
+fn random_commands_agree_with_a_plain_set(rt: HostRuntime) -> Result<(), Fail> {
     let alloc = rt.alloc();
     let mut set = ZSet::with_hasher(alloc, RandomState::new(&rt)?);
+    let mut plain = BTreeMap::new(alloc);
     let mut number = 1;
     for _ in 0..3000u32 {
         number = next(number);
-        let text = random_text(alloc, number)?;
+        let text = random_change(alloc, &mut plain, number)?;
         run(alloc, &mut set, text.as_str())?;
-        let low = (number / 65536 % 24) as i64;
-        expect_range(&rt, alloc, &mut set, low)?;
+        number = next(number);
+        let asked = random_question(number);
+        expect_listing(&rt, alloc, &mut set, &plain, &asked)?;
+        number = next(number);
+        let asked = random_question(number);
+        expect_count(&rt, alloc, &mut set, &plain, &asked)?;
     }
     Ok(())
 }

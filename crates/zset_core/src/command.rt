@@ -3,6 +3,7 @@
 ghost use Rattle.std.specs.Prelude.{◌≡◌, ◌≢◌, IfOk, IfErr, Ok, Err};
 ghost use Rattle.std.specs.Option.{option_copied};
 ghost use Rattle.zset_core.specs.Asking.{asked, is_creating};
+ghost use Rattle.zset_core.specs.Bounded.{IsBoundedMeaning};
 ghost use Rattle.zset_core.specs.Form.{meaning_of, IsWhole};
 ghost use Rattle.zset_core.specs.Meaning.{key_of, is_writing};
 ghost use Rattle.zset_core.specs.declared.refusal.Refusal.TheVariants as refusals;
@@ -72,11 +73,13 @@ impl<A: Allocator> Command<A> {
 
     /// The key of the set that the command asks for, None for PING.
     pub fn key(&self) -> Option<&[u8]>
-        ensures { option_copied result ≡ key_of self.now.meaning }
+        ensures key { option_copied result ≡ key_of self.now.meaning }
+        ensures bounded { IsBoundedMeaning self.now.meaning }
     {
+        let words = self.request.words();
         match &self.form {
             Form::Ping => None,
-            _ => Some(word(self.request.words(), 1)),
+            _ => Some(word(words, 1)),
         }
     }
 

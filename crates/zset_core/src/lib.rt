@@ -22,6 +22,7 @@ mod set;
 mod slot;
 mod stage;
 mod told;
+mod window;
 
 pub use command::Command;
 pub use limit::Limit;

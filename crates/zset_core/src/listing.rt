@@ -1,13 +1,11 @@
 //! Listings: pairs by rising score, equal scores by the bytes of their members.
-ghost use Rattle.std.specs.Prelude.{◌≡◌, ℤ, Bool, ◌++◌, ◌∷◌, [], filter, OnOk, IfOk};
+ghost use Rattle.std.specs.Prelude.{◌≡◌, ◌++◌, ◌∷◌, [], filter, OnOk, IfOk};
 ghost use Rattle.score_bounds.specs.Bounds.{is_in};
-ghost use Rattle.crack_kernel.specs.Bags.{SameBag};
-ghost use Rattle.zset_core.specs.Sets.{Members, listing, pairs, whole};
-ghost use Rattle.zset_core.specs.Step.{from_offset, at_most, limited, elements};
+ghost use Rattle.zset_core.specs.Sets.{listing, whole};
+ghost use Rattle.zset_core.specs.Step.{elements};
 ghost use Rattle.zset_core.specs.Kept.{held, members_by};
 ghost use Rattle.zset_core.specs.Listed.{pairs_of, picked};
 
-use crate::limit::Limit;
 use crate::slot::Slot;
 use crate::told::score_bytes;
 use crack_kernel::Row;
@@ -65,78 +63,6 @@ pub fn listing_of<'a, H: BuildHasher, A: Allocator + Copy>(
     let mut pairs = pairs_in(alloc, members, range)?;
     pairs.sort()?;
     Ok(pairs)
-}
-
-/// The scores and the members of rows, where they stand.
-fn shown_rows<'a, A: Allocator + Copy>(
-    alloc: A,
-    rows: &'a [Row<A>],
-) -> Result<Vec<(i64, &'a [u8]), A>, AllocError>
-    ensures { IfOk result (λ shown. pairs_of shown.items ≡ rows.now) }
-{
-    let mut shown = Vec::new(alloc);
-    for row in rows {
-        shown.push((row.score(), row.member()))?;
-    }
-    Ok(shown)
-}
-
-/// Rows in the order of a listing: where they are the pairs of a set that pass a test, their
-/// listing.
-pub fn sorted_rows<'a, A: Allocator + Copy>(
-    alloc: A,
-    rows: &'a [Row<A>],
-) -> Result<Vec<(i64, &'a [u8]), A>, AllocError>
-    ensures { IfOk result (λ sorted. (test : ℤ → Bool) (members : Members)
-        → SameBag rows.now (filter (λ p. test p.0) (pairs members)) → pairs_of sorted.items
-        ≡ listing test members) }
-{
-    let mut sorted = shown_rows(alloc, rows)?;
-    sorted.sort()?;
-    Ok(sorted)
-}
-
-/// The pairs from an offset on, none where it is negative.
-fn after_offset<'a, 'b>(pairs: &'b [(i64, &'a [u8])], offset: i64) -> &'b [(i64, &'a [u8])]
-    ensures { pairs_of result.now ≡ from_offset offset (pairs_of pairs.now) }
-{
-    if offset < 0 {
-        return &pairs[..0];
-    }
-    let start = offset as usize;
-    if start < pairs.len() {
-        &pairs[start..]
-    } else {
-        &pairs[..0]
-    }
-}
-
-/// As many of the first pairs as a count says, all where it is negative.
-fn within_count<'a, 'b>(pairs: &'b [(i64, &'a [u8])], count: i64) -> &'b [(i64, &'a [u8])]
-    ensures { pairs_of result.now ≡ at_most count (pairs_of pairs.now) }
-{
-    if count < 0 {
-        return pairs;
-    }
-    let end = count as usize;
-    if end < pairs.len() {
-        &pairs[..end]
-    } else {
-        pairs
-    }
-}
-
-/// The pairs that LIMIT asks for, all without it.
-pub fn limit_to<'a, 'b>(
-    pairs: &'b [(i64, &'a [u8])],
-    limit: &Option<Limit>,
-) -> &'b [(i64, &'a [u8])]
-    ensures { pairs_of result.now ≡ limited limit.now (pairs_of pairs.now) }
-{
-    match limit {
-        None => pairs,
-        Some(limit) => within_count(after_offset(pairs, limit.offset), limit.count),
-    }
 }
 
 /// The elements of one pair: its member, with WITHSCORES also its score.

@@ -4,7 +4,7 @@ ghost use Rattle.std.specs.FinMap as map;
 ghost use Rattle.resp_wire.specs.Response.{response_of};
 ghost use Rattle.zset_core.specs.Meaning.{is_writing, key_of};
 ghost use Rattle.zset_core.specs.Outlined.{IsOutline};
-ghost use Rattle.zset_core.specs.View.{IsReadyAt, set_view};
+ghost use Rattle.zset_core.specs.View.{HasNoSet, IsReadyAt, IsSetAt};
 ghost use Rattle.std.specs.Map.{keys_of};
 ghost use Rattle.std.specs.Option.{option_copied};
 ghost use Rattle.zset_core.specs.Sets.{whole};
@@ -12,6 +12,7 @@ ghost use Rattle.zset_core.specs.Refused.{IsRefused};
 ghost use Rattle.zset_core.specs.Step.{step};
 ghost use Rattle.zset_core.specs.World.{key_behind};
 ghost use Rattle.zset_core.specs.World.{act, act_at, set_at, put_set};
+ghost use Rattle.zset_core.specs.Bounded.{IsBoundedWorld};
 ghost use Rattle.zset_core.specs.Owned.{world_of, names_of, IsRising, set_in, next_at, AllRest, OthersRest, IsAfter};
 
 use crate::answer::pong;
@@ -50,10 +51,11 @@ impl<H: BuildHasher, A: Allocator + Copy> Model for OneOwner<H, A> {
     ghost coded = { Prim.hlevel (codes, coded_members, coded_world) };
 
     ghost use Rattle.zset_core.specs.Owned.{owner_view, IsOwned};
+    ghost use Rattle.zset_core.specs.Bounded.{IsBoundedOwner};
 
     ghost view = { λ o. owner_view o.sets.entries o.asked };
 
-    ghost invariant = { λ o. IsOwned o.sets.entries o.asked };
+    ghost invariant = { λ o. IsOwned o.sets.entries o.asked × IsBoundedOwner (owner_view o.sets.entries o.asked) };
 }
 
 impl<H: BuildHasher, A: Allocator + Copy> OneOwner<H, A> {
@@ -147,12 +149,20 @@ impl<H: BuildHasher + Clone + Drop, A: Allocator + Copy> OneOwner<H, A> {
 
     /// The set at a key. Where there is None, the set has no member and nothing is prepared in it.
     pub fn set(&self, key: &[u8]) -> Option<&ZSet<H, A>>
-        ensures { MatchOption result
-            (set_view self.now key.now ≡ record { members = map.empty; next = None })
-            (λ set. set.now ≡ set_view self.now key.now) }
+        ensures { MatchOption result (HasNoSet self.now key.now)
+            (λ set. IsSetAt self.now key.now set.now) }
     {
         self.sets.get(key)
     }
+
+    /// A law: a request can spell each key and each pair of the sets, and no set that is kept is
+    /// empty. The body reads nothing.
+    pub fn bounds(&self)
+        ensures { IsBoundedWorld self.now.world }
+    {
+        let _ = &self.alloc;
+    }
+
     /// The number of keys whose sets are not empty.
     pub fn key_count(&self) -> usize
         requires { self.now.next ≡ None }

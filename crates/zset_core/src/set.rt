@@ -8,7 +8,7 @@ ghost use Rattle.zset_core.specs.Meaning.{is_writing, key_of};
 ghost use Rattle.zset_core.specs.Outlined.{IsOutline};
 ghost use Rattle.zset_core.specs.Refused.{IsRefused};
 ghost use Rattle.ripple_column.specs.Content.{Holds};
-ghost use Rattle.zset_core.specs.Readied.{is_ranged};
+ghost use Rattle.zset_core.specs.Readied.{IsReadyFor};
 ghost use Rattle.zset_core.specs.Sets.{pairs, whole};
 ghost use Rattle.zset_core.specs.Step.{step};
 ghost use Rattle.zset_core.specs.View.{IsReady};
@@ -38,7 +38,7 @@ struct Prepared<A: Allocator> {
 }
 
 /// A sorted set: members with scores. While a command is prepared in it, the members are those from
-/// before, and a contract sees beside them what the commit will leave and reply.
+/// before, and a contract sees beside them what the commit will leave and reply, and the column.
 ///
 /// It keeps its pairs twice: in a map from members to scores, and in a column of rows that the
 /// ranges asked for crack. The content of the column is the bag of the members' pairs at every time
@@ -63,7 +63,7 @@ impl<H: BuildHasher, A: Allocator + Copy> Model for ZSet<H, A> {
 
     ghost use Rattle.zset_core.specs.Viewed.{view_of, IsSound};
 
-    ghost view = { λ z. view_of z.members.entries z.prepared };
+    ghost view = { λ z. view_of z.members.entries z.column z.prepared };
 
     ghost invariant = { λ z. IsSound z.members.entries z.column z.prepared };
 }
@@ -104,15 +104,17 @@ impl<H: BuildHasher, A: Allocator + Copy> ZSet<H, A> {
         self.prepared.is_some()
     }
 
-    /// Answers a command that reads the set of its key: ZSCORE, ZCARD, ZCOUNT, ZRANGEBYSCORE.
-    /// Refused for want of memory alone.
+    /// Answers a command that reads the set of its key: ZSCORE, ZCARD, ZCOUNT, ZRANGEBYSCORE. Then
+    /// the set is ready for it. Refused for want of memory alone.
     pub fn answer(&mut self, command: &Command<A>) -> Result<Reply<A>, AllocError>
         requires idle { self.old.next ≡ None }
         requires reading { is_writing command.now.meaning ≡ false }
         requires keyed { IsSome (key_of command.now.meaning) }
         ensures reply { IfOk result (λ reply. step self.old.members command.now.meaning
             ≡ Some (self.old.members, response_of reply)) }
-        ensures same { self.new ≡ self.old }
+        ensures members { self.new.members ≡ self.old.members }
+        ensures idle { self.new.next ≡ None }
+        ensures ready { OnOk result (IsReadyFor self.new.column command.now.meaning) }
     {
         answer_from(self.alloc, &self.members, &mut self.column, command)
     }
@@ -127,9 +129,7 @@ impl<H: BuildHasher, A: Allocator + Copy> ZSet<H, A> {
         ensures reply { IfSome result
             (λ answer. IfOk answer (λ reply. step self.now.members command.now.meaning
             ≡ Some (self.now.members, response_of reply))) }
-        ensures writing { IsTrue (is_writing command.now.meaning) → result ≡ None }
-        ensures always { is_writing command.now.meaning ≡ false → is_ranged command.now.meaning
-            ≡ false → IsSome result }
+        ensures exact { IsSome result ↔ IsReadyFor self.now.column command.now.meaning }
     {
         ready_from(self.alloc, &self.members, &self.column, command)
     }
@@ -137,7 +137,8 @@ impl<H: BuildHasher, A: Allocator + Copy> ZSet<H, A> {
     /// The column of the members' rows. Its content is the bag of their pairs, also while a command
     /// is prepared.
     pub fn column(&self) -> &Column<A>
-        ensures { Holds result.now (pairs self.now.members) }
+        ensures column { result.now ≡ self.now.column }
+        ensures content { Holds self.now.column (pairs self.now.members) }
     {
         &self.column
     }

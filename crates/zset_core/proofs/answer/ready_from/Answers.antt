@@ -3,7 +3,7 @@ use Rattle.score_bounds.specs.Bounds.{is_in}
 use Rattle.resp_wire.specs.Response.{response_of}
 use Rattle.zset_core.specs.Form.{meaning_of, word_at}
 use Rattle.zset_core.specs.Kept.{held, members_by}
-use Rattle.zset_core.proofs.RangeRows.{IfOk-all, SameBag-rows, count_reply, list_reply}
+use Rattle.zset_core.proofs.RangeRows.{IfOk-all, SameBag-range, count_reply, list_reply}
 use Rattle.zset_core.proofs.answer.ready_from.Goals as goal
 
 pub returns-in_ok-from-in-Count-clause-reply : goal.returns-in_ok-from-in-Count-clause-reply
@@ -11,18 +11,15 @@ returns-in_ok-from-in-Count-clause-reply g c =
     let m = members_by held c.args.members.now.entries in
     let words = c.args.command.now.words in
     let range = c.in-Count.range in
-    let column = c.args.column.now in
-    let rows = c.rows.result.now in
-    let bag = SameBag-rows column m range (c.in_ok-from-in-Count.from, c.in_ok-from-in-Count.to) rows c.rows.ensures c.requires.content c.in_ok-from-in-Count.ensures.rows in
-    count_reply m c.args.command.now.meaning (word_at words 1) range rows (response_of c.tell_count-in-Count.result) (c.form.ensures.meaning ∙ ap (meaning_of words) c.in-Count.is) bag c.tell_count-in-Count.ensures
+    let bag = SameBag-range c.args.column.now m range (c.in_ok-from-in-Count.from, c.in_ok-from-in-Count.to) c.requires.content c.in_ok-from-in-Count.ensures.rows in
+    count_reply m c.args.command.now.meaning (word_at words 1) range (response_of c.count_rows.result)
+    (c.form.ensures.meaning ∙ ap (meaning_of words) c.in-Count.is) (c.count_rows.ensures (is_in range) m bag)
 
 pub returns-in_ok-from-in-ListRange-clause-reply : goal.returns-in_ok-from-in-ListRange-clause-reply
 returns-in_ok-from-in-ListRange-clause-reply g c =
     let m = members_by held c.args.members.now.entries in
     let words = c.args.command.now.words in
     let range = c.in-ListRange.range in
-    let column = c.args.column.now in
-    let rows = c.rows-in-ListRange.result.now in
-    let bag = SameBag-rows column m range (c.in_ok-from-in-ListRange.from, c.in_ok-from-in-ListRange.to) rows c.rows-in-ListRange.ensures c.requires.content c.in_ok-from-in-ListRange.ensures.rows in
+    let bag = SameBag-range c.args.column.now m range (c.in_ok-from-in-ListRange.from, c.in_ok-from-in-ListRange.to) c.requires.content c.in_ok-from-in-ListRange.ensures.rows in
     IfOk-all c.list_rows.result (λ reply told. list_reply m c.args.command.now.meaning (word_at words 1) range c.in-ListRange.with_scores c.in-ListRange.limit (response_of reply)
     (c.form.ensures.meaning ∙ ap (meaning_of words) c.in-ListRange.is) (told (is_in range) m bag)) c.list_rows.ensures

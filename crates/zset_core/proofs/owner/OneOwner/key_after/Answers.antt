@@ -14,11 +14,11 @@ next_key-requires g c =
 pub returns-in-None : goal.returns-in-None
 returns-in-None g c =
     c.first_key.ensures.key
-    ∙ ap (λ (l : List (List ℕ)). key_behind l None) (names_shown c.self.inside.sets.entries c.self.inside.asked c.args.self.now c.self.view_is c.self.invariant c.requires.idle c.first_key.ensures.ordered)
+    ∙ ap (λ (l : List (List ℕ)). key_behind l None) (names_shown c.self.inside.sets.entries c.self.inside.asked c.args.self.now c.self.view_is c.self.invariant.0 c.requires.idle c.first_key.ensures.ordered)
     ∙ ap (key_behind (fin.keys c.args.self.now.world)) (sym (ap option_copied c.in-None.is))
 
 pub returns-in-Some : goal.returns-in-Some
 returns-in-Some g c =
     c.next_key.ensures.key
-    ∙ ap (λ (l : List (List ℕ)). key_behind l (Some c.in-Some.key.now)) (names_shown c.self.inside.sets.entries c.self.inside.asked c.args.self.now c.self.view_is c.self.invariant c.requires.idle c.next_key.ensures.ordered)
+    ∙ ap (λ (l : List (List ℕ)). key_behind l (Some c.in-Some.key.now)) (names_shown c.self.inside.sets.entries c.self.inside.asked c.args.self.now c.self.view_is c.self.invariant.0 c.requires.idle c.next_key.ensures.ordered)
     ∙ ap (key_behind (fin.keys c.args.self.now.world)) (sym (ap option_copied c.in-Some.is))

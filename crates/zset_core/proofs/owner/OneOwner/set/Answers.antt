@@ -1,6 +1,4 @@
-use Rattle.std.proofs.Common.{◌≡◌, None}
-use Rattle.std.specs.FinMap as fin
-use Rattle.zset_core.specs.View.{SetView, set_view}
+use Rattle.zset_core.specs.View.{IsSetAt, HasNoSet}
 use Rattle.zset_core.specs.Owned.{set_in}
 use Rattle.zset_core.proofs.OwnerViews.{match_of, view_some, view_none}
 use Rattle.zset_core.proofs.owner.OneOwner.set.Goals as goal
@@ -9,6 +7,5 @@ pub returns : goal.returns
 returns g c =
     let es = c.self.inside.sets.entries in
     let q = c.args.key.now in
-    let none : SetView = record { members = fin.empty; next = None } in
-    match_of c.get.result (set_in es q) (set_view c.args.self.now q ≡ none) (λ s. s ≡ set_view c.args.self.now q) c.get.ensures.value
-    (view_none es c.self.inside.asked c.args.self.now q c.self.view_is c.self.invariant) (λ s. view_some es c.self.inside.asked c.args.self.now q s c.self.view_is c.self.invariant)
+    match_of c.get.result (set_in es q) (HasNoSet c.args.self.now q) (λ s. IsSetAt c.args.self.now q s) c.get.ensures.value
+    (view_none es c.self.inside.asked c.args.self.now q c.self.view_is c.self.invariant.0) (λ s. view_some es c.self.inside.asked c.args.self.now q s c.self.view_is c.self.invariant.0)

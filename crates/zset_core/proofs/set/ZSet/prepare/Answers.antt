@@ -14,4 +14,4 @@ pub returns-clause-outline : goal.returns-clause-outline
 returns-clause-outline g c =
     let old = c.self.inside.members.entries in
     outline_left old c.make_plan.new.members.entries c.in_ok-plan.plan (step (members_by held old) c.args.command.now.meaning) c.args.self.now.members
-    (members_idle old c.self.inside.prepared c.args.self.now c.self.view_is c.requires.idle) c.in_ok-plan.ensures.ok
+    (members_idle old c.self.inside.column c.self.inside.prepared c.args.self.now c.self.view_is c.requires.idle) c.in_ok-plan.ensures.ok
