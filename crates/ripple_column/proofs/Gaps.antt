@@ -4,10 +4,11 @@ use Rattle.std.specs.List.{SwappedAt}
 use Rattle.std.proofs.lemmas.Bool.{cases_eq, cases_lt}
 use Rattle.std.proofs.lemmas.List.{get_or_default, get_or-take, get_or-set_same, get_or-set_other, length-replicate, length-set, length-map, get_or-map, get_or_append_left, get_or-append_right, get_or-replicate}
 use Rattle.std.proofs.lemmas.Grind.{common_steps}
-use Rattle.crack_kernel.specs.PivotList.{IsRising, ObeysPivots}
-use Rattle.crack_kernel.proofs.PivotOrder.{IsRising-same_values}
+use Rattle.std.proofs.lemmas.Int.{ints}
+use Rattle.crack_kernel.specs.PivotList.{IsRising, ObeysPivots, RisesPast}
+use Rattle.crack_kernel.proofs.PivotOrder.{IsRising-same_values, IsRising-le}
 use Rattle.ripple_column.specs.Cuts.{values}
-use Rattle.ripple_column.proofs.Hole.{Places, Places-from_law, start_from}
+use Rattle.ripple_column.proofs.Hole.{Places, Places-from_law, bound_from, bound_upto, bound_within, start_from}
 use Rattle.std.proofs.lemmas.Bool.Decides.{nat_tests}
 use Rattle.ripple_column.specs.Gaps.{ChangedPlaces, blank, PartsOutside, HasGap, StandFrom, AllParted}
 
@@ -292,6 +293,42 @@ HasGap-closed ps xs i a g k p lt = record {
   behind = λ j d l u. (g.parted k p lt j d u (λ h. h)).1 l;
 }
 
+-- an empty gap at the end of a piece
+pub HasGap-empty : (ps : List (ℤ × ℕ)) (xs : List (ℤ × List ℕ)) (i a : ℕ) → IsRising ps → AllParted ps xs → i ≤ length ps
+    → a ≡ (get_or ps i (pos 0, length xs)).1 → HasGap ps xs i a a
+HasGap-empty ps xs i a r law upto is =
+    let o = Places-from_law ps xs r law in
+    record {
+      order = omega arith;
+      within = rw is (bound_within ps (length xs) i o);
+      index = upto;
+      below = λ k e lt. rw is (bound_from ps (length xs) k i e o (omega arith) (omega arith));
+      above = λ k e from lt. rw is (bound_upto ps (length xs) i k e o from lt);
+      rise = o.rise;
+      inside = o.within;
+      parted = λ k e lt j d in' out. ((λ h. (law k e lt).before j d (omega arith) h), (λ h. (law k e lt).behind j d h in'));
+      blanks = λ j d l u. absurd (omega arith);
+    }
+
+-- a score between the pivots at the two ends of a piece
+pub RisesPast-between : (ps : List (ℤ × ℕ)) (v : ℤ) (i : ℕ) → IsRising ps → i ≤ length ps → (0 < i → (get_or ps (i - 1) (pos 0, 0)).0 ≤ℤ v)
+    → (i < length ps → v <ℤ (get_or ps i (pos 0, 0)).0) → RisesPast v ps i
+RisesPast-between ps v i r upto low high = record {
+  within = upto;
+  upto = λ k e l lt.
+      let up : (get_or ps k e).0 ≤ℤ (get_or ps (i - 1) e).0 = IsRising-le ps k (i - 1) e r (omega arith) (omega arith) in
+      let same : get_or ps (i - 1) e ≡ get_or ps (i - 1) (pos 0, 0) = get_or_default ps (i - 1) e (pos 0, 0) (omega arith) in
+      let s : (get_or ps (i - 1) e).0 ≡ (get_or ps (i - 1) (pos 0, 0)).0 = ap (λ (q : ℤ × ℕ). q.0) same in
+      let at : (get_or ps (i - 1) (pos 0, 0)).0 ≤ℤ v = low (omega arith) in
+      grind (arith, ints);
+  above = λ k e from lt.
+      let up : (get_or ps i e).0 ≤ℤ (get_or ps k e).0 = IsRising-le ps i k e r from lt in
+      let same : get_or ps i e ≡ get_or ps i (pos 0, 0) = get_or_default ps i e (pos 0, 0) (omega arith) in
+      let s : (get_or ps i e).0 ≡ (get_or ps i (pos 0, 0)).0 = ap (λ (q : ℤ × ℕ). q.0) same in
+      let at : v <ℤ (get_or ps i (pos 0, 0)).0 = high (omega arith) in
+      grind (arith, ints);
+}
+
 -- another place changes no value
 pub values-set : (ps : List (ℤ × ℕ)) (i q : ℕ) (d : ℤ × ℕ) → i < length ps → map (λ p. p.0) (set ps i ((get_or ps i d).0, q)) ≡ map (λ p. p.0) ps
 values-set [] i q d h = absurd (omega arith)
@@ -348,11 +385,10 @@ HasGap-bottom ps xs ys i a by start len from x g =
     subst (λ (m : ℕ). HasGap ps ys i start m) same up
 
 -- the pivots above stand at the end of the piece or above it
-pub piece_end : (ps : List (ℤ × ℕ)) (xs : List (ℤ × List ℕ)) (i a b : ℕ) (e : ℤ × ℕ) → HasGap ps xs i a b → StandFrom ps i (get_or ps i e).1
-piece_end ps xs i a b e g k p from lt =
-    let r : (get_or ps i p).1 ≤ (get_or ps k p).1 = g.rise i k p from lt in
-    let s : (get_or ps i e).1 ≡ (get_or ps i p).1 = ap (λ (q : ℤ × ℕ). q.1) (get_or_default ps i e p (omega arith)) in
-    omega arith
+pub StandFrom-end : (ps : List (ℤ × ℕ)) (xs : List (ℤ × List ℕ)) (i a b : ℕ) → HasGap ps xs i a b → StandFrom ps i (get_or ps i (pos 0, length xs)).1
+StandFrom-end ps xs i a b g k p from lt =
+    let o : Places ps (length xs) = record { rise = g.rise; within = g.inside } in
+    bound_upto ps (length xs) i k p o from lt
 
 -- the gap goes over the last piece and is cut off
 pub HasGap-cut : (ps : List (ℤ × ℕ)) (xs ys zs : List (ℤ × List ℕ)) (i a b e : ℕ) → length ps ≤ i → e ≡ length xs → length ys ≡ length xs
@@ -365,10 +401,14 @@ HasGap-cut ps xs ys zs i a b e all end len x is g =
     let e_is : e ≡ length ys = omega arith in
     HasGap-end ps ys zs (a + (e - b)) is (subst (λ (m : ℕ). HasGap ps ys m (a + (e - b)) (length ys)) last (subst (λ (m : ℕ). HasGap ps ys i (a + (e - b)) m) e_is down))
 
+-- lists of the same values are as long
+pub length-values : (ps qs : List (ℤ × ℕ)) → values qs ≡ values ps → length qs ≡ length ps
+length-values ps qs same = sym (length-map qs (λ (p : ℤ × ℕ). p.0)) ∙ ap length same ∙ length-map ps (λ (p : ℤ × ℕ). p.0)
+
 -- where each pivot parts the rows, and has the value that it had, the pivot law holds again
 pub ObeysPivots-values : (ps qs : List (ℤ × ℕ)) (xs ys : List (ℤ × List ℕ)) → values qs ≡ values ps → ObeysPivots ps xs → AllParted qs ys → ObeysPivots qs ys
 ObeysPivots-values ps qs xs ys same law parted =
-    let long : length qs ≡ length ps = sym (length-map qs (λ (p : ℤ × ℕ). p.0)) ∙ ap length same ∙ length-map ps (λ (p : ℤ × ℕ). p.0) in
+    let long : length qs ≡ length ps = length-values ps qs same in
     record {
       parted = parted;
       rising = IsRising-same_values ps qs long

@@ -8,5 +8,7 @@ pub mod Windows
 pub mod Blanks
 pub mod Gaps
 pub mod Tails
+pub mod Taken
+pub mod Marking
 pub mod HeldRows
 pub mod Fours

@@ -1,6 +1,7 @@
 -- A gap of blank rows that a merge carries over the pieces of a column.
-use Rattle.std.specs.Prelude.{◌≡◌, ◌+◌, ◌-◌, ◌<◌, ◌≤◌, ◌<ℤ◌, ◌≤ℤ◌, ℕ, ℤ, pos, List, [], length, All, slice_index_or}
+use Rattle.std.specs.Prelude.{◌≡◌, ◌+◌, ◌-◌, ◌<◌, ◌≤◌, ◌<ℤ◌, ◌≤ℤ◌, ℕ, ℤ, pos, List, [], length, take, replicate, count_by, All, slice_index_or}
 use Rattle.std.specs.List.{AllWithin}
+use Rattle.crack_kernel.specs.Bags.{Test, IsSubBag}
 use Rattle.crack_kernel.specs.Parts.{IsBelow, IsFrom, IsParted}
 
 -- the row that fills a gap
@@ -42,3 +43,15 @@ StandFrom ps i place = (k : ℕ) (e : ℤ × ℕ) → i ≤ k → k < length ps 
 -- each pivot parts the rows
 abbrev pub AllParted : List (ℤ × ℕ) → List (ℤ × List ℕ) → Type 0
 AllParted ps rows = All (λ p. IsParted (IsBelow p.0) (IsFrom p.0) rows p.1) ps
+
+-- rows were taken out of a list from an index on, where the others may stand in another order; those before stand as they did
+pub record TakenFrom (from : ℕ) (old new : List (ℤ × List ℕ)) : Type 0 where
+  pub within : from ≤ length new
+  pub before : take from new ≡ take from old
+  pub less : IsSubBag new old
+
+-- rows that move between rows with so many blank ones and the two lists of pending rows leave the content: each test counts the same
+abbrev pub KeepsContentBeside : (blanks : ℕ) (rows insertions deletions : List (ℤ × List ℕ)) (blanks' : ℕ) (rows' insertions' deletions' : List (ℤ × List ℕ)) → Type 0
+KeepsContentBeside blanks rows insertions deletions blanks' rows' insertions' deletions' =
+    (p : Test) → count_by p rows' + count_by p deletions + count_by p insertions' + count_by p (replicate blanks blank)
+    ≡ count_by p rows + count_by p deletions' + count_by p insertions + count_by p (replicate blanks' blank)

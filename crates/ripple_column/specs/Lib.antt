@@ -4,3 +4,4 @@ pub mod Cuts
 pub mod Sound
 pub mod Answers
 pub mod Gaps
+pub mod Marks

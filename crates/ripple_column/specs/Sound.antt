@@ -3,6 +3,7 @@ use Rattle.std.specs.Prelude.{◌≤◌, ◌-◌, min, length, vec_len, vec_capa
 use Rattle.crack_kernel.specs.Bags.{IsSubBag}
 use Rattle.crack_kernel.specs.PivotList.{ObeysPivots}
 use Rattle.ripple_column.specs.Content.{ColumnState, IsScored}
+use Rattle.ripple_column.specs.Marks.{Covers}
 use Rattle.ripple_column.specs.declared.column.Column.TheInside.{Inside}
 
 -- the fields, and the room in the two lists of pending rows, which never grow past 2,048 rows
@@ -24,3 +25,8 @@ pub record IsSound (c : ColumnState) : Type 0 where
   pub scored_insertions : IsScored c.insertions
   pub few_insertions : length c.insertions ≤ 2048
   pub few_deletions : length c.deletions ≤ 2048
+
+-- the marks of each list of pending rows cover its scores
+pub record IsCovered {A : Type 0} (c : Inside A) : Type 0 where
+  pub insertions : Covers c.insertion_marks.marks.items c.insertions.items
+  pub deletions : Covers c.deletion_marks.marks.items c.deletions.items

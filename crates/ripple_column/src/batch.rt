@@ -1,8 +1,10 @@
-//! The merging of many rows at once, by one pass over the pieces.
+//! The merging of many rows at once, by passes over the pieces.
 //!
-//! The pass goes upwards with a gap of blank rows. What leaves a piece widens the gap, what comes
-//! into the piece fills it, and then the piece and the gap change places. The gap is opened as wide
-//! as the insertions run ahead of the deletions on the way.
+//! The rows that are to leave and to come are lined up by score. While no more come than have left,
+//! a pass goes up over the pieces with the gap that was left. Where more come than have left, the
+//! rows that leave above make room: a pass goes down from the piece where they are as many, or from
+//! the end of the column, and then the next one goes on upwards from there. So each pivot moves
+//! once, by as many places as it has to.
 
 ghost use Rattle.std.specs.Prelude.{◌≡◌, ◌+◌, ◌-◌, ◌≤◌, ◌&&◌, not, true, false, length, take, count_by, IsPermutation, vec_len, vec_capacity};
 ghost use Rattle.std.specs.List.{AllWithin};
@@ -10,10 +12,12 @@ ghost use Rattle.crack_kernel.specs.Bags.{Test, IsSubBag};
 ghost use Rattle.crack_kernel.specs.PivotList.{ObeysPivots};
 ghost use Rattle.ripple_column.specs.Content.{has_score_in, KeepsContent, SameOutside};
 ghost use Rattle.ripple_column.specs.Cuts.{values};
+ghost use Rattle.ripple_column.specs.Gaps.{TakenFrom};
 
 use crate::filter::ScoreFilter;
-use crate::gap::{close_gap, fill_gap, lift_gap, open_gap, take_out};
+use crate::gap::Direction;
 use crate::merge::{count_within, is_within};
+use crate::passes::{Pass, run_pass};
 use crack_kernel::{Pivots, Row};
 use score_bounds::Range;
 use std::alloc::Allocator;
@@ -66,6 +70,25 @@ fn sort_tail<A: Allocator>(list: &mut Vec<Row<A>, A>, from: usize)
     sort_from(list, from);
 }
 
+/// Turns the order of the rows from the index `from` on round.
+fn turn_from<A: Allocator>(rows: &mut [Row<A>], from: usize)
+    requires { from ≤ length rows.old }
+    ensures rows { IsPermutation rows.old rows.new }
+    ensures before { take from rows.new ≡ take from rows.old }
+{
+    rows[from..].reverse();
+}
+
+/// Turns the order of the rows of a list from the index `from` on round.
+fn turn_tail<A: Allocator>(list: &mut Vec<Row<A>, A>, from: usize)
+    requires { from ≤ length list.old.items }
+    ensures rows { IsPermutation list.old.items list.new.items }
+    ensures before { take from list.new.items ≡ take from list.old.items }
+    ensures capacity { vec_capacity list.new ≡ vec_capacity list.old }
+{
+    turn_from(list, from);
+}
+
 /// Puts the rows with scores in the range last, by falling scores, and answers how many others
 /// there are.
 fn line_up<A: Allocator>(list: &mut Vec<Row<A>, A>, range: &Range) -> usize
@@ -96,35 +119,47 @@ fn tail_below<A: Allocator>(list: &[Row<A>], from: usize, to: usize, v: i64) -> 
     i
 }
 
-/// How many insertions wait more than deletions, below some pivot or in all: the gap that a pass
-/// from the piece of the index `first` on needs. Only that it is no wider than all insertions is
-/// promised; what finds no place waits on.
-fn width_of_gap<A: Allocator>(
+/// Where, from the piece of the index `first` on, no more rows are to come than to leave: the index
+/// of that piece or of the last one, and the pass that goes down from there with blank rows from
+/// above. It is to take all insertions below that piece, and as many deletions.
+fn next_surplus<A: Allocator>(
     pivots: &[(i64, usize)],
     first: usize,
     deletions: &[Row<A>],
-    deletions_from: usize,
     insertions: &[Row<A>],
-    insertions_from: usize,
-) -> usize
-    requires deletions { deletions_from ≤ length deletions.now }
-    requires insertions { insertions_from ≤ length insertions.now }
-    ensures { result ≤ length insertions.now - insertions_from }
+    up: Pass,
+) -> (usize, Pass)
+    requires first { first ≤ length pivots.now }
+    requires deletions { up.deletions ≤ length deletions.now }
+    requires insertions { up.insertions ≤ length insertions.now }
+    ensures top { result.0 ≤ length pivots.now }
+    ensures deletions_low { up.deletions ≤ result.1.deletions }
+    ensures deletions_high { result.1.deletions ≤ length deletions.now }
+    ensures insertions_low { up.insertions ≤ result.1.insertions }
+    ensures insertions_high { result.1.insertions ≤ length insertions.now }
 {
     let mut leaving = deletions.len();
     let mut arriving = insertions.len();
-    let mut width = 0usize;
-    let mut i = first;
-    while i < pivots.len() && (leaving > deletions_from || arriving > insertions_from) {
-        let v = pivots[i].0;
-        leaving = tail_below(deletions, deletions_from, leaving, v);
-        arriving = tail_below(insertions, insertions_from, arriving, v);
-        let more = (insertions.len() - arriving).saturating_sub(deletions.len() - leaving);
-        width = width.max(more);
-        i += 1;
+    for top in first..pivots.len() {
+        let v = pivots[top].0;
+        let below = arriving;
+        leaving = tail_below(deletions, up.deletions, leaving, v);
+        arriving = tail_below(insertions, up.insertions, arriving, v);
+        if deletions.len() - leaving >= insertions.len() - arriving {
+            let down = Pass {
+                direction: Direction::Down,
+                deletions: deletions.len() - (insertions.len() - below),
+                insertions: below,
+            };
+            return (top, down);
+        }
     }
-    let all = insertions.len() - insertions_from;
-    width.max(all.saturating_sub(deletions.len() - deletions_from))
+    let down = Pass {
+        direction: Direction::Down,
+        deletions: up.deletions,
+        insertions: up.insertions,
+    };
+    (pivots.len(), down)
 }
 
 /// The index of the piece of the lowest of the last rows of two lists.
@@ -171,10 +206,8 @@ fn merge_tails<A: Allocator + Copy>(
     ensures law { ObeysPivots pivots.new.list rows.new.items }
     ensures content { KeepsContent rows.old.items insertions.old.items deletions.old.items rows.new.items
         insertions.new.items deletions.new.items }
-    ensures less_deletions { IsSubBag deletions.new.items deletions.old.items }
-    ensures less_insertions { IsSubBag insertions.new.items insertions.old.items }
-    ensures before_deletions { take deletions_from deletions.new.items ≡ take deletions_from deletions.old.items }
-    ensures before_insertions { take insertions_from insertions.new.items ≡ take insertions_from insertions.old.items }
+    ensures deletions { TakenFrom deletions_from deletions.old.items deletions.new.items }
+    ensures insertions { TakenFrom insertions_from insertions.old.items insertions.new.items }
 
     ensures values { values pivots.new.list ≡ values pivots.old.list }
     ensures spare { pivots.new.spare ≡ pivots.old.spare }
@@ -183,37 +216,27 @@ fn merge_tails<A: Allocator + Copy>(
     ensures capacity_insertions { vec_capacity insertions.new ≡ vec_capacity insertions.old }
 {
     let filter = filter_of(&deletions[deletions_from..]);
-    let mut i = lowest_piece(pivots, deletions, insertions);
-    let width = width_of_gap(
-        pivots.list(),
-        i,
-        deletions,
-        deletions_from,
-        insertions,
-        insertions_from,
-    );
-    let mut low = open_gap(rows, pivots, i, width);
-    let mut high = low + width;
-    while i < pivots.len() {
-        if low == high && deletions.len() == deletions_from && insertions.len() == insertions_from {
-            return;
+    let up = Pass {
+        direction: Direction::Up,
+        deletions: deletions_from,
+        insertions: insertions_from,
+    };
+    let mut piece = lowest_piece(pivots, deletions, insertions);
+    // Each turn ends at a higher piece than the one before.
+    for _turn in 0..pivots.len() + 1 {
+        piece = run_pass(rows, pivots, piece, deletions, insertions, up, &filter);
+        if insertions.len() == insertions_from {
+            break;
         }
-        let (v, end) = pivots.list()[i];
-        let from = tail_below(deletions, deletions_from, deletions.len(), v);
-        high = take_out(rows, high, end, deletions, from, &filter);
-        low = fill_gap(rows, pivots, i, low, high, insertions, insertions_from);
-        let wide = high - low;
-        low = lift_gap(rows, pivots, i, low, high);
-        high = low + wide;
-        i += 1;
+        let (top, down) = next_surplus(pivots.list(), piece, deletions, insertions, up);
+        turn_tail(deletions, down.deletions);
+        turn_tail(insertions, down.insertions);
+        run_pass(rows, pivots, top, deletions, insertions, down, &filter);
+        piece = top;
     }
-    let end = rows.len();
-    high = take_out(rows, high, end, deletions, deletions_from, &filter);
-    low = fill_gap(rows, pivots, i, low, high, insertions, insertions_from);
-    close_gap(rows, low, high);
 }
 
-/// Merges rows that wait and have scores in the range by one pass over the pieces, where many wait
+/// Merges rows that wait and have scores in the range by passes over the pieces, where many wait
 /// there. What it leaves is for the ripple moves.
 pub fn merge_many<A: Allocator + Copy>(
     rows: &mut Vec<Row<A>, A>,

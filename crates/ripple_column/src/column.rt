@@ -8,6 +8,7 @@ ghost use Rattle.ripple_column.specs.Content.{HasRow, IsUnchanged, NoneIn, Pends
 ghost use Rattle.ripple_column.specs.Cuts.{is_before, values};
 
 use crate::cuts::is_before;
+use crate::marks::ScoreMarks;
 use crate::merge::merge_all;
 use crate::pending::{pend, reserve_write};
 use crate::select::{select_between, settled_places};
@@ -25,7 +26,9 @@ pub struct Column<A: Allocator> {
     rows: Vec<Row<A>, A>,
     pivots: Pivots<A>,
     insertions: Vec<Row<A>, A>,
+    insertion_marks: ScoreMarks<A>,
     deletions: Vec<Row<A>, A>,
+    deletion_marks: ScoreMarks<A>,
 }
 
 impl<A: Allocator> Model for Column<A> {
@@ -33,11 +36,11 @@ impl<A: Allocator> Model for Column<A> {
 
     ghost Value = { ColumnState };
 
-    ghost use Rattle.ripple_column.specs.Sound.{state, IsSound};
+    ghost use Rattle.ripple_column.specs.Sound.{state, IsSound, IsCovered};
 
     ghost view = { state };
 
-    ghost invariant = { λ c. IsSound (state c) };
+    ghost invariant = { λ c. IsSound (state c) × IsCovered c };
 }
 
 impl<A: Allocator + Copy> Column<A> {
@@ -52,7 +55,9 @@ impl<A: Allocator + Copy> Column<A> {
             rows: Vec::new(alloc),
             pivots: Pivots::new(alloc),
             insertions: Vec::new(alloc),
+            insertion_marks: ScoreMarks::new(alloc),
             deletions: Vec::new(alloc),
+            deletion_marks: ScoreMarks::new(alloc),
         }
     }
 
@@ -104,7 +109,9 @@ impl<A: Allocator + Copy> Column<A> {
             &mut self.rows,
             &mut self.pivots,
             &mut self.deletions,
+            &mut self.deletion_marks,
             &mut self.insertions,
+            &mut self.insertion_marks,
             n,
         )
     }
@@ -120,7 +127,13 @@ impl<A: Allocator + Copy> Column<A> {
         ensures spare { self.old.insert_spare ≤ self.new.insert_spare + 1 }
         ensures spare_deletions { self.old.delete_spare ≤ self.new.delete_spare }
     {
-        pend(&mut self.insertions, &mut self.deletions, row);
+        pend(
+            &mut self.insertions,
+            &mut self.insertion_marks,
+            &mut self.deletions,
+            &self.deletion_marks,
+            row,
+        );
     }
 
     /// Takes `row` out of the content: it waits as a deletion, or withdraws an insertion of it
@@ -135,7 +148,13 @@ impl<A: Allocator + Copy> Column<A> {
         ensures spare { self.old.delete_spare ≤ self.new.delete_spare + 1 }
         ensures spare_insertions { self.old.insert_spare ≤ self.new.insert_spare }
     {
-        pend(&mut self.deletions, &mut self.insertions, row);
+        pend(
+            &mut self.deletions,
+            &mut self.deletion_marks,
+            &mut self.insertions,
+            &self.insertion_marks,
+            row,
+        );
     }
 
     /// Merges all that waits. Refused, it leaves the column as it was.

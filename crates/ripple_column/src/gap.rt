@@ -4,17 +4,32 @@
 //! and the order of rows in a piece is free, the gap and a piece change places by as few swaps as
 //! the shorter of the two has rows.
 
-ghost use Rattle.std.specs.Prelude.{◌≡◌, ◌+◌, ◌-◌, ◌*◌, ◌<◌, ◌≤◌, ◌++◌, ℕ, ℤ, pos, List, length, take, replicate, count_by, slice_index_or, IfSome, IsPermutation, vec_len, vec_capacity};
+ghost use Rattle.std.specs.Prelude.{◌≡◌, ◌+◌, ◌-◌, ◌*◌, ◌<◌, ◌≤◌, ◌<ℤ◌, ◌≤ℤ◌, ◌++◌, ℕ, ℤ, pos, List, length, take, replicate, count_by, slice_index_or, IfSome, IsTrue, IsPermutation, vec_len, vec_capacity};
 ghost use Rattle.std.specs.List.{AllWithin, HoldsAt};
-ghost use Rattle.crack_kernel.specs.Bags.{Test, IsSubBag};
-ghost use Rattle.crack_kernel.specs.PivotList.{ObeysPivots};
+ghost use Rattle.crack_kernel.specs.Bags.{Test};
+ghost use Rattle.crack_kernel.specs.PivotList.{ObeysPivots, RisesPast};
 ghost use Rattle.ripple_column.specs.Cuts.{values};
-ghost use Rattle.ripple_column.specs.Gaps.{AllParted, ChangedPlaces, HasGap, StandFrom, blank};
+ghost use Rattle.ripple_column.specs.Gaps.{AllParted, ChangedPlaces, HasGap, StandFrom, TakenFrom, blank};
 
 use crate::filter::ScoreFilter;
-use crate::ripple::start_below;
+use crate::ripple::{place_or, start_below};
 use crack_kernel::{Pivots, Row};
 use std::alloc::Allocator;
+
+/// A gap of blank rows: from the place `low` on and before the place `high`.
+#[derive(Clone, Copy)]
+pub struct Gap {
+    pub low: usize,
+    pub high: usize,
+}
+
+/// Which way a gap goes over the pieces. Rows that wait are taken from the ends of their lists:
+/// where the gap goes up, scores fall there, and where it goes down, they rise.
+#[derive(Clone, Copy)]
+pub enum Direction {
+    Up,
+    Down,
+}
 
 /// The row that fills a gap. It takes no memory.
 fn blank_row<A: Allocator>(alloc: A) -> Row<A>
@@ -55,36 +70,52 @@ fn change_places<A: Allocator>(rows: &mut Vec<Row<A>, A>, low: usize, mid: usize
     }
 }
 
-/// Opens a gap of `width` blank rows below the pieces from the index `first` on, and answers where
-/// it begins.
+/// Opens a gap above the piece of the index `top`: `width` blank rows wide behind the last piece, and
+/// empty elsewhere.
 pub fn open_gap<A: Allocator + Copy>(
     rows: &mut Vec<Row<A>, A>,
-    pivots: &mut Pivots<A>,
-    first: usize,
+    pivots: &Pivots<A>,
+    top: usize,
     width: usize,
-) -> usize
-    requires law { ObeysPivots pivots.old.list rows.old.items }
-    requires first { first ≤ length pivots.old.list }
+) -> Gap
+    requires law { ObeysPivots pivots.now.list rows.old.items }
+    requires top { top ≤ length pivots.now.list }
     requires room { vec_len rows.old + width ≤ vec_capacity rows.old }
-    ensures gap { HasGap pivots.new.list rows.new.items first result (result + width) }
-    ensures rows { IsPermutation (rows.old.items ++ replicate width blank) rows.new.items }
-    ensures values { values pivots.new.list ≡ values pivots.old.list }
-    ensures spare { pivots.new.spare ≡ pivots.old.spare }
+    ensures gap { HasGap pivots.now.list rows.new.items top result.low result.high }
+    ensures rows { rows.new.items ≡ rows.old.items ++ replicate (result.high - result.low) blank }
     ensures capacity { vec_capacity rows.new ≡ vec_capacity rows.old }
 {
-    let mut low = rows.len();
-    push_blanks(rows, width);
-    let mut i = pivots.len();
-    while i > first {
-        i -= 1;
-        let place = pivots.list()[i].1;
-        change_places(rows, place, low, low + width);
-        pivots.set_place(i, place + width);
-        low = place;
+    let low = place_or(pivots.list(), top, rows.len());
+    if top < pivots.len() {
+        return Gap { low, high: low };
     }
-    let start = start_below(pivots.list(), first);
-    change_places(rows, start, low, low + width);
-    start
+    push_blanks(rows, width);
+    Gap {
+        low,
+        high: low + width,
+    }
+}
+
+/// Carries the gap down to the start of its piece, which has the index `i`.
+pub fn sink_gap<A: Allocator>(
+    rows: &mut Vec<Row<A>, A>,
+    pivots: &Pivots<A>,
+    i: usize,
+    gap: Gap,
+) -> Gap
+    requires gap { HasGap pivots.now.list rows.old.items i gap.low gap.high }
+    ensures gap { HasGap pivots.now.list rows.new.items i result.low result.high }
+    ensures start { 0 < i → (slice_index_or pivots.now.list (i - 1) (pos 0, 0)).1 ≡ result.low }
+    ensures width { result.high - result.low ≡ gap.high - gap.low }
+    ensures rows { IsPermutation rows.old.items rows.new.items }
+    ensures capacity { vec_capacity rows.new ≡ vec_capacity rows.old }
+{
+    let start = start_below(pivots.list(), i);
+    change_places(rows, start, gap.low, gap.high);
+    Gap {
+        low: start,
+        high: start + (gap.high - gap.low),
+    }
 }
 
 /// Carries the gap over the piece above it, which ends at the pivot of the index `i`, and answers
@@ -126,9 +157,46 @@ pub fn close_gap<A: Allocator>(rows: &mut Vec<Row<A>, A>, low: usize, high: usiz
     rows.truncate(low + (end - high));
 }
 
-/// Where a row like `row` stands in the list from the index `from` on, where scores fall. How it
-/// looks is left open.
-fn find_falling<A: Allocator>(list: &[Row<A>], from: usize, row: &Row<A>) -> Option<usize>
+/// Whether the score `v` is not below the pivot at the start of the piece of the index `i`, if it
+/// has one.
+fn is_from_start(pivots: &[(i64, usize)], i: usize, v: i64) -> bool
+    requires { i ≤ length pivots.now }
+    ensures { IsTrue result → 0 < i → (slice_index_or pivots.now (i - 1) (pos 0, 0)).0 ≤ℤ v }
+{
+    if i == 0 { true } else { pivots[i - 1].0 <= v }
+}
+
+/// Whether the score `v` is below the pivot at the end of the piece of the index `i`, if it has
+/// one.
+fn is_below_end(pivots: &[(i64, usize)], i: usize, v: i64) -> bool
+    ensures { IsTrue result → i < length pivots.now → v <ℤ (slice_index_or pivots.now i (pos 0, 0)).0 }
+{
+    if i < pivots.len() {
+        v < pivots[i].0
+    } else {
+        true
+    }
+}
+
+/// Whether rows of the score `v` stand in the piece of the index `i`.
+pub fn is_in_piece<A: Allocator>(pivots: &Pivots<A>, i: usize, v: i64) -> bool
+    requires { i ≤ length pivots.now.list }
+    ensures { IsTrue result → RisesPast v pivots.now.list i }
+{
+    let list = pivots.list();
+    let from_start = is_from_start(list, i, v);
+    let below_end = is_below_end(list, i, v);
+    from_start && below_end
+}
+
+/// Where a row like `row` stands in the list from the index `from` on, where scores fall or rise.
+/// How it looks is left open.
+fn find_waiting<A: Allocator>(
+    list: &[Row<A>],
+    from: usize,
+    direction: Direction,
+    row: &Row<A>,
+) -> Option<usize>
     requires { from ≤ length list.now }
     ensures low { IfSome result (λ i. from ≤ i) }
     ensures within { IfSome result (λ i. i < length list.now) }
@@ -136,8 +204,11 @@ fn find_falling<A: Allocator>(list: &[Row<A>], from: usize, row: &Row<A>) -> Opt
 {
     let score = row.score();
     let tail = &list[from..];
-    let first = from + tail.partition_point(|waiting| waiting.score() > score);
-    for i in first..list.len() {
+    let before = match direction {
+        Direction::Up => tail.partition_point(|waiting| waiting.score() > score),
+        Direction::Down => tail.partition_point(|waiting| waiting.score() < score),
+    };
+    for i in from + before..list.len() {
         let waiting = &list[i];
         if waiting.score() != score {
             return None;
@@ -178,6 +249,7 @@ fn take_out_at<A: Allocator + Copy>(
     at: usize,
     deletions: &mut Vec<Row<A>, A>,
     from: usize,
+    direction: Direction,
 ) -> usize
     requires above { high ≤ at }
     requires within { at < length rows.old.items }
@@ -188,14 +260,12 @@ fn take_out_at<A: Allocator + Copy>(
     ensures high { result ≤ at + 1 }
     ensures content { (p : Test) → count_by p rows.new.items + count_by p deletions.old.items ≡ count_by p rows.old.items
         + count_by p deletions.new.items + count_by p (replicate (result - high) blank) }
-    ensures before { take from deletions.new.items ≡ take from deletions.old.items }
-    ensures from { from ≤ length deletions.new.items }
-    ensures less { IsSubBag deletions.new.items deletions.old.items }
+    ensures taken { TakenFrom from deletions.old.items deletions.new.items }
     ensures len { length rows.new.items ≡ length rows.old.items }
     ensures capacity { vec_capacity rows.new ≡ vec_capacity rows.old }
     ensures capacity_deletions { vec_capacity deletions.new ≡ vec_capacity deletions.old }
 {
-    match find_falling(deletions, from, &rows[at]) {
+    match find_waiting(deletions, from, direction, &rows[at]) {
         Some(found) => {
             let _gone = deletions.remove(found);
             rows[at] = blank_row(*rows.allocator());
@@ -216,6 +286,7 @@ pub fn take_out<A: Allocator + Copy>(
     end: usize,
     deletions: &mut Vec<Row<A>, A>,
     from: usize,
+    direction: Direction,
     filter: &ScoreFilter,
 ) -> usize
     requires above { high ≤ end }
@@ -227,9 +298,7 @@ pub fn take_out<A: Allocator + Copy>(
     ensures high { result ≤ end }
     ensures content { (p : Test) → count_by p rows.new.items + count_by p deletions.old.items ≡ count_by p rows.old.items
         + count_by p deletions.new.items + count_by p (replicate (result - high) blank) }
-    ensures before { take from deletions.new.items ≡ take from deletions.old.items }
-    ensures from { from ≤ length deletions.new.items }
-    ensures less { IsSubBag deletions.new.items deletions.old.items }
+    ensures taken { TakenFrom from deletions.old.items deletions.new.items }
     ensures len { length rows.new.items ≡ length rows.old.items }
     ensures capacity { vec_capacity rows.new ≡ vec_capacity rows.old }
     ensures capacity_deletions { vec_capacity deletions.new ≡ vec_capacity deletions.old }
@@ -240,7 +309,7 @@ pub fn take_out<A: Allocator + Copy>(
     let mut top = high;
     let mut at = next_within(rows, high, end, filter);
     while at < end && deletions.len() > from {
-        top = take_out_at(rows, top, at, deletions, from);
+        top = take_out_at(rows, top, at, deletions, from, direction);
         at = next_within(rows, at + 1, end, filter);
     }
     top
@@ -264,9 +333,7 @@ pub fn fill_gap<A: Allocator>(
     ensures low { low ≤ result }
     ensures content { (p : Test) → count_by p rows.new.items + count_by p insertions.new.items
         + count_by p (replicate (result - low) blank) ≡ count_by p rows.old.items + count_by p insertions.old.items }
-    ensures before { take from insertions.new.items ≡ take from insertions.old.items }
-    ensures from { from ≤ length insertions.new.items }
-    ensures less { IsSubBag insertions.new.items insertions.old.items }
+    ensures taken { TakenFrom from insertions.old.items insertions.new.items }
     ensures len { length rows.new.items ≡ length rows.old.items }
     ensures capacity { vec_capacity rows.new ≡ vec_capacity rows.old }
     ensures capacity_insertions { vec_capacity insertions.new ≡ vec_capacity insertions.old }
@@ -274,8 +341,7 @@ pub fn fill_gap<A: Allocator>(
     let mut bottom = low;
     while bottom < high && insertions.len() > from {
         let next = &insertions[insertions.len() - 1];
-        let piece = pivots.count_upto(next.score());
-        if piece != i {
+        if !is_in_piece(pivots, i, next.score()) {
             break;
         }
         match insertions.pop() {

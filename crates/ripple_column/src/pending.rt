@@ -7,7 +7,9 @@ ghost use Rattle.crack_kernel.specs.Bags.{IsSubBag};
 ghost use Rattle.crack_kernel.specs.PivotList.{ObeysPivots};
 ghost use Rattle.ripple_column.specs.Content.{KeepsContent, Pends};
 ghost use Rattle.ripple_column.specs.Cuts.{values};
+ghost use Rattle.ripple_column.specs.Marks.{Covers};
 
+use crate::marks::{ScoreMarks, renew};
 use crate::merge::merge_all;
 use crack_kernel::{Pivots, Row};
 use std::alloc::{AllocError, Allocator};
@@ -67,10 +69,34 @@ pub fn position_of<A: Allocator>(rows: &[Row<A>], row: &Row<A>) -> Option<usize>
     None
 }
 
+/// The index at which `row` stands in a list of which the scores are marked, if it is there.
+fn find_marked<A: Allocator>(rows: &[Row<A>], marks: &ScoreMarks<A>, row: &Row<A>) -> Option<usize>
+    requires { Covers marks.now.marks.items rows.now }
+    ensures found { MatchOption result (¬ Contains rows.now row.now) (λ i. HoldsAt (λ r. r
+        ≡ row.now) rows.now i × (i < length rows.now)) }
+    ensures score { row.now.0 ≤ℤ greatest }
+{
+    if marks.may_have(row.score()) {
+        position_of(rows, row)
+    } else {
+        None
+    }
+}
+
 /// Puts `row` into a list of rows that wait, unless it waits in the other list, whose effect it
 /// would undo: then it is withdrawn there.
-pub fn pend<A: Allocator>(list: &mut Vec<Row<A>, A>, other: &mut Vec<Row<A>, A>, row: Row<A>)
+pub fn pend<A: Allocator>(
+    list: &mut Vec<Row<A>, A>,
+    marks: &mut ScoreMarks<A>,
+    other: &mut Vec<Row<A>, A>,
+    other_marks: &ScoreMarks<A>,
+    row: Row<A>,
+)
     requires room { vec_len list.old < vec_capacity list.old }
+    requires covers { Covers marks.old.marks.items list.old.items }
+    requires covers_other { Covers other_marks.now.marks.items other.old.items }
+    ensures covers { Covers marks.new.marks.items list.new.items }
+    ensures covers_other { Covers other_marks.now.marks.items other.new.items }
     ensures pends { Pends row list.old.items list.new.items other.old.items other.new.items }
     ensures score { row.0 ≤ℤ greatest }
     ensures len { vec_len list.new ≤ vec_len list.old + 1 }
@@ -78,11 +104,14 @@ pub fn pend<A: Allocator>(list: &mut Vec<Row<A>, A>, other: &mut Vec<Row<A>, A>,
     ensures capacity { vec_capacity list.new ≡ vec_capacity list.old }
     ensures capacity_other { vec_capacity other.new ≡ vec_capacity other.old }
 {
-    match position_of(other, &row) {
+    match find_marked(other, other_marks, &row) {
         Some(i) => {
             let _withdrawn = other.swap_remove(i);
         }
-        None => list.push_reserved(row),
+        None => {
+            marks.mark(&row);
+            list.push_reserved(row);
+        }
     }
 }
 
@@ -92,12 +121,16 @@ pub fn reserve_write<A: Allocator + Copy>(
     rows: &mut Vec<Row<A>, A>,
     pivots: &mut Pivots<A>,
     deletions: &mut Vec<Row<A>, A>,
+    deletion_marks: &mut ScoreMarks<A>,
     insertions: &mut Vec<Row<A>, A>,
+    insertion_marks: &mut ScoreMarks<A>,
     n: usize,
 ) -> Result<(), AllocError>
     requires n { n ≤ 1027 }
     requires law { ObeysPivots pivots.old.list rows.old.items }
     requires part { IsSubBag deletions.old.items rows.old.items }
+    requires covers_deletions { Covers deletion_marks.old.marks.items deletions.old.items }
+    requires covers_insertions { Covers insertion_marks.old.marks.items insertions.old.items }
     requires few_deletions { length deletions.old.items ≤ 2048 }
     requires few_insertions { length insertions.old.items ≤ 2048 }
     ensures law { ObeysPivots pivots.new.list rows.new.items }
@@ -107,6 +140,8 @@ pub fn reserve_write<A: Allocator + Copy>(
     ensures less_deletions { IsSubBag deletions.new.items deletions.old.items }
     ensures less_insertions { IsSubBag insertions.new.items insertions.old.items }
     ensures values { values pivots.new.list ≡ values pivots.old.list }
+    ensures covers_deletions { Covers deletion_marks.new.marks.items deletions.new.items }
+    ensures covers_insertions { Covers insertion_marks.new.marks.items insertions.new.items }
     ensures room_deletions { OnOk result (vec_len deletions.new + n ≤ min (vec_capacity deletions.new) 2048) }
     ensures room_insertions { OnOk result (vec_len insertions.new + n ≤ min (vec_capacity insertions.new) 2048) }
 
@@ -127,6 +162,8 @@ pub fn reserve_write<A: Allocator + Copy>(
     if deletions.len().max(insertions.len()) + n > MAX_PENDING {
         merge_all(rows, pivots, deletions, insertions)?;
     }
+    renew(insertions, insertion_marks)?;
+    renew(deletions, deletion_marks)?;
     insertions.reserve(n)?;
     deletions.reserve(n)
 }

@@ -92,7 +92,7 @@ fn place_between<A: Allocator>(rows: &[Row<A>], from: usize, to: usize, row: &Ro
 }
 
 /// The place of the pivot of index `i`, or `end` where there is none.
-fn place_or(list: &[(i64, usize)], i: usize, end: usize) -> usize
+pub fn place_or(list: &[(i64, usize)], i: usize, end: usize) -> usize
     ensures { result ≡ (slice_index_or list.now i (pos 0, end)).1 }
 {
     if i < list.len() { list[i].1 } else { end }

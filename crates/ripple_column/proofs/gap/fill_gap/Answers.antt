@@ -29,8 +29,7 @@ loop-bottom-preserved g c =
     c.index-next.ensures ∙ ap (λ (m : ℕ). get_or old (m - 1) c.index-next.result.now) len ∙ sym last in
     let past : RisesPast row.0 ps c.args.i =
     let score : c.index-next.result.now.0 ≡ row.0 = ap (λ (r : ℤ × List ℕ). r.0) next in
-    let piece : c.count_upto-piece.result ≡ c.args.i = omega arith in
-    rw (← piece) (RisesPast-same _ _ ps _ (omega (arith, ints, score)) c.count_upto-piece.ensures) in
+    RisesPast-same _ _ ps _ (omega (arith, ints, score)) (c.is_in_piece.ensures c.if-not-is_in_piece.false) in
     let is_blank : get_or xs at blank ≡ blank = v.gap.blanks at blank (omega arith) c.loop-bottom-test.true in
     record {
       low = omega (arith, v.low);
@@ -41,9 +40,11 @@ loop-bottom-preserved g c =
           let gone = count_pushed p old new row out in
           let more = blanks_more p (at - c.args.low) (at + 1 - c.args.low) (omega (arith, v.low)) in
           omega (arith, put, gone, more, v.content p);
-      before = sym (ap (take c.args.from) out ∙ take-append-le c.args.from new (row ∷ []) (omega arith)) ∙ v.before;
-      from = omega arith;
-      less = λ p. let gone = count_pushed p old new row out in omega (arith, gone, v.less p);
+      taken = record {
+        within = omega arith;
+        before = sym (ap (take c.args.from) out ∙ take-append-le c.args.from new (row ∷ []) (omega arith)) ∙ v.taken.before;
+        less = λ p. let gone = count_pushed p old new row out in omega (arith, gone, v.taken.less p);
+      };
       len = length-set xs at row ∙ v.len;
       capacity = v.capacity;
       capacity_insertions = c.in-Some.ensures.capacity ∙ v.capacity_insertions;

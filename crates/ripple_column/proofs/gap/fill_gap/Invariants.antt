@@ -1,6 +1,6 @@
-use Rattle.std.proofs.Common.{◌≡◌, ◌≤◌, ◌+◌, ◌-◌, length, take, replicate, count_by, vec_capacity}
-use Rattle.crack_kernel.specs.Bags.{Test, IsSubBag}
-use Rattle.ripple_column.specs.Gaps.{blank, HasGap}
+use Rattle.std.proofs.Common.{◌≡◌, ◌≤◌, ◌+◌, ◌-◌, length, replicate, count_by, vec_capacity}
+use Rattle.crack_kernel.specs.Bags.{Test}
+use Rattle.ripple_column.specs.Gaps.{blank, HasGap, TakenFrom}
 use Rattle.ripple_column.proofs.gap.fill_gap.Given as goal
 
 abbrev pub invariant-loop-bottom : goal.invariant-loop-bottom
@@ -8,9 +8,7 @@ invariant-loop-bottom g l = record {
   low : l.low ≤ l.bottom;
   gap : HasGap l.pivots.list l.rows.items l.i l.bottom l.high;
   content : (p : Test) → count_by p l.rows.items + count_by p l.insertions.items + count_by p (replicate (l.bottom - l.low) blank) ≡ count_by p l.fn.rows.items + count_by p l.fn.insertions.items;
-  before : take l.from l.insertions.items ≡ take l.from l.fn.insertions.items;
-  from : l.from ≤ length l.insertions.items;
-  less : IsSubBag l.insertions.items l.fn.insertions.items;
+  taken : TakenFrom l.from l.fn.insertions.items l.insertions.items;
   len : length l.rows.items ≡ length l.fn.rows.items;
   capacity : vec_capacity l.rows ≡ vec_capacity l.fn.rows;
   capacity_insertions : vec_capacity l.insertions ≡ vec_capacity l.fn.insertions;

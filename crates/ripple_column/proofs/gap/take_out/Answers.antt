@@ -1,6 +1,6 @@
-use Rattle.std.proofs.Common.{◌≡◌, ◌+◌, ◌-◌, ◌<◌, ◌≤◌, ℕ, ℤ, length, get_or, take, ◌∙◌, arith}
-use Rattle.ripple_column.specs.Gaps.{HasGap, StandFrom}
+use Rattle.std.proofs.Common.{◌-◌, ◌≤◌, get_or, ◌∙◌, arith}
 use Rattle.ripple_column.proofs.Blanks.{blanks_split}
+use Rattle.ripple_column.proofs.Taken.{TakenFrom-more}
 use Rattle.ripple_column.proofs.gap.take_out.Goals as goal
 
 pub loop-at-preserved : goal.loop-at-preserved
@@ -17,9 +17,7 @@ loop-at-preserved g c =
       content = λ p.
           let more = blanks_split p (c.loop-at.top - c.args.high) (c.take_out_at-top.result - c.loop-at.top) (c.take_out_at-top.result - c.args.high) (omega (arith, v.low, s.low)) in
           omega (arith, more, s.content p, v.content p);
-      before = s.before ∙ v.before;
-      from = s.from;
-      less = λ p. omega (arith, s.less p, v.less p);
+      taken = TakenFrom-more _ _ _ _ v.taken s.taken;
       len = s.len ∙ v.len;
       capacity = s.capacity ∙ v.capacity;
       capacity_deletions = s.capacity_deletions ∙ v.capacity_deletions;

@@ -1,6 +1,6 @@
-use Rattle.std.proofs.Common.{◌≡◌, ◌≤◌, ◌+◌, ◌-◌, ℕ, ℤ, List, length, take, replicate, count_by, vec_capacity}
-use Rattle.crack_kernel.specs.Bags.{Test, IsSubBag}
-use Rattle.ripple_column.specs.Gaps.{blank, HasGap, StandFrom}
+use Rattle.std.proofs.Common.{◌≡◌, ◌≤◌, ◌+◌, ◌-◌, ℕ, ℤ, List, length, replicate, count_by, vec_capacity}
+use Rattle.crack_kernel.specs.Bags.{Test}
+use Rattle.ripple_column.specs.Gaps.{blank, HasGap, StandFrom, TakenFrom}
 use Rattle.ripple_column.proofs.gap.take_out.Given as goal
 
 abbrev pub invariant-loop-at : goal.invariant-loop-at
@@ -10,9 +10,7 @@ invariant-loop-at g l = record {
   high : l.at ≤ l.end;
   gap : (ps : List (ℤ × ℕ)) (i low : ℕ) → HasGap ps l.fn.rows.items i low l.high → StandFrom ps i l.end → HasGap ps l.rows.items i low l.top;
   content : (p : Test) → count_by p l.rows.items + count_by p l.fn.deletions.items ≡ count_by p l.fn.rows.items + count_by p l.deletions.items + count_by p (replicate (l.top - l.high) blank);
-  before : take l.from l.deletions.items ≡ take l.from l.fn.deletions.items;
-  from : l.from ≤ length l.deletions.items;
-  less : IsSubBag l.deletions.items l.fn.deletions.items;
+  taken : TakenFrom l.from l.fn.deletions.items l.deletions.items;
   len : length l.rows.items ≡ length l.fn.rows.items;
   capacity : vec_capacity l.rows ≡ vec_capacity l.fn.rows;
   capacity_deletions : vec_capacity l.deletions ≡ vec_capacity l.fn.deletions;

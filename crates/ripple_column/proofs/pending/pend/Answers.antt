@@ -1,5 +1,7 @@
-use Rattle.std.proofs.Common.{◌≡◌, ◌<◌, ◌∷◌, [], IsPermutation, length, refl, subst, ◌∙◌}
+use Rattle.std.proofs.Common.{◌≡◌, ◌<◌, ◌∷◌, [], true, IsPermutation, length, refl, subst, ◌∙◌}
 use Rattle.std.proofs.lemmas.List.Sorted.{IsPermutation-append_comm, IsPermutation-swap_remove}
+use Rattle.ripple_column.specs.Marks.{is_marked}
+use Rattle.ripple_column.proofs.Marking.{covers_more, covers_pushed}
 use Rattle.ripple_column.proofs.pending.pend.Goals as goal
 
 pub returns-in-Some-clause-pends : goal.returns-in-Some-clause-pends
@@ -24,3 +26,10 @@ returns-in-None-clause-pends g c =
       added = λ absent. (rw c.push_reserved.ensures.items (IsPermutation-append_comm (c.args.row ∷ []) c.args.list.now.items), refl);
       withdrawn = λ there. absurd (none there);
     }
+
+pub returns-in-None-clause-covers : goal.returns-in-None-clause-covers
+returns-in-None-clause-covers g c =
+    let marks = c.mark.new.self.marks.items in
+    let marked : is_marked marks c.args.row.0 ≡ true = c.mark.ensures.marked in
+    rw c.push_reserved.ensures.items (covers_pushed marks c.args.list.now.items c.args.row marked
+    (covers_more c.args.marks.now.marks.items marks c.args.list.now.items c.mark.ensures.kept c.requires.covers))

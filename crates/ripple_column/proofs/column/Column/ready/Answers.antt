@@ -8,7 +8,7 @@ use Rattle.ripple_column.proofs.column.Column.ready.Goals as goal
 
 pub returns-then-not-is_before-clause-rows : goal.returns-then-not-is_before-clause-rows
 returns-then-not-is_before-clause-rows g c =
-    let inv = c.self.invariant in
+    let inv = c.self.invariant.0 in
     let cuts = c.cuts-first.ensures in
     let range = c.args.range.now in
     let now : ColumnState = state {A = g.row.A.Denot} c.self.inside in
@@ -18,7 +18,7 @@ returns-then-not-is_before-clause-rows g c =
 
 pub returns-clause-rows : goal.returns-clause-rows
 returns-clause-rows g c =
-    let inv = c.self.invariant in
+    let inv = c.self.invariant.0 in
     let cuts = c.cuts-first.ensures in
     let range = c.args.range.now in
     let r = c.settled_places.result in
