@@ -34,7 +34,7 @@ for ranges in 0 32 512 2048; do
     in_turns "2048_updates_a_merge,_$((2 * ranges))_pivots" Rust "$work/rust" merge $ranges 2048 5
     if [ -n "$older" ]; then
         for updates in 1 2 10; do
-            in_turns "${updates}_updates_a_merge,_$((2 * ranges))_pivots" older "$older" merge $ranges $updates $((100 / updates))
+            in_turns "${updates}_updates_a_merge,_$((2 * ranges))_pivots" older "$older" merge $ranges $updates $((400 / updates))
         done
     fi
 done

@@ -3,7 +3,6 @@ use Rattle.std.proofs.Common.{◌≡◌, ℕ, ℤ, cond, ◌+◌, ◌-◌, ◌<�
 use Rattle.std.specs.List.{remove, AllWithin}
 use Rattle.std.proofs.lemmas.List.{replicate-append-replicate, length-replicate, length-drop, get_or-drop, get_or-replicate, ext_get_or, take-append-drop, take-take}
 use Rattle.std.proofs.lemmas.List.Sums.{sum_by-append, sum_by-set, sum_by-remove, sum_by_push}
-use Rattle.std.proofs.lemmas.Grind.{common_steps}
 use Rattle.crack_kernel.specs.Bags.{Test}
 use Rattle.ripple_column.specs.Gaps.{blank}
 
@@ -48,9 +47,6 @@ count_cut p xs ys a le blanks is =
     (λ k h. get_or-drop a xs k blank ∙ blanks (a + k) blank (omega arith) (omega arith) ∙ sym (get_or-replicate (length xs - a) k blank blank (omega arith))) in
     ap (λ (z : List (ℤ × List ℕ)). count_by p z) (sym (take-append-drop a xs)) ∙ count_append p (take a xs) (drop a xs)
     ∙ ap (λ (z : List (ℤ × List ℕ)). count_by p z + count_by p (drop a xs)) (sym is) ∙ ap (λ (z : List (ℤ × List ℕ)). count_by p ys + count_by p z) tail
-
-pub take-removed : (n i : ℕ) (xs : List (ℤ × List ℕ)) → n ≤ i → i < length xs → take n (remove xs i) ≡ take n xs
-take-removed n i xs le in' = grind (arith, common_steps)
 
 pub blanks_split : (p : Test) (n m k : ℕ) → k ≡ n + m → count_by p (replicate k blank) ≡ count_by p (replicate n blank) + count_by p (replicate m blank)
 blanks_split p n m k e = ap (λ (j : ℕ). count_by p (replicate j blank)) e ∙ blanks_add p n m

@@ -144,45 +144,6 @@ HasGap-place_down ps xs i a b e lt is g =
       blanks = g.blanks;
     }
 
--- the pivot that stands at the start of the gap goes to its end
-pub HasGap-place_up : (ps : List (ℤ × ℕ)) (xs : List (ℤ × List ℕ)) (i a b : ℕ) (e : ℤ × ℕ) → i < length ps → (get_or ps i e).1 ≡ a
-    → HasGap ps xs (i + 1) a b → HasGap (set ps i ((get_or ps i e).0, b)) xs i a b
-HasGap-place_up ps xs i a b e lt is g =
-    let order : a ≤ b = g.order in
-    let within : b ≤ length xs = g.within in
-    let len : length (set ps i ((get_or ps i e).0, b)) ≡ length ps = length-set ps i ((get_or ps i e).0, b) in
-    let here : (k : ℕ) (d : ℤ × ℕ) → k ≡ i → get_or (set ps i ((get_or ps i e).0, b)) k d ≡ ((get_or ps i e).0, b) = λ k d w. rw w (get_or-set_same ps i ((get_or ps i e).0, b) d lt) in
-    let other : (k : ℕ) (d : ℤ × ℕ) → k ≢ i → get_or (set ps i ((get_or ps i e).0, b)) k d ≡ get_or ps k d = λ k d n. get_or-set_other ps i k ((get_or ps i e).0, b) d n in
-    record {
-      order = order;
-      within = within;
-      index = omega arith;
-      below = λ k d h. rw (other k d (λ w. absurd (omega arith))) (g.below k d (omega arith));
-      above = λ k d h l. elim (cases_eq k i) [
-        | inl w ↦ rw (here k d w) (omega arith)
-        | inr n ↦ rw (other k d n) (g.above k d (omega arith) (omega arith))
-      ];
-      rise = λ k l d h m. elim (cases_eq l i) [
-        | inl wl ↦ elim (cases_eq k i) [
-          | inl wk ↦ rw (here k d wk, here l d wl) (omega arith)
-          | inr nk ↦ rw (other k d nk, here l d wl) (let low : (get_or ps k d).1 ≤ a = g.below k d (omega arith) in omega arith)
-        ]
-        | inr nl ↦ elim (cases_eq k i) [
-          | inl wk ↦ rw (here k d wk, other l d nl) (g.above l d (omega arith) (omega arith))
-          | inr nk ↦ rw (other k d nk, other l d nl) (g.rise k l d h (omega arith))
-        ]
-      ];
-      inside = λ k d l. elim (cases_eq k i) [
-        | inl w ↦ rw (here k d w) within
-        | inr n ↦ rw (other k d n) (g.inside k d (omega arith))
-      ];
-      parted = λ k d l. elim (cases_eq k i) [
-        | inl w ↦ rw (here k d w) (PartsOutside-place _ (get_or ps i e).1 b a b xs (omega arith) (omega arith) order (omega arith) (g.parted i e lt))
-        | inr n ↦ rw (other k d n) (g.parted k d (omega arith))
-      ];
-      blanks = g.blanks;
-    }
-
 -- the row at j goes out: a blank row takes its place, and is swapped to the end of the gap
 pub HasGap-taken_out : (ps : List (ℤ × ℕ)) (xs ys zs : List (ℤ × List ℕ)) (i a b j : ℕ) → b ≤ j → j < length xs
     → ((k : ℕ) (p : ℤ × ℕ) → i ≤ k → k < length ps → j < (get_or ps k p).1)
@@ -285,14 +246,6 @@ HasGap-end ps xs ys a is g k p lt =
       behind = λ j d l u. rw (same j d (omega arith)) ((g.parted k p lt j d (omega arith) (λ h. absurd (omega arith))).1 l);
     }
 
--- with no gap the law holds
-pub HasGap-closed : (ps : List (ℤ × ℕ)) (xs : List (ℤ × List ℕ)) (i a : ℕ) → HasGap ps xs i a a → AllParted ps xs
-HasGap-closed ps xs i a g k p lt = record {
-  within = g.inside k p lt;
-  before = λ j d l u. (g.parted k p lt j d (let h : (get_or ps k p).1 ≤ length xs = g.inside k p lt in omega arith) (λ h. h)).0 u;
-  behind = λ j d l u. (g.parted k p lt j d u (λ h. h)).1 l;
-}
-
 -- an empty gap at the end of a piece
 pub HasGap-empty : (ps : List (ℤ × ℕ)) (xs : List (ℤ × List ℕ)) (i a : ℕ) → IsRising ps → AllParted ps xs → i ≤ length ps
     → a ≡ (get_or ps i (pos 0, length xs)).1 → HasGap ps xs i a a
@@ -334,19 +287,6 @@ pub values-set : (ps : List (ℤ × ℕ)) (i q : ℕ) (d : ℤ × ℕ) → i < l
 values-set [] i q d h = absurd (omega arith)
 values-set (p ∷ ps) zero q d h = refl
 values-set (p ∷ ps) (suc i) q d h = ap (λ vs. p.0 ∷ vs) (values-set ps i q d (omega arith))
-
--- one step down of the opening
-pub HasGap-opened : (ps : List (ℤ × ℕ)) (xs ys : List (ℤ × List ℕ)) (j a by : ℕ) (e : ℤ × ℕ) → j < length ps → length ys ≡ length xs
-    → ChangedPlaces xs ys (get_or ps j e).1 a (a + by) → HasGap ps xs (j + 1) a (a + by) → HasGap (set ps j ((get_or ps j e).0, (get_or ps j e).1 + by)) ys j (get_or ps j e).1 ((get_or ps j e).1 + by)
-HasGap-opened ps xs ys j a by e lt len x g =
-    let l : ℕ = (get_or ps j e).1 in
-    let below : (get_or ps j e).1 ≤ a = g.below j e (omega arith) in
-    let up = HasGap-up ps xs ys (j + 1) (get_or ps j e).1 a (a + by) below len
-    (λ k p h. let r : (get_or ps k p).1 ≤ (get_or ps j p).1 = g.rise k j p (omega arith) lt in
-    let s : get_or ps j p ≡ get_or ps j e = get_or_default ps j p e lt in
-    let t : (get_or ps j p).1 ≡ (get_or ps j e).1 = ap (λ (q : ℤ × ℕ). q.1) s in omega arith) x g in
-    let same : (get_or ps j e).1 + (a + by - a) ≡ (get_or ps j e).1 + by = omega arith in
-    HasGap-place_up ps ys j (get_or ps j e).1 ((get_or ps j e).1 + by) e lt refl (subst (λ (m : ℕ). HasGap ps ys (j + 1) (get_or ps j e).1 m) same up)
 
 -- one step up
 pub HasGap-lifted : (ps : List (ℤ × ℕ)) (xs ys : List (ℤ × List ℕ)) (i a b : ℕ) (e : ℤ × ℕ) → i < length ps → length ys ≡ length xs

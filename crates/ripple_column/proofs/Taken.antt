@@ -1,14 +1,11 @@
 -- Rows that are taken from the end of a list.
-use Rattle.std.proofs.Common.{◌≡◌, ℕ, ℤ, true, ◌+◌, ◌≤◌, List, length, take, ◌∙◌, refl, arith, IsPermutation}
+use Rattle.std.proofs.Common.{◌≡◌, ℕ, ℤ, true, ◌+◌, ◌≤◌, List, length, take, ◌∙◌, arith, IsPermutation}
 use Rattle.std.proofs.lemmas.List.Sorted.{length_permutation}
 use Rattle.crack_kernel.specs.Bags.{IsSubBag}
 use Rattle.ripple_column.specs.Content.{KeepsContent}
 use Rattle.ripple_column.specs.Gaps.{TakenFrom}
 use Rattle.ripple_column.proofs.Counts.{count_moved, count_all}
 use Rattle.ripple_column.proofs.Blanks.{take-less}
-
-pub TakenFrom-none : (n : ℕ) (xs : List (ℤ × List ℕ)) → n ≤ length xs → TakenFrom n xs xs
-TakenFrom-none n xs fits = record { within = fits; before = refl; less = λ p. omega arith }
 
 pub TakenFrom-more : (n : ℕ) (xs ys zs : List (ℤ × List ℕ)) → TakenFrom n xs ys → TakenFrom n ys zs → TakenFrom n xs zs
 TakenFrom-more n xs ys zs a b = record { within = b.within; before = b.before ∙ a.before; less = λ p. omega (arith, a.less p, b.less p) }

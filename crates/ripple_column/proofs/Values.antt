@@ -1,10 +1,9 @@
 -- The values of pivots: which a cut adds, and which are there.
-use Rattle.std.proofs.Common.{◌≡◌, ℕ, suc, ℤ, int_lt, Bool, true, false, ◌||◌, take, drop, Any, ◌<◌, List, [], ◌∷◌, ◌++◌, length, get_or, inl, inr, sym, ◌∙◌, subst, refl, ap, arith, IsPermutation, Contains}
+use Rattle.std.proofs.Common.{◌≡◌, ℕ, suc, ℤ, int_lt, Bool, true, false, ◌||◌, Any, ◌<◌, List, [], ◌∷◌, ◌++◌, length, get_or, inl, inr, sym, ◌∙◌, subst, refl, ap, arith, IsPermutation, Contains}
 use Rattle.std.specs.List.{list_any}
 use Rattle.std.specs.Ordering.{int_eq}
 use Rattle.std.proofs.lemmas.Bool.{cases_Bool}
 use Rattle.std.proofs.lemmas.Int.{ints}
-use Rattle.std.proofs.Math.Seq.{take-append_seam}
 use Rattle.std.proofs.lemmas.Bool.Decides.{Decides-int_eq}
 use Rattle.std.proofs.lemmas.List.{get_or-map, get_or_default, length-map}
 use Rattle.std.proofs.lemmas.List.Folds.{Any-from_list_any, list_any-append, list_any_at, list_any_none}
@@ -112,9 +111,3 @@ IsUncracked-kept (At v) ps qs k kept outside =
           let new : Contains qs p = kept p (i, within, is) in
           inr (new.0, p, new.1, new.2, side)
     ]
-
--- what a slice of a list holds once it is written back whole
-pub written_whole : {X : Type 0} (n : ℕ) (xs ys : List X) → n ≡ length xs → length ys ≡ length xs → take n (ys ++ drop (length ys) xs) ≡ ys
-written_whole n xs ys long same =
-    let whole : n ≡ length ys = omega arith in
-    ap (λ (m : ℕ). take m (ys ++ drop (length ys) xs)) whole ∙ take-append_seam ys (drop (length ys) xs)

@@ -18,6 +18,7 @@ use crate::filter::ScoreFilter;
 use crate::gap::Direction;
 use crate::merge::{count_within, is_within};
 use crate::passes::{Pass, run_pass};
+use crate::rows::Rows;
 use crack_kernel::{Pivots, Row};
 use score_bounds::Range;
 use std::alloc::Allocator;
@@ -192,7 +193,7 @@ fn filter_of<A: Allocator>(rows: &[Row<A>]) -> ScoreFilter {
 /// Merges rows that wait in the two lists from some index on, where scores fall. What it leaves
 /// waits on.
 fn merge_tails<A: Allocator + Copy>(
-    rows: &mut Vec<Row<A>, A>,
+    rows: &mut Rows<A>,
     pivots: &mut Pivots<A>,
     deletions: &mut Vec<Row<A>, A>,
     deletions_from: usize,
@@ -215,6 +216,7 @@ fn merge_tails<A: Allocator + Copy>(
     ensures capacity_deletions { vec_capacity deletions.new ≡ vec_capacity deletions.old }
     ensures capacity_insertions { vec_capacity insertions.new ≡ vec_capacity insertions.old }
 {
+    rows.extend_fingerprints();
     let filter = filter_of(&deletions[deletions_from..]);
     let up = Pass {
         direction: Direction::Up,
@@ -239,7 +241,7 @@ fn merge_tails<A: Allocator + Copy>(
 /// Merges rows that wait and have scores in the range by passes over the pieces, where many wait
 /// there. What it leaves is for the ripple moves.
 pub fn merge_many<A: Allocator + Copy>(
-    rows: &mut Vec<Row<A>, A>,
+    rows: &mut Rows<A>,
     pivots: &mut Pivots<A>,
     deletions: &mut Vec<Row<A>, A>,
     insertions: &mut Vec<Row<A>, A>,

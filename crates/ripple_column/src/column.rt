@@ -11,6 +11,7 @@ use crate::cuts::is_before;
 use crate::marks::ScoreMarks;
 use crate::merge::merge_all;
 use crate::pending::{pend, reserve_write};
+use crate::rows::Rows;
 use crate::select::{select_between, settled_places};
 use crack_kernel::{Pivots, Row};
 use score_bounds::Range;
@@ -23,7 +24,7 @@ use std::marker::Model;
 /// but for those that wait to be deleted. Between neighbouring pivots the rows stand in no order.
 #[derive(Drop)]
 pub struct Column<A: Allocator> {
-    rows: Vec<Row<A>, A>,
+    rows: Rows<A>,
     pivots: Pivots<A>,
     insertions: Vec<Row<A>, A>,
     insertion_marks: ScoreMarks<A>,
@@ -52,7 +53,7 @@ impl<A: Allocator + Copy> Column<A> {
         ensures deletions { result.deletions ≡ [] }
     {
         Column {
-            rows: Vec::new(alloc),
+            rows: Rows::new(alloc),
             pivots: Pivots::new(alloc),
             insertions: Vec::new(alloc),
             insertion_marks: ScoreMarks::new(alloc),
@@ -90,7 +91,7 @@ impl<A: Allocator + Copy> Column<A> {
         requires within { to ≤ length self.now.rows }
         ensures { result.now ≡ slice_range self.now.rows from to }
     {
-        &self.rows[from..to]
+        &self.rows.list()[from..to]
     }
 
     /// Makes room for `n` more pending insertions and `n` more pending deletions. Where either

@@ -2,49 +2,69 @@
 
 ghost use Rattle.std.specs.Prelude.{◌<◌};
 
-/// Scores, each by one bit of 262,144, which a hash of the score gives.
+/// How many words the filter has.
+const WORDS: usize = 4096;
+
+/// Scores, each by two bits of 262,144, which its fingerprint gives (a Bloom filter).
 ///
-/// It tells each score that was added, and of 2,048 scores about one in 130 others. Nothing of that
+/// It tells each score that was added, and of 2,048 scores about one in 4,000 others. Nothing of that
 /// is promised: a row that the filter passes over is merged later.
 #[derive(Drop)]
 pub struct ScoreFilter {
-    words: [u64; 4096],
+    words: [u64; WORDS],
 }
 
 impl ScoreFilter {
-    /// A filter with no score.
+    /// A filter with no score. It has the fingerprint 0, which no score has: it stands where none
+    /// was made.
     pub fn new() -> Self {
-        ScoreFilter { words: [0; 4096] }
+        let mut words = [0; WORDS];
+        words[0] = 1;
+        ScoreFilter { words }
     }
 
     /// Adds a score.
     pub fn add(&mut self, score: i64) {
-        let hash = hash_of(score);
-        self.words[word_of(hash)] |= 1 << bit_of(hash);
+        let fingerprint = fingerprint_of(score);
+        self.set(first_bit(fingerprint));
+        self.set(second_bit(fingerprint));
     }
 
-    /// Whether the score may have been added.
-    pub fn may_have(&self, score: i64) -> bool {
-        let hash = hash_of(score);
-        self.words[word_of(hash)] >> bit_of(hash) & 1 == 1
+    /// Whether a score with the fingerprint may have been added.
+    pub fn may_have(&self, fingerprint: u32) -> bool {
+        self.has(first_bit(fingerprint)) && self.has(second_bit(fingerprint))
+    }
+
+    fn set(&mut self, bit: u32)
+        requires { bit < 262144 }
+    {
+        self.words[(bit >> 6) as usize] |= 1 << (bit & 63);
+    }
+
+    fn has(&self, bit: u32) -> bool
+        requires { bit < 262144 }
+    {
+        self.words[(bit >> 6) as usize] >> (bit & 63) & 1 == 1
     }
 }
 
-/// Spreads a score over the bits of a word, the high ones best (Fibonacci hashing).
-fn hash_of(score: i64) -> u64 {
-    score.unsigned_abs().wrapping_mul(0x9e37_79b9_7f4a_7c15)
+/// The fingerprint of a score: the first half of a product that spreads the score over a word
+/// (Fibonacci hashing), but 1 for 0.
+pub fn fingerprint_of(score: i64) -> u32 {
+    let spread = score.unsigned_abs().wrapping_mul(0x9e37_79b9_7f4a_7c15);
+    ((spread >> 32) as u32).max(1)
 }
 
-/// The word of a hash, by its first twelve bits.
-fn word_of(hash: u64) -> usize
-    ensures { result < 4096 }
+/// The bit of a fingerprint's first 18 bits.
+fn first_bit(fingerprint: u32) -> u32
+    ensures { result < 262144 }
 {
-    (hash >> 52) as usize
+    fingerprint >> 14
 }
 
-/// The bit of a hash within its word, by its next six bits.
-fn bit_of(hash: u64) -> u32
-    ensures { result < 64 }
+/// The bit of a fingerprint's last 18 bits.
+fn second_bit(fingerprint: u32) -> u32
+    ensures { result < 262144 }
 {
-    ((hash >> 46) & 63) as u32
+    fingerprint & 0x3_ffff
 }

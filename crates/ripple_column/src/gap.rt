@@ -13,6 +13,7 @@ ghost use Rattle.ripple_column.specs.Gaps.{AllParted, ChangedPlaces, HasGap, Sta
 
 use crate::filter::ScoreFilter;
 use crate::ripple::{place_or, start_below};
+use crate::rows::Rows;
 use crack_kernel::{Pivots, Row};
 use std::alloc::Allocator;
 
@@ -39,12 +40,12 @@ fn blank_row<A: Allocator>(alloc: A) -> Row<A>
 }
 
 /// Puts `count` blank rows behind the last row.
-fn push_blanks<A: Allocator + Copy>(rows: &mut Vec<Row<A>, A>, count: usize)
+fn push_blanks<A: Allocator + Copy>(rows: &mut Rows<A>, count: usize)
     requires room { vec_len rows.old + count ≤ vec_capacity rows.old }
     ensures items { rows.new.items ≡ rows.old.items ++ replicate count blank }
     ensures capacity { vec_capacity rows.new ≡ vec_capacity rows.old }
 {
-    let alloc = *rows.allocator();
+    let alloc = rows.allocator();
     for _pushed in 0..count {
         rows.push_reserved(blank_row(alloc));
     }
@@ -52,7 +53,7 @@ fn push_blanks<A: Allocator + Copy>(rows: &mut Vec<Row<A>, A>, count: usize)
 
 /// Lets the rows from `low` on and before `mid` change places with those from `mid` on and before
 /// `high`, in whatever order.
-fn change_places<A: Allocator>(rows: &mut Vec<Row<A>, A>, low: usize, mid: usize, high: usize)
+fn change_places<A: Allocator>(rows: &mut Rows<A>, low: usize, mid: usize, high: usize)
     requires order { low ≤ mid }
     requires above { mid ≤ high }
     requires within { high ≤ length rows.old.items }
@@ -73,7 +74,7 @@ fn change_places<A: Allocator>(rows: &mut Vec<Row<A>, A>, low: usize, mid: usize
 /// Opens a gap above the piece of the index `top`: `width` blank rows wide behind the last piece, and
 /// empty elsewhere.
 pub fn open_gap<A: Allocator + Copy>(
-    rows: &mut Vec<Row<A>, A>,
+    rows: &mut Rows<A>,
     pivots: &Pivots<A>,
     top: usize,
     width: usize,
@@ -97,12 +98,7 @@ pub fn open_gap<A: Allocator + Copy>(
 }
 
 /// Carries the gap down to the start of its piece, which has the index `i`.
-pub fn sink_gap<A: Allocator>(
-    rows: &mut Vec<Row<A>, A>,
-    pivots: &Pivots<A>,
-    i: usize,
-    gap: Gap,
-) -> Gap
+pub fn sink_gap<A: Allocator>(rows: &mut Rows<A>, pivots: &Pivots<A>, i: usize, gap: Gap) -> Gap
     requires gap { HasGap pivots.now.list rows.old.items i gap.low gap.high }
     ensures gap { HasGap pivots.now.list rows.new.items i result.low result.high }
     ensures start { 0 < i → (slice_index_or pivots.now.list (i - 1) (pos 0, 0)).1 ≡ result.low }
@@ -121,7 +117,7 @@ pub fn sink_gap<A: Allocator>(
 /// Carries the gap over the piece above it, which ends at the pivot of the index `i`, and answers
 /// where it begins.
 pub fn lift_gap<A: Allocator>(
-    rows: &mut Vec<Row<A>, A>,
+    rows: &mut Rows<A>,
     pivots: &mut Pivots<A>,
     i: usize,
     low: usize,
@@ -144,7 +140,7 @@ pub fn lift_gap<A: Allocator>(
 }
 
 /// Carries the gap over the last piece, and cuts it off.
-pub fn close_gap<A: Allocator>(rows: &mut Vec<Row<A>, A>, low: usize, high: usize)
+pub fn close_gap<A: Allocator>(rows: &mut Rows<A>, low: usize, high: usize)
     requires order { low ≤ high }
     requires within { high ≤ length rows.old.items }
     ensures law { (ps : List (ℤ × ℕ)) → HasGap ps rows.old.items (length ps) low high → AllParted ps rows.new.items }
@@ -220,31 +216,10 @@ fn find_waiting<A: Allocator>(
     None
 }
 
-/// Whether the filter may have the row's score.
-fn may_leave<A: Allocator>(row: &Row<A>, filter: &ScoreFilter) -> bool {
-    filter.may_have(row.score())
-}
-
-/// The first place from `from` on and before `to` of a row whose score the filter may have, or
-/// `to`.
-fn next_within<A: Allocator>(rows: &[Row<A>], from: usize, to: usize, filter: &ScoreFilter) -> usize
-    requires order { from ≤ to }
-    requires within { to ≤ length rows.now }
-    ensures low { from ≤ result }
-    ensures high { result ≤ to }
-{
-    for i in from..to {
-        if may_leave(&rows[i], filter) {
-            return i;
-        }
-    }
-    to
-}
-
 /// Takes the row at the place `at` above the gap out of the column, if it waits as a deletion from
 /// the index `from` on: a blank row takes its place and joins the gap, whose end is answered.
 fn take_out_at<A: Allocator + Copy>(
-    rows: &mut Vec<Row<A>, A>,
+    rows: &mut Rows<A>,
     high: usize,
     at: usize,
     deletions: &mut Vec<Row<A>, A>,
@@ -265,10 +240,11 @@ fn take_out_at<A: Allocator + Copy>(
     ensures capacity { vec_capacity rows.new ≡ vec_capacity rows.old }
     ensures capacity_deletions { vec_capacity deletions.new ≡ vec_capacity deletions.old }
 {
-    match find_waiting(deletions, from, direction, &rows[at]) {
+    match find_waiting(deletions, from, direction, &rows.list()[at]) {
         Some(found) => {
             let _gone = deletions.remove(found);
-            rows[at] = blank_row(*rows.allocator());
+            let blank = blank_row(rows.allocator());
+            rows.set(at, blank);
             rows.swap(high, at);
             high + 1
         }
@@ -281,7 +257,7 @@ fn take_out_at<A: Allocator + Copy>(
 ///
 /// The filter has the scores of these deletions, so that few rows are looked up.
 pub fn take_out<A: Allocator + Copy>(
-    rows: &mut Vec<Row<A>, A>,
+    rows: &mut Rows<A>,
     high: usize,
     end: usize,
     deletions: &mut Vec<Row<A>, A>,
@@ -307,10 +283,10 @@ pub fn take_out<A: Allocator + Copy>(
         return high;
     }
     let mut top = high;
-    let mut at = next_within(rows, high, end, filter);
+    let mut at = rows.next_within(high, end, filter);
     while at < end && deletions.len() > from {
         top = take_out_at(rows, top, at, deletions, from, direction);
-        at = next_within(rows, at + 1, end, filter);
+        at = rows.next_within(at + 1, end, filter);
     }
     top
 }
@@ -319,7 +295,7 @@ pub fn take_out<A: Allocator + Copy>(
 /// `from`, while they belong to the piece of the index `i` below it, and answers where the gap
 /// begins then.
 pub fn fill_gap<A: Allocator>(
-    rows: &mut Vec<Row<A>, A>,
+    rows: &mut Rows<A>,
     pivots: &Pivots<A>,
     i: usize,
     low: usize,
@@ -346,7 +322,7 @@ pub fn fill_gap<A: Allocator>(
         }
         match insertions.pop() {
             Some(row) => {
-                rows[bottom] = row;
+                rows.set(bottom, row);
                 bottom += 1;
             }
             None => unreachable!(),

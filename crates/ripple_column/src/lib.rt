@@ -16,6 +16,7 @@ mod merge;
 mod passes;
 mod pending;
 mod ripple;
+mod rows;
 mod select;
 
 pub use column::Column;

@@ -12,6 +12,7 @@ ghost use Rattle.ripple_column.specs.Cuts.{values};
 
 use crate::batch::merge_many;
 use crate::ripple::{ripple_insert, ripple_remove};
+use crate::rows::Rows;
 use crack_kernel::{Pivots, Row};
 use score_bounds::{Bound, Range};
 use std::alloc::{AllocError, Allocator};
@@ -50,7 +51,7 @@ pub fn count_within<A: Allocator>(rows: &[Row<A>], range: &Range) -> usize
 
 /// Takes the rows that wait as deletions and have scores in the range out of the column.
 pub fn merge_deletions<A: Allocator>(
-    rows: &mut Vec<Row<A>, A>,
+    rows: &mut Rows<A>,
     pivots: &mut Pivots<A>,
     deletions: &mut Vec<Row<A>, A>,
     range: &Range,
@@ -84,7 +85,7 @@ pub fn merge_deletions<A: Allocator>(
 
 /// Puts the rows that wait as insertions and have scores in the range into the column.
 pub fn merge_insertions<A: Allocator>(
-    rows: &mut Vec<Row<A>, A>,
+    rows: &mut Rows<A>,
     pivots: &mut Pivots<A>,
     insertions: &mut Vec<Row<A>, A>,
     range: &Range,
@@ -119,7 +120,7 @@ pub fn merge_insertions<A: Allocator>(
 /// Merges all rows that wait and have scores in the range. Where none waits there, the column is
 /// left as it is.
 pub fn merge_range<A: Allocator + Copy>(
-    rows: &mut Vec<Row<A>, A>,
+    rows: &mut Rows<A>,
     pivots: &mut Pivots<A>,
     deletions: &mut Vec<Row<A>, A>,
     insertions: &mut Vec<Row<A>, A>,
@@ -159,7 +160,7 @@ pub fn merge_range<A: Allocator + Copy>(
 
 /// Merges all rows that wait. Refused, it leaves all as it was.
 pub fn merge_all<A: Allocator + Copy>(
-    rows: &mut Vec<Row<A>, A>,
+    rows: &mut Rows<A>,
     pivots: &mut Pivots<A>,
     deletions: &mut Vec<Row<A>, A>,
     insertions: &mut Vec<Row<A>, A>,

@@ -13,6 +13,7 @@ use crate::gap::{
     Direction, Gap, close_gap, fill_gap, is_in_piece, lift_gap, open_gap, sink_gap, take_out,
 };
 use crate::ripple::place_or;
+use crate::rows::Rows;
 use crack_kernel::{Pivots, Row};
 use std::alloc::Allocator;
 
@@ -43,7 +44,7 @@ fn piece_tail<A: Allocator>(pivots: &Pivots<A>, i: usize, list: &[Row<A>], from:
 /// Lets rows that wait out of the piece of the index `i`, and into it, and leaves the gap at the
 /// start of the piece.
 fn change_piece<A: Allocator + Copy>(
-    rows: &mut Vec<Row<A>, A>,
+    rows: &mut Rows<A>,
     pivots: &Pivots<A>,
     i: usize,
     gap: Gap,
@@ -117,7 +118,7 @@ fn goes_on<A: Allocator>(
 /// Carries the gap from the start of the piece of the index `i` into the next piece, and answers
 /// that piece's index. Where there is no next piece, all stays.
 fn next_piece<A: Allocator>(
-    rows: &mut Vec<Row<A>, A>,
+    rows: &mut Rows<A>,
     pivots: &mut Pivots<A>,
     i: usize,
     gap: Gap,
@@ -147,7 +148,7 @@ fn next_piece<A: Allocator>(
 }
 
 /// Carries the gap over the pieces from the index `i` on, and cuts it off.
-fn lift_out<A: Allocator>(rows: &mut Vec<Row<A>, A>, pivots: &mut Pivots<A>, i: usize, gap: Gap)
+fn lift_out<A: Allocator>(rows: &mut Rows<A>, pivots: &mut Pivots<A>, i: usize, gap: Gap)
     requires gap { HasGap pivots.old.list rows.old.items i gap.low gap.high }
     ensures parted { AllParted pivots.new.list rows.new.items }
     ensures content { (p : Test) → count_by p rows.old.items
@@ -171,7 +172,7 @@ fn lift_out<A: Allocator>(rows: &mut Vec<Row<A>, A>, pivots: &mut Pivots<A>, i: 
 /// row that is to come in finds no room; answers the index of the piece at which it ends. A pass
 /// that goes down from the last piece fetches blank rows for as many rows as come more than leave.
 pub fn run_pass<A: Allocator + Copy>(
-    rows: &mut Vec<Row<A>, A>,
+    rows: &mut Rows<A>,
     pivots: &mut Pivots<A>,
     first: usize,
     deletions: &mut Vec<Row<A>, A>,

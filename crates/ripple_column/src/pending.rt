@@ -11,6 +11,7 @@ ghost use Rattle.ripple_column.specs.Marks.{Covers};
 
 use crate::marks::{ScoreMarks, renew};
 use crate::merge::merge_all;
+use crate::rows::Rows;
 use crack_kernel::{Pivots, Row};
 use std::alloc::{AllocError, Allocator};
 
@@ -118,7 +119,7 @@ pub fn pend<A: Allocator>(
 /// Makes room for `n` more rows in each of the two lists of rows that wait. Where one would grow
 /// past 2,048 rows, all that waits is merged first. Refused, it leaves the content.
 pub fn reserve_write<A: Allocator + Copy>(
-    rows: &mut Vec<Row<A>, A>,
+    rows: &mut Rows<A>,
     pivots: &mut Pivots<A>,
     deletions: &mut Vec<Row<A>, A>,
     deletion_marks: &mut ScoreMarks<A>,

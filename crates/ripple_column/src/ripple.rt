@@ -10,11 +10,12 @@ ghost use Rattle.crack_kernel.specs.PivotList.{ObeysPivots};
 ghost use Rattle.ripple_column.specs.Pieces.{StandsWithin};
 ghost use Rattle.ripple_column.specs.Cuts.{values};
 
+use crate::rows::Rows;
 use crack_kernel::{Pivots, Row};
 use std::alloc::Allocator;
 
 /// Puts `row` into its piece. Each piece above passes its first row behind its last.
-pub fn ripple_insert<A: Allocator>(rows: &mut Vec<Row<A>, A>, pivots: &mut Pivots<A>, row: Row<A>)
+pub fn ripple_insert<A: Allocator>(rows: &mut Rows<A>, pivots: &mut Pivots<A>, row: Row<A>)
     requires law { ObeysPivots pivots.old.list rows.old.items }
     requires room { vec_len rows.old < vec_capacity rows.old }
     ensures rows { IsPermutation (rows.old.items ++ row ∷ []) rows.new.items }
@@ -31,7 +32,7 @@ pub fn ripple_insert<A: Allocator>(rows: &mut Vec<Row<A>, A>, pivots: &mut Pivot
     while i > first {
         i -= 1;
         let place = list[i].1;
-        rows.swap(place, hole);
+        rows.ripple_swap(place, hole);
         hole = place;
     }
     pivots.shift(first, true);
@@ -40,7 +41,7 @@ pub fn ripple_insert<A: Allocator>(rows: &mut Vec<Row<A>, A>, pivots: &mut Pivot
 /// Takes `row` out of its piece, and gives it back. Each piece above passes its last row to the
 /// place before its first.
 pub fn ripple_remove<A: Allocator>(
-    rows: &mut Vec<Row<A>, A>,
+    rows: &mut Rows<A>,
     pivots: &mut Pivots<A>,
     row: &Row<A>,
 ) -> Row<A>
@@ -57,14 +58,14 @@ pub fn ripple_remove<A: Allocator>(
     let first = pivots.count_upto(row.score());
     let from = start_below(list, first);
     let to = place_or(list, first, rows.len());
-    let at = place_between(rows, from, to, row);
+    let at = place_between(rows.list(), from, to, row);
     let mut hole = to - 1;
-    rows.swap(hole, at);
+    rows.ripple_swap(hole, at);
     let mut i = first;
     while i < list.len() {
         i += 1;
         let last = place_or(list, i, rows.len()) - 1;
-        rows.swap(last, hole);
+        rows.ripple_swap(last, hole);
         hole = last;
     }
     pivots.shift(first, false);

@@ -8,6 +8,7 @@ ghost use Rattle.ripple_column.specs.Cuts.{is_before, values, cut_values, count_
 
 use crate::cuts::{count_missing, crack_between, is_before};
 use crate::merge::{count_within, merge_range, waits_within};
+use crate::rows::Rows;
 use crack_kernel::{MAX_PIVOTS, Pivots, Row};
 use score_bounds::{Cut, Range};
 use std::alloc::{AllocError, Allocator};
@@ -15,7 +16,7 @@ use std::alloc::{AllocError, Allocator};
 /// Makes room for the rows that wait in the range and for the pivots that the cuts become. Where
 /// these would be too many, the pivots there are dropped.
 pub fn make_room<A: Allocator>(
-    rows: &mut Vec<Row<A>, A>,
+    rows: &mut Rows<A>,
     pivots: &mut Pivots<A>,
     insertions: &[Row<A>],
     range: &Range,
@@ -48,7 +49,7 @@ pub fn make_room<A: Allocator>(
 /// Merges what waits in a range, cracks the column at its cuts, and answers their places. Where the
 /// first cut is not below the second, there is nothing to do. Refused, it leaves all as it was.
 pub fn select_between<A: Allocator + Copy>(
-    rows: &mut Vec<Row<A>, A>,
+    rows: &mut Rows<A>,
     pivots: &mut Pivots<A>,
     deletions: &mut Vec<Row<A>, A>,
     insertions: &mut Vec<Row<A>, A>,

@@ -36,7 +36,7 @@ returns-in-Some-clause-spare g c =
 
 pub returns-in-None-clause-place : goal.returns-in-None-clause-place
 returns-in-None-clause-place g c =
-    StandsAt-added c.args.cut.now c.in-At.v _ c.crack_at.result (length c.crack_at.new.rows) c.args.pivots.now.list c.crack_at.new.pivots.list c.in-At.is (omega (arith, ints)) c.crack_at.ensures.pivots
+    StandsAt-added c.args.cut.now c.in-At.v _ c.crack_at.result (length c.crack_at.new.rows.items) c.args.pivots.now.list c.crack_at.new.pivots.list c.in-At.is (omega (arith, ints)) c.crack_at.ensures.pivots
 
 pub returns-in-None-clause-values : goal.returns-in-None-clause-values
 returns-in-None-clause-values g c =

@@ -1,4 +1,4 @@
-use Rattle.std.proofs.Common.{◌≡◌, ◌+◌, ◌-◌, ◌<◌, ◌≤◌, ◌++◌, ◌∷◌, [], length, get_or, set, take, ℕ, ℤ, List, Some, refl, sym, ap, ◌∙◌, arith, vec_len, length-append}
+use Rattle.std.proofs.Common.{◌≡◌, ◌+◌, ◌-◌, ◌<◌, ◌≤◌, ◌++◌, ◌∷◌, [], length, get_or, set, take, ℕ, ℤ, List, Some, sym, ap, ◌∙◌, arith, vec_len, length-append}
 use Rattle.std.proofs.lemmas.Int.{ints}
 use Rattle.std.proofs.lemmas.List.{length-set, take-append-le}
 use Rattle.crack_kernel.specs.PivotList.{RisesPast}
@@ -30,13 +30,14 @@ loop-bottom-preserved g c =
     let past : RisesPast row.0 ps c.args.i =
     let score : c.index-next.result.now.0 ≡ row.0 = ap (λ (r : ℤ × List ℕ). r.0) next in
     RisesPast-same _ _ ps _ (omega (arith, ints, score)) (c.is_in_piece.ensures c.if-not-is_in_piece.false) in
+    let put_in : c.set.new.self.items ≡ set xs at row = c.set.ensures.items in
     let is_blank : get_or xs at blank ≡ blank = v.gap.blanks at blank (omega arith) c.loop-bottom-test.true in
     record {
       low = omega (arith, v.low);
-      gap = HasGap-filled ps xs (set xs at row) row c.args.i at c.args.high c.loop-bottom-test.true
-          (λ k p h. past.upto k p (omega arith) h) (λ k p f h. past.above k p f h) refl v.gap;
+      gap = HasGap-filled ps xs c.set.new.self.items row c.args.i at c.args.high c.loop-bottom-test.true
+          (λ k p h. past.upto k p (omega arith) h) (λ k p f h. past.above k p f h) put_in v.gap;
       content = λ p.
-          let put = count_put p xs (set xs at row) at blank row in' refl is_blank in
+          let put = count_put p xs c.set.new.self.items at blank row in' put_in is_blank in
           let gone = count_pushed p old new row out in
           let more = blanks_more p (at - c.args.low) (at + 1 - c.args.low) (omega (arith, v.low)) in
           omega (arith, put, gone, more, v.content p);
@@ -45,7 +46,7 @@ loop-bottom-preserved g c =
         before = sym (ap (take c.args.from) out ∙ take-append-le c.args.from new (row ∷ []) (omega arith)) ∙ v.taken.before;
         less = λ p. let gone = count_pushed p old new row out in omega (arith, gone, v.taken.less p);
       };
-      len = length-set xs at row ∙ v.len;
-      capacity = v.capacity;
+      len = ap length put_in ∙ length-set xs at row ∙ v.len;
+      capacity = c.set.ensures.capacity ∙ v.capacity;
       capacity_insertions = c.in-Some.ensures.capacity ∙ v.capacity_insertions;
     }

@@ -30,8 +30,8 @@ loop-i-preserved g c =
     let s : Inserting ps n (j + 1) c.loop-i.hole c.args.row (c.args.rows.now.items ++ c.args.row ∷ []) c.loop-i.rows.items = rw (← up) v.inserting in
     record {
       from = omega arith;
-      inserting = Inserting-step ps n j c.loop-i.hole (pos 0, 0) c.args.row _ c.loop-i.rows.items c.swap.new.self.items s c.swap.ensures.by_index c.swap.ensures.items;
-      capacity = c.swap.ensures.capacity ∙ v.capacity;
+      inserting = Inserting-step ps n j c.loop-i.hole (pos 0, 0) c.args.row _ c.loop-i.rows.items c.ripple_swap.new.self.items s c.ripple_swap.ensures.by_index c.ripple_swap.ensures.items;
+      capacity = c.ripple_swap.ensures.capacity ∙ v.capacity;
     }
 
 pub returns-clause-law : goal.returns-clause-law

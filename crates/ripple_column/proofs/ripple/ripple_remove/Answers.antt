@@ -21,7 +21,7 @@ place_between-at-requires-clause-there g c =
     let to_is : c.place_or-to.result ≡ (get_or ps first (pos 0, length rows)).1 = c.place_or-to.ensures ∙ ap (λ (m : ℕ). (get_or ps first (pos 0, m)).1) long in
     let s : StandsWithin c.args.row.now rows c.start_below-from.result (get_or ps first (pos 0, length rows)).1 =
     StandsWithin-piece ps first c.start_below-from.result c.args.row.now rows law past c.requires.there c.start_below-from.ensures in
-    rw (c.deref.ensures.value, to_is) s
+    rw (c.list.ensures, to_is) s
 
 pub place_between-at-requires-clause-within : goal.place_between-at-requires-clause-within
 place_between-at-requires-clause-within g c =
@@ -33,10 +33,10 @@ place_between-at-requires-clause-within g c =
     let long : c.len.result ≡ length rows = omega arith in
     let to_is : c.place_or-to.result ≡ (get_or ps c.count_upto-first.result (pos 0, length rows)).1 = c.place_or-to.ensures ∙ ap (λ (m : ℕ). (get_or ps c.count_upto-first.result (pos 0, m)).1) long in
     let top = bound_within ps (length rows) c.count_upto-first.result (Places-from_law ps rows rising law) in
-    rw (c.deref.ensures.value, to_is) top
+    rw (c.list.ensures, to_is) top
 
-pub swap-requires-clause-i_in_bounds : goal.swap-requires-clause-i_in_bounds
-swap-requires-clause-i_in_bounds g c =
+pub ripple_swap-requires-clause-i_in_bounds : goal.ripple_swap-requires-clause-i_in_bounds
+ripple_swap-requires-clause-i_in_bounds g c =
     let ps = c.list-list.result.now in
     let same : ps ≡ c.args.pivots.now.list = c.list-list.ensures.value in
     let rows = c.args.rows.now.items in
@@ -48,8 +48,8 @@ swap-requires-clause-i_in_bounds g c =
     let some : c.place_between-at.result < c.place_or-to.result = c.place_between-at.ensures.high in
     omega (arith, top, to_is)
 
-pub swap-requires-clause-j_in_bounds : goal.swap-requires-clause-j_in_bounds
-swap-requires-clause-j_in_bounds g c =
+pub ripple_swap-requires-clause-j_in_bounds : goal.ripple_swap-requires-clause-j_in_bounds
+ripple_swap-requires-clause-j_in_bounds g c =
     let ps = c.list-list.result.now in
     let same : ps ≡ c.args.pivots.now.list = c.list-list.ensures.value in
     let rows = c.args.rows.now.items in
@@ -78,16 +78,16 @@ loop-i-init g c =
     let low : c.start_below-from.result ≤ at = c.place_between-at.ensures.low in
     let up : c.place_or-to.result - 1 + 1 ≡ c.place_or-to.result = omega arith in
     record {
-      removing = Removing-start ps first at (c.place_or-to.result - 1) c.args.row.now rows c.swap.new.self.items o law fit
+      removing = Removing-start ps first at (c.place_or-to.result - 1) c.args.row.now rows c.ripple_swap.new.self.items o law fit
           (λ k e lt. let h : (get_or ps k e).1 ≤ c.start_below-from.result = start_from ps (length rows) first c.start_below-from.result o fit c.start_below-from.ensures k e lt in omega arith)
           (omega arith) (up ∙ to_is)
-          (λ d. ap (λ (xs : List (ℤ × List ℕ)). get_or xs at d) (sym c.deref.ensures.value) ∙ c.place_between-at.ensures.here d)
-          c.swap.ensures.by_index c.swap.ensures.items;
-      capacity = c.swap.ensures.capacity;
+          (λ d. ap (λ (xs : List (ℤ × List ℕ)). get_or xs at d) (sym c.list.ensures) ∙ c.place_between-at.ensures.here d)
+          c.ripple_swap.ensures.by_index c.ripple_swap.ensures.items;
+      capacity = c.ripple_swap.ensures.capacity;
     }
 
-pub swap-requires-in-loop-i-clause-i_in_bounds : goal.swap-requires-in-loop-i-clause-i_in_bounds
-swap-requires-in-loop-i-clause-i_in_bounds g c =
+pub ripple_swap-requires-in-loop-i-clause-i_in_bounds : goal.ripple_swap-requires-in-loop-i-clause-i_in_bounds
+ripple_swap-requires-in-loop-i-clause-i_in_bounds g c =
     let ps = c.list-list.result.now in
     let n : ℕ = length c.args.rows.now.items in
     let s = c.loop-i.invariant.removing in
@@ -107,9 +107,9 @@ loop-i-preserved g c =
     let low : (get_or ps c.loop-i.i (pos 0, n)).1 ≤ (get_or ps (c.loop-i.i + 1) (pos 0, n)).1 = bound_from ps n c.loop-i.i (c.loop-i.i + 1) (pos 0, n) s.places (omega arith) c.loop-i-test.true in
     let up : c.place_or-last.result - 1 + 1 ≡ c.place_or-last.result = omega (arith, s.at) in
     record {
-      removing = Removing-step ps n c.count_upto-first.result c.loop-i.i c.loop-i.hole (c.place_or-last.result - 1) c.args.row.now _ c.loop-i.rows.items c.swap-in-loop-i.new.self.items
-          s c.loop-i-test.true (up ∙ last_is) c.swap-in-loop-i.ensures.by_index c.swap-in-loop-i.ensures.items;
-      capacity = c.swap-in-loop-i.ensures.capacity ∙ c.loop-i.invariant.capacity;
+      removing = Removing-step ps n c.count_upto-first.result c.loop-i.i c.loop-i.hole (c.place_or-last.result - 1) c.args.row.now _ c.loop-i.rows.items c.ripple_swap-in-loop-i.new.self.items
+          s c.loop-i-test.true (up ∙ last_is) c.ripple_swap-in-loop-i.ensures.by_index c.ripple_swap-in-loop-i.ensures.items;
+      capacity = c.ripple_swap-in-loop-i.ensures.capacity ∙ c.loop-i.invariant.capacity;
     }
 
 pub shift-requires-clause-low : goal.shift-requires-clause-low

@@ -1,30 +1,22 @@
-use Rattle.std.proofs.Common.{◌≡◌, ◌++◌, [], ℕ, ℤ, List, IsPermutation, length, take, drop, get_or, count_by, ap, sym, ◌∙◌, subst, arith}
+use Rattle.std.proofs.Common.{◌≡◌, ◌++◌, [], ℕ, ℤ, List, IsPermutation, get_or, count_by, ap, sym, ◌∙◌, subst, arith}
 use Rattle.std.proofs.lemmas.List.{append-nil}
 use Rattle.ripple_column.specs.Cuts.{values, cut_values, new_values, IsUncracked}
 use Rattle.ripple_column.proofs.Counts.{count_moved}
-use Rattle.ripple_column.proofs.Values.{new_values-nil, written_whole}
+use Rattle.ripple_column.proofs.Values.{new_values-nil}
 use Rattle.ripple_column.proofs.select.select_between.Goals as goal
 
 pub returns-clause-part : goal.returns-clause-part
 returns-clause-part g c p =
     let merged = c.merge_range.new.rows.items in
-    let cracked = c.crack_between.new.rows in
-    let value = c.deref_mut.ensures.value in
-    let whole : take c.merge_range.new.rows.len (cracked ++ drop (length cracked) merged) ≡ cracked =
-    written_whole c.merge_range.new.rows.len merged cracked (omega arith) (c.crack_between.auto.rows ∙ ap length value) in
-    let moved : count_by p cracked ≡ count_by p merged = count_moved p merged cracked (rw value at c.crack_between.ensures.rows) in
-    rw whole (omega (arith, moved, c.merge_range.ensures.part p))
+    let moved = count_moved p merged c.crack_between.new.rows.items c.crack_between.ensures.rows in
+    omega (arith, moved, c.merge_range.ensures.part p)
 
 pub returns-clause-content : goal.returns-clause-content
 returns-clause-content g c p =
     let merged = c.merge_range.new.rows.items in
-    let cracked = c.crack_between.new.rows in
-    let value = c.deref_mut.ensures.value in
-    let whole : take c.merge_range.new.rows.len (cracked ++ drop (length cracked) merged) ≡ cracked =
-    written_whole c.merge_range.new.rows.len merged cracked (omega arith) (c.crack_between.auto.rows ∙ ap length value) in
-    let moved : count_by p cracked ≡ count_by p merged = count_moved p merged cracked (rw value at c.crack_between.ensures.rows) in
+    let moved = count_moved p merged c.crack_between.new.rows.items c.crack_between.ensures.rows in
     let old : count_by p c.make_room.new.rows.items ≡ count_by p c.args.rows.now.items = ap (λ (xs : List (ℤ × List ℕ)). count_by p xs) c.make_room.ensures.rows in
-    rw whole (omega (arith, moved, old, c.merge_range.ensures.content p))
+    omega (arith, moved, old, c.merge_range.ensures.content p)
 
 pub returns-clause-values_kept : goal.returns-clause-values_kept
 returns-clause-values_kept g c order fit =
@@ -41,14 +33,9 @@ returns-clause-values_cleared g c order over =
 
 pub returns-clause-still : goal.returns-clause-still
 returns-clause-still g c fit none_inserted none_deleted k d outside_first outside_second =
-    let merged = c.merge_range.new.rows.items in
-    let cracked = c.crack_between.new.rows in
-    let value = c.deref_mut.ensures.value in
-    let whole : take c.merge_range.new.rows.len (cracked ++ drop (length cracked) merged) ≡ cracked =
-    written_whole c.merge_range.new.rows.len merged cracked (omega arith) (c.crack_between.auto.rows ∙ ap length value) in
     let same : c.merge_range.new.pivots.list ≡ c.args.pivots.now.list = c.merge_range.ensures.still_pivots none_deleted none_inserted ∙ c.in_ok-make_room.ensures.kept fit in
-    let rows : c.deref_mut.result.now ≡ c.args.rows.now.items = value ∙ c.merge_range.ensures.still_rows none_deleted none_inserted ∙ c.make_room.ensures.rows in
+    let rows : c.merge_range.new.rows.items ≡ c.args.rows.now.items = c.merge_range.ensures.still_rows none_deleted none_inserted ∙ c.make_room.ensures.rows in
     let first' = subst (λ ps. IsUncracked c.args.first.now ps k) (sym same) outside_first in
     let second' = subst (λ ps. IsUncracked c.args.second.now ps k) (sym same) outside_second in
     let still = c.crack_between.ensures.still k d first' second' in
-    rw whole (still ∙ ap (λ (xs : List (ℤ × List ℕ)). get_or xs k d) rows)
+    still ∙ ap (λ (xs : List (ℤ × List ℕ)). get_or xs k d) rows
