@@ -1,7 +1,7 @@
 //! The column.
 
 ghost use Rattle.std.specs.Prelude.{◌≡◌, ◌+◌, ◌<◌, ◌≤◌, ℕ, [], ◌∷◌, true, false, length, count_by, slice_range, IfOk, IfSome, OnOk, OnErr};
-ghost use Rattle.crack_kernel.specs.Bags.{Test};
+ghost use Rattle.crack_kernel.specs.Bags.{IsSubBag, Test};
 ghost use Rattle.crack_kernel.specs.PivotList.{ObeysPivots};
 ghost use Rattle.ripple_column.specs.Answers.{AddsCuts, HoldsRange, IsAnswer, StandsStill, low_cut, high_cut, pivots_with_cuts};
 ghost use Rattle.ripple_column.specs.Content.{HasRow, IsUnchanged, NoneIn, Pends, SameContent, SameOutside, content_count, most_pending};
@@ -10,7 +10,7 @@ ghost use Rattle.ripple_column.specs.Cuts.{is_before, values};
 use crate::cuts::is_before;
 use crate::marks::ScoreMarks;
 use crate::merge::merge_all;
-use crate::pending::{pend, reserve_write};
+use crate::pending::{MAX_PENDING, pend, reserve_write};
 use crate::rows::Rows;
 use crate::select::{select_between, settled_places};
 use crack_kernel::{Pivots, Row};
@@ -69,10 +69,14 @@ impl<A: Allocator + Copy> Column<A> {
         self.rows.len()
     }
 
-    /// How many insertions and how many deletions wait.
+    /// How many insertions and how many deletions wait: at most 2,048 of each. The rows that wait to
+    /// be deleted stand in the column.
     pub fn pending(&self) -> (usize, usize)
         ensures insertions { result.0 ≡ length self.now.insertions }
         ensures deletions { result.1 ≡ length self.now.deletions }
+        ensures few_insertions { length self.now.insertions ≤ MAX_PENDING }
+        ensures few_deletions { length self.now.deletions ≤ MAX_PENDING }
+        ensures part { IsSubBag self.now.deletions self.now.rows }
     {
         (self.insertions.len(), self.deletions.len())
     }

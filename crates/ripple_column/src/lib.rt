@@ -20,6 +20,7 @@ mod rows;
 mod select;
 
 pub use column::Column;
+pub use pending::MAX_PENDING;
 
 #[cfg(test)]
 mod merge_tests;

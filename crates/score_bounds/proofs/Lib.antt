@@ -2,3 +2,4 @@ mod Numerals
 mod Cuts
 mod Points
 mod Grammar
+mod BoundGrammar

@@ -1,8 +1,8 @@
 -- Bounds and ranges of scores as the command page of ZRANGEBYSCORE has them, and the cuts of Database Cracking (CIDR 2007) that part a column at a range.
-use Rattle.std.specs.Prelude.{ℕ, Bool, true, false, not, ◌&&◌, ◌||◌, ◌==◌, if◌then◌else◌, codes, List, drop, slice_index, ℤ, pos, ◌+ℤ◌, int_lt, Option, Some, option_map, option_and_then}
+use Rattle.std.specs.Prelude.{◌≡◌, ◌⊎◌, ◌++◌, [], ℕ, Bool, true, false, not, ◌&&◌, ◌||◌, ◌==◌, if◌then◌else◌, codes, List, drop, slice_index, ℤ, pos, ◌+ℤ◌, int_lt, Option, Some, option_map, option_and_then}
 use Rattle.std.specs.Ordering.{int_eq}
 use Rattle.std.specs.Str.{str_eq_ignore_ascii_case}
-use Rattle.score_bounds.specs.Scores.{score_value, greatest}
+use Rattle.score_bounds.specs.Scores.{score_value, greatest, SpellsScore}
 use Rattle.score_bounds.specs.declared.bounds.Bound.{Bound}
 use Rattle.score_bounds.specs.declared.bounds.Bound.TheVariants.{NegInf, Incl, Excl, PosInf}
 use Rattle.score_bounds.specs.declared.bounds.Range.{Range}
@@ -70,3 +70,33 @@ bound_value text = if slice_index text 0 == 40 then end_value true (drop 1 text)
 unfoldable pub range_value : List ℕ → List ℕ → Option Range
 range_value min max =
     option_and_then (λ low. option_map (λ high. record { min = low; max = high }) (bound_value max)) (bound_value min)
+
+-- a text is a word, in letters of either case
+abbrev pub IsWord : List ℕ → List ℕ → Type 0
+IsWord text word = str_eq_ignore_ascii_case text word ≡ true
+
+-- '(' leaves a score out of the range, and nothing keeps it in
+abbrev pub IsMark : List ℕ → Bool → Type 0
+IsMark text true = text ≡ codes "("
+IsMark text false = text ≡ []
+
+-- the grammar of what may stand behind the mark: an infinity or a score
+abbrev pub SpellsEnd : Bool → List ℕ → Bound → Type 0
+SpellsEnd is_exclusive text NegInf = IsWord text (codes "-inf")
+SpellsEnd is_exclusive text (Incl score) = (is_exclusive ≡ false) × SpellsScore text score
+SpellsEnd is_exclusive text (Excl score) = (is_exclusive ≡ true) × SpellsScore text score
+SpellsEnd is_exclusive text PosInf = IsWord text (codes "inf") ⊎ IsWord text (codes "+inf")
+
+-- the grammar of a bound's text: a mark, and an infinity or a score
+pub record SpellsBound (text : List ℕ) (bound : Bound) : Type 0 where
+  pub mark : List ℕ
+  pub end : List ℕ
+  pub is_exclusive : Bool
+  pub parts : text ≡ mark ++ end
+  pub marked : IsMark mark is_exclusive
+  pub ends : SpellsEnd is_exclusive end bound
+
+-- the texts of a range: those of its two bounds
+pub record SpellsRange (min max : List ℕ) (range : Range) : Type 0 where
+  pub low : SpellsBound min range.min
+  pub high : SpellsBound max range.max

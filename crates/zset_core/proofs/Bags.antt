@@ -1,5 +1,5 @@
 -- The pairs of a set as a bag: what each change of a set does to it.
-use Rattle.std.proofs.Common.{◌≡◌, ℕ, ◌+◌, ◌≤◌, ℤ, Bool, true, false, cond, ◌&&◌, List, [], ◌∷◌, ◌++◌, length, length-append, count_by, Option, None, Some, refl, sym, ap, subst, ◌∙◌, arith}
+use Rattle.std.proofs.Common.{◌≡◌, ℕ, ◌+◌, ◌-◌, ◌≤◌, ℤ, Bool, true, false, cond, ◌&&◌, List, [], ◌∷◌, ◌++◌, length, length-append, count_by, Option, None, Some, refl, sym, ap, subst, ◌∙◌, arith}
 use Rattle.std.specs.Prelude.{T}
 use Rattle.std.specs.Ordering.{is_lt, is_eq, eq_by_cmp}
 use Rattle.std.specs.declared.cmp.Ordering.{Ordering}
@@ -9,11 +9,12 @@ use Rattle.std.specs.FinMap.{find, put, is_sorted}
 use Rattle.std.specs.FinMap.Entries.{below_all}
 use Rattle.std.specs.Cmp.Lexicographic.{bytes_decides}
 use Rattle.std.proofs.lemmas.Map.Text.{is_eq-slice_cmp}
+use Rattle.std.proofs.lemmas.List.{length-map}
 use Rattle.std.proofs.lemmas.List.Sums.{sum_by-cons}
 use Rattle.crack_kernel.specs.Bags.{Test}
-use Rattle.ripple_column.proofs.Counts.{count_push}
+use Rattle.ripple_column.proofs.Counts.{count_all, count_push}
 use Rattle.zset_core.specs.Sets.{Members, Pair, bytes_cmp, pairs}
-use Rattle.zset_core.specs.Edited.{IsFew, Notes, Turns}
+use Rattle.zset_core.specs.Edited.{HasAtMost, IsFew, Notes, Turns}
 use Rattle.zset_core.specs.declared.edits.Edits.{Edits}
 use Rattle.zset_core.proofs.Bridge.{total, exact}
 use Rattle.zset_core.proofs.Order.{swapped}
@@ -114,6 +115,11 @@ count_remove p m k = by (fin.get m k) refl
         at q true e = sym (ap (fin.get m) (eq_is q k (bytes_cmp q k) refl e) ∙ there)
         at q false e = refl
 
+-- a set has as many pairs as members
+pub count_pairs : (m : Members) → count_by (λ r. true) (pairs m) ≡ fin.len m
+unfolding pairs
+count_pairs m = count_all (pairs m) ∙ length-map (fin.entries m) (λ (e : List ℕ × ℤ). (e.1, e.0)) ∙ sym (fin.len-entries m)
+
 module _ {A : Type 0} where
   -- nothing noted
   pub Notes-none : (m : Members) (e : Edits A) → Notes 0 m m e e
@@ -166,6 +172,21 @@ module _ {A : Type 0} where
       let a = ap (λ (m : Members). count_by p (pairs m)) first in
       let b = ap (λ (m : Members). count_by p (pairs m)) last in
       omega (arith, a, b, Turns-noted most old new e f none nothing n p)
+
+  pub HasAtMost-noted : (most : ℕ) (old new : Members) (e f : Edits A) → e.coming.items ≡ [] → e.leaving.items ≡ [] → Notes most old new e f → HasAtMost most f
+  HasAtMost-noted most old new e f none nothing n = record { coming = omega (arith, n.coming, ap length none); leaving = omega (arith, n.leaving, ap length nothing) }
+
+  pub HasAtMost-none : (e : Edits A) → e.coming.items ≡ [] → e.leaving.items ≡ [] → HasAtMost 0 e
+  HasAtMost-none e none nothing = record { coming = omega (arith, ap length none); leaving = omega (arith, ap length nothing) }
+
+  -- where no row comes in, as many leave as there are members less
+  pub HasAtMost-gone : (old new : Members) (e : Edits A) → e.coming.items ≡ [] → Turns old new e.coming.items e.leaving.items → HasAtMost (fin.len old - fin.len new) e
+  HasAtMost-gone old new e none turns =
+      let all = turns (λ r. true) in
+      let nothing : length e.coming.items ≡ 0 = ap length none in record {
+        coming = omega (arith, nothing);
+        leaving = omega (arith, nothing, all, count_pairs old, count_pairs new, count_all e.coming.items, count_all e.leaving.items);
+      }
 
   pub IsFew-noted : (most : ℕ) (old new : Members) (e f : Edits A) → e.coming.items ≡ [] → e.leaving.items ≡ [] → most ≤ 1027 → Notes most old new e f → IsFew f
   IsFew-noted most old new e f none nothing few n = record { coming = omega (arith, n.coming, ap length none); leaving = omega (arith, n.leaving, ap length nothing) }

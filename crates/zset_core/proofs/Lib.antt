@@ -18,6 +18,7 @@ mod Pairs
 mod Adding
 pub mod Asked
 mod ReadingLaws
+mod ListingLaws
 pub mod OwnerViews
 pub mod Bounds
 pub mod OwnerBounds

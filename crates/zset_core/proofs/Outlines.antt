@@ -1,5 +1,5 @@
 -- Counting members that come in and leave.
-use Rattle.std.proofs.Common.{◌≡◌, ◌≢◌, ◌↔◌, IsTrue, ℕ, ◌+◌, ◌-◌, ◌<◌, ◌≤◌, ◌||◌, ◌&&◌, ℤ, Bool, true, false, cond, not, nat_eq, nat_lt, List, [], ◌∷◌, length, take, drop, suc, slice_get, get_or, Option, None, Some, option_map, is_some, IfSome, refl, sym, ap, subst, ◌∙◌, arith, true≢false, drop-cons, add-one}
+use Rattle.std.proofs.Common.{◌≡◌, ◌≢◌, ◌↔◌, IsTrue, ℕ, ◌+◌, ◌-◌, ◌<◌, ◌≤◌, ◌||◌, ◌&&◌, inl, inr, ℤ, Bool, true, false, cond, not, nat_eq, nat_lt, List, [], ◌∷◌, length, take, drop, suc, slice_get, get_or, Option, None, Some, option_map, is_some, IfSome, refl, sym, ap, subst, ◌∙◌, arith, true≢false, drop-cons, add-one}
 use Rattle.std.specs.Prelude.{T}
 use Rattle.std.specs.List.{AllByRecursion, IsDistinct, list_any, filter}
 use Rattle.std.specs.Map.{keys_of, values_of}
@@ -182,6 +182,8 @@ nothing_outline m = record {
   added = missing_none m m (λ q there. there);
   removed = missing_none m m (λ q there. there);
   changed = (λ h. absurd (true≢false (sym h)), λ ne. absurd (ne refl));
+  sums = refl;
+  one_way = inl refl;
 }
 
 -- members leave
@@ -191,6 +193,8 @@ removed_outline m n count within rest none = record {
   added = missing_none m n within;
   removed = same (missing n m) (missing_within n m within);
   changed = by (nat_lt 0 count) refl;
+  sums = omega (arith, rest);
+  one_way = inl refl;
 }
   where
     same : (k : ℕ) → k + fin.len n ≡ fin.len m → count ≡ k
@@ -266,8 +270,13 @@ module _ {A : Type 0} where
         (missing_within (before es kept) (members_by next es) (still_there es kept)) (len_before es kept apart le) (len_members next es apart);
     removed = missing_none (members_by next es) (before es kept) (still_there es kept);
     changed = by changed other same;
+    sums = more (fin.len (before es kept)) (fin.len (members_by next es)) (len_before es kept apart le) (len_members next es apart);
+    one_way = inr refl;
   }
     where
+      more : (a b : ℕ) → a ≡ kept → b ≡ length es → b + 0 ≡ a + added
+      more a b i j = omega arith
+
       count_of : (m a b : ℕ) → m + a ≡ b → a ≡ kept → b ≡ length es → added ≡ m
       count_of m a b h i j = omega arith
 

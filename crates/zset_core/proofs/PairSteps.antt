@@ -45,3 +45,14 @@ counted_one ch Added = omega arith
 counted_one true Changed = omega arith
 counted_one false Changed = omega arith
 counted_one ch Same = omega arith
+
+-- no more pairs are counted than there are
+pub count_all-few : (f : Flags) (ch : Bool) (m : Members) (ps : List Pair) → count_all f ch m ps ≤ length ps
+count_all-few f ch m [] = omega arith
+count_all-few f ch m (p ∷ ps) = omega (arith, counted_one ch (outcome_of f (fin.get m p.1) p.0), count_all-few f ch (put_one f m p.1 p.0) ps)
+
+pub length_scored : (ss : List ℤ) (ws : List (List ℕ)) → length (scored ss ws) ≤ length ss
+length_scored [] ws = omega arith
+length_scored (s ∷ ss) [] = omega arith
+length_scored (s ∷ ss) (t ∷ []) = omega arith
+length_scored (s ∷ ss) (t ∷ m ∷ ws) = omega (arith, length_scored ss ws)

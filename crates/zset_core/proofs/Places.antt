@@ -68,14 +68,14 @@ module _ {A : Type 0} where
   members_kept es c None v is = sym (ap (λ w. w.members) is) ∙ ap (λ (l : List (Entry A)). members_by held l) (sym (take-length es))
   members_kept es c (Some q) v is = sym (ap (λ w. w.members) is) ∙ ap (λ (rows : List (List ℕ × ℤ)). fin.from_entries rows) (sym (rows_take held q.plan.kept es))
 
+  pub kept_within : (es : List (Entry A)) (p : Option (Prepared A)) (c : ColumnState) → IsSound es c p → kept_of es p ≤ length es
+  kept_within es None c s = omega arith
+  kept_within es (Some q) c s = s.kept
+
   pub len_kept : (es : List (Entry A)) (c : ColumnState) (p : Option (Prepared A)) (v : SetView) → view_of es c p ≡ v → IsSound es c p → IsDistinct same_bytes (keys_of es) → kept_of es p ≡ fin.len v.members
   len_kept es c p v is sound apart =
       let apart_front : IsDistinct same_bytes (keys_of (take (kept_of es p) es)) = subst (IsDistinct same_bytes) (sym (keys_of-take (kept_of es p) es)) (distinct-take same_equiv (kept_of es p) (keys_of es) apart) in
-      sym (ap fin.len (members_kept es c p v is) ∙ len_members held (take (kept_of es p) es) apart_front ∙ length_take (kept_of es p) es (within es p c sound))
-    where
-      within : (es : List (Entry A)) (p : Option (Prepared A)) (c : ColumnState) → IsSound es c p → kept_of es p ≤ length es
-      within es None c s = omega arith
-      within es (Some q) c s = s.kept
+      sym (ap fin.len (members_kept es c p v is) ∙ len_members held (take (kept_of es p) es) apart_front ∙ length_take (kept_of es p) es (kept_within es p c sound))
 
   pub score_kept : (es : List (Entry A)) (c : ColumnState) (p : Option (Prepared A)) (v : SetView) (q : List ℕ) (n : ℕ) → view_of es c p ≡ v → n ≡ kept_of es p → option_map held (slot_at (take n es) q) ≡ fin.get v.members q
   score_kept es c p v q n is at = sym (get_members held (take n es) q) ∙ ap (λ k. fin.get (members_by held (take k es)) q) at ∙ sym (ap (λ m. fin.get m q) (members_kept es c p v is))

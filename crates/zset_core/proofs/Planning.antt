@@ -1,17 +1,22 @@
 -- What a set keeps of its column as it prepares a command.
-use Rattle.std.proofs.Common.{◌≡◌, ℕ, ℤ, List, [], ◌∷◌, map, length, take, count_by, Option, None, Some, refl, sym, ap, subst, ◌∙◌, arith}
+use Rattle.std.proofs.Common.{◌≡◌, ◌≤◌, ◌+◌, inl, inr, max, true, ℕ, ℤ, List, [], ◌∷◌, map, length, take, count_by, Option, None, Some, refl, sym, ap, subst, ◌∙◌, arith}
 use Rattle.std.specs.FinMap as fin
 use Rattle.resp_wire.specs.Response.{Response}
-use Rattle.ripple_column.specs.Content.{ColumnState, Holds, SameContent}
+use Rattle.ripple_column.specs.Content.{ColumnState, Holds, SameContent, IsUnchanged, most_pending}
 use Rattle.zset_core.specs.Sets.{Members, pairs}
 use Rattle.zset_core.specs.Kept.{Entry, held, rows_by, members_by, IsBack, IsSettled}
-use Rattle.zset_core.specs.Edited.{HasRoom}
+use Rattle.zset_core.specs.Edited.{HasAtMost, HasRoom, most_edits}
 use Rattle.zset_core.specs.Planned.{Plans, Prepares, left_by}
 use Rattle.zset_core.specs.Outlined.{IsOutline}
+use Rattle.zset_core.specs.Columns.{edit_count}
+use Rattle.zset_core.specs.Meaning.{Meaning}
 use Rattle.zset_core.specs.View.{SetView, Next}
 use Rattle.zset_core.specs.Viewed.{view_of, next_of, IsIdle, IsPlanned, IsSound}
 use Rattle.zset_core.specs.declared.plan.Plan.{Plan}
 use Rattle.zset_core.specs.declared.set.Prepared.{Prepared}
+use Rattle.zset_core.specs.declared.edits.Edits.{Edits}
+use Rattle.ripple_column.proofs.Counts.{count_all}
+use Rattle.zset_core.proofs.Bags.{count_pairs}
 
 not_none : (n : Next) → ◌≡◌ {A = Option Next} (Some n) None → ⊥
 not_none n e = cc
@@ -50,6 +55,23 @@ module _ {A : Type 0} where
   outline_left old new plan o m is h =
       let p = (Prepares-some old new plan o h).1 in
       subst (λ (k : Members). IsOutline plan.outline k (left_by new plan)) is (subst (IsOutline plan.outline (members_by held old)) (sym p.members_are) p.outline_is)
+
+  -- no more members come in than there are edits
+  pub few_added : (old new : List (Entry A)) (plan : Plan A) (o : Option (Members × Response)) → Plans old new plan o → plan.outline.added ≤ most_edits
+  few_added old new plan o h =
+      let s = Prepares-some old new plan o h in
+      let p = s.1 in
+      let bag = p.edits_are (λ r. true) in
+      let a = count_pairs (members_by held old) in
+      let b = count_pairs s.0.0 in
+      elim p.outline_is.one_way [
+        | inl none ↦ omega (arith, none)
+        | inr none ↦ omega (arith, none, p.outline_is.sums, bag, a, b, count_all plan.edits.coming.items, count_all plan.edits.leaving.items, p.few_edits.coming)
+      ]
+
+  -- a column with room for so many edits has room for these
+  pub room_fits : (old new : ColumnState) (edits : Edits A) (n : ℕ) → HasAtMost n edits → (most_pending old + max (length edits.coming.items) (length edits.leaving.items) ≤ 2048 → IsUnchanged old new) → most_pending old + n ≤ 2048 → IsUnchanged old new
+  room_fits old new edits n most still fits = still (omega (arith, most.coming, most.leaving, fits))
 
   pub column_shown : (es : List (Entry A)) (c : ColumnState) (p : Option (Prepared A)) (v : SetView) → view_of es c p ≡ v → c ≡ v.column
   column_shown es c None v is = ap (λ (w : SetView). w.column) is
@@ -94,6 +116,12 @@ module _ {A : Type 0} where
     settled = settled;
     content = λ t. p.content t ∙ ap (λ (rows : List (List ℕ × ℤ)). count_by t (pairs (fin.from_entries rows))) (sym is);
   }
+
+-- the same of the column and the members that show
+pub still_shown : (a b new : ColumnState) (m n : Members) (meaning : Meaning) → a ≡ b → m ≡ n → (most_pending a + edit_count m meaning ≤ 2048 → IsUnchanged a new) → most_pending b + edit_count n meaning ≤ 2048 → IsUnchanged b new
+still_shown a b new m n meaning columns sets still =
+    subst (λ (c : ColumnState). most_pending c + edit_count n meaning ≤ 2048 → IsUnchanged c new) columns
+    (subst (λ (k : Members). most_pending a + edit_count k meaning ≤ 2048 → IsUnchanged a new) sets still)
 
 empty_list : {X : Type 0} (xs : List X) → length xs ≡ 0 → xs ≡ []
 empty_list [] h = refl

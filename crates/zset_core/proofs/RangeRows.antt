@@ -1,5 +1,5 @@
 -- The rows of a range of a column: in the order of a listing they are the listing.
-use Rattle.std.proofs.Common.{◌≡◌, ℕ, ◌+◌, ◌<◌, ◌≤◌, ℤ, Bool, true, false, cond, nat_lt, ◌&&◌, ◌||◌, List, [], ◌∷◌, filter, length, count_by, pos, Option, Some, Result, Ok, Err, IfOk, refl, sym, ap, ◌∙◌, arith}
+use Rattle.std.proofs.Common.{◌≡◌, ℕ, ◌+◌, ◌<◌, ◌≤◌, ℤ, Bool, true, false, cond, nat_lt, ◌&&◌, ◌||◌, List, [], ◌∷◌, filter, length, count_by, pos, Option, Some, Result, Ok, Err, IfOk, OnOk, OnErr, refl, sym, ap, subst, ◌∙◌, arith}
 use Rattle.std.proofs.lemmas.List.{length-map}
 use Rattle.std.specs.Prelude.{slice_range}
 use Rattle.std.specs.List.{AllByRecursion, IsDistinct, list_any}
@@ -15,6 +15,7 @@ use Rattle.ripple_column.specs.Answers.{HoldsRange}
 use Rattle.ripple_column.proofs.Counts.{count_all}
 use Rattle.zset_core.specs.Sets.{Members, Pair, pair_cmp, pairs, marks, listing}
 use Rattle.resp_wire.specs.Response.{Response, Integer, Array}
+use Rattle.zset_core.specs.Columns.{Reads, Selects}
 use Rattle.zset_core.specs.Meaning.{Meaning, Count, ListRange}
 use Rattle.zset_core.specs.Step.{step, elements, limited}
 use Rattle.zset_core.specs.declared.limit.Limit.{Limit}
@@ -113,3 +114,18 @@ IfOk-all (Err e) all h = tt
 -- a column of the same content
 pub Holds-same : (c c' : ColumnState) (m : Members) → SameContent c c' → Holds c (pairs m) → Holds c' (pairs m)
 Holds-same c c' m same holds p = same p ∙ holds p
+
+-- what a query of a range does to the column
+pub Reads-count : (old new : ColumnState) (meaning : Meaning) (key : List ℕ) (range : Range) → meaning ≡ Count key range → Selects range old new → Reads meaning old new
+Reads-count old new meaning key range is selects = subst (λ (m : Meaning). Reads m old new) (sym is) selects
+
+pub Reads-list : (old new : ColumnState) (meaning : Meaning) (key : List ℕ) (range : Range) (with_scores : Bool) (limit : Option Limit) → meaning ≡ ListRange key range with_scores limit → Selects range old new → Reads meaning old new
+Reads-list old new meaning key range with_scores limit is selects = subst (λ (m : Meaning). Reads m old new) (sym is) selects
+
+pub OnOk-any : {X E : Type 0} (r : Result X E) (P : Type 0) → P → OnOk r P
+OnOk-any (Ok x) P h = h
+OnOk-any (Err e) P h = tt
+
+pub OnErr-any : {X E : Type 0} (r : Result X E) (P : Type 0) → P → OnErr r P
+OnErr-any (Ok x) P h = tt
+OnErr-any (Err e) P h = h

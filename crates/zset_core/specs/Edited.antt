@@ -16,6 +16,11 @@ pub record Notes {A : Type 0} (most : ℕ) (old new : Members) (before after : E
   pub coming : length after.coming.items ≤ length before.coming.items + most
   pub leaving : length after.leaving.items ≤ length before.leaving.items + most
 
+-- at most this number of edits of each kind
+pub record HasAtMost {A : Type 0} (most : ℕ) (edits : Edits A) : Type 0 where
+  pub coming : length edits.coming.items ≤ most
+  pub leaving : length edits.leaving.items ≤ most
+
 -- no command makes more edits of one kind than a request has words
 abbrev pub most_edits : ℕ
 most_edits = 1027

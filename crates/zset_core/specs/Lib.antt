@@ -14,6 +14,7 @@ pub mod Windows
 pub mod Owned
 pub mod Edited
 pub mod Readied
+pub mod Columns
 pub mod Outlined
 pub mod Asking
 pub mod Reading

@@ -1,6 +1,7 @@
 -- Sorted sets: finite maps from members to scores, and the listing of a range of scores.
-use Rattle.std.specs.Prelude.{ℕ, Bool, true, ℤ, List, map}
+use Rattle.std.specs.Prelude.{◌≡◌, ◌<ℤ◌, ◌⊎◌, ℕ, Bool, true, ℤ, List, map}
 use Rattle.std.specs.declared.cmp.Ordering.{Ordering}
+use Rattle.std.specs.declared.cmp.Ordering.TheVariants.{Less}
 use Rattle.std.specs.List.{filter}
 use Rattle.std.specs.Ordering.{nat_cmp, int_cmp, ordering_then}
 use Rattle.std.specs.Cmp.Lexicographic.{slice_cmp}
@@ -34,6 +35,10 @@ marks ps = map (λ p. (p, tt)) ps
 -- the pairs whose score passes a test, once each, in the order of a listing: the keys of the finite map that has them as its keys
 unfoldable pub listing : (ℤ → Bool) → Members → List Pair
 listing test members = fin.keys (fin.from_entries {R = pair_cmp} (marks (filter (λ p. test p.0) (pairs members))))
+
+-- a pair stands before another: its score is lower, or it is the same and the member's bytes are
+abbrev pub IsListedBefore : Pair → Pair → Type 0
+IsListedBefore a b = (a.0 <ℤ b.0) ⊎ ((a.0 ≡ b.0) × (bytes_cmp a.1 b.1 ≡ Less))
 
 -- the listing of all scores
 abbrev pub whole : Members → List Pair

@@ -1,11 +1,12 @@
 //! Commands that read a set.
-ghost use Rattle.std.specs.Prelude.{◌≡◌, ◌≤◌, ◌↔◌, ℤ, pos, Bool, Some, None, false, length, filter, slice_get, slice_range, IfOk, IfSome, IsSome, OnOk};
+ghost use Rattle.std.specs.Prelude.{◌≡◌, ◌≤◌, ◌↔◌, ◌⊎◌, ℤ, pos, Bool, Some, None, false, length, filter, slice_get, slice_range, IfOk, IfSome, IsSome, OnErr, OnOk};
 ghost use Rattle.std.specs.FinMap as map;
 ghost use Rattle.crack_kernel.specs.Bags.{SameBag};
 ghost use Rattle.resp_wire.specs.Response.{Array, Integer, response_of};
-ghost use Rattle.ripple_column.specs.Content.{Holds, SameContent};
+ghost use Rattle.ripple_column.specs.Content.{Holds, IsUnchanged, SameContent};
 ghost use Rattle.zset_core.specs.Meaning as Meanings;
 ghost use Rattle.zset_core.specs.Meaning.{is_writing, key_of};
+ghost use Rattle.zset_core.specs.Columns.{Reads};
 ghost use Rattle.zset_core.specs.Readied.{IsReadyFor};
 ghost use Rattle.zset_core.specs.Sets.{Members, listing, pairs};
 ghost use Rattle.zset_core.specs.Step.{elements, limited, step};
@@ -37,6 +38,9 @@ pub fn answer_from<H: BuildHasher, A: Allocator + Copy>(
     requires content { Holds column.old (pairs (members_by held members.now.entries)) }
     ensures content { SameContent column.old column.new }
     ensures ready { OnOk result (IsReadyFor column.new command.now.meaning) }
+    ensures column { OnOk result (Reads command.now.meaning column.old column.new) }
+    ensures refused { OnErr result (IsUnchanged column.old column.new
+        ⊎ Reads command.now.meaning column.old column.new) }
     ensures reply { IfOk result (λ reply. step (members_by held members.now.entries)
         command.now.meaning ≡ Some (members_by held members.now.entries, response_of reply)) }
 {

@@ -62,6 +62,8 @@ fn insert_all<A: Allocator + Copy>(column: &mut Column<A>, mut rows: Vec<Row<A>,
     ensures content { (p : Test) → content_count p column.new ≡ content_count p column.old
         + count_by p rows.items }
     ensures spare { column.old.delete_spare ≤ column.new.delete_spare }
+    ensures rows { column.new.rows ≡ column.old.rows }
+    ensures pivots { column.new.pivots ≡ column.old.pivots }
 {
     while let Some(row) = rows.pop() {
         column.insert(row);
@@ -74,6 +76,8 @@ fn delete_all<A: Allocator + Copy>(column: &mut Column<A>, mut rows: Vec<Row<A>,
     requires there { (p : Test) → count_by p rows.items ≤ content_count p column.old }
     ensures content { (p : Test) → content_count p column.old ≡ content_count p column.new
         + count_by p rows.items }
+    ensures rows { column.new.rows ≡ column.old.rows }
+    ensures pivots { column.new.pivots ≡ column.old.pivots }
 {
     while let Some(row) = rows.pop() {
         column.delete(row);
@@ -87,8 +91,10 @@ pub fn make_edits<A: Allocator + Copy>(column: &mut Column<A>, edits: Edits<A>)
     requires leaving { length edits.leaving.items ≤ column.old.delete_spare }
     requires there { (p : Test) → count_by p edits.leaving.items ≤ content_count p column.old
         + count_by p edits.coming.items }
-    ensures { (p : Test) → content_count p column.new + count_by p edits.leaving.items
+    ensures content { (p : Test) → content_count p column.new + count_by p edits.leaving.items
         ≡ content_count p column.old + count_by p edits.coming.items }
+    ensures rows { column.new.rows ≡ column.old.rows }
+    ensures pivots { column.new.pivots ≡ column.old.pivots }
 {
     insert_all(column, edits.coming);
     delete_all(column, edits.leaving);

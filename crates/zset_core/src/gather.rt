@@ -34,6 +34,7 @@ fn gather_one<H: BuildHasher, A: Allocator + Copy>(
         (remove_all (members_by held members.now.entries) (bytes_of gathered.old.items))
         (remove_all (members_by held members.now.entries) (bytes_of gathered.new.items)) edits.old
         edits.new) }
+    ensures coming { edits.new.coming.items ≡ edits.old.coming.items }
 {
     match find_slot(members, name) {
         None => Ok(()),
@@ -61,6 +62,7 @@ pub fn gather<H: BuildHasher, A: Allocator + Copy>(
         ≡ map.len (members_by held members.now.entries)) }
     ensures edits { OnOk result (Notes (length names.now) (members_by held members.now.entries)
         (remove_all (members_by held members.now.entries) names.now) edits.old edits.new) }
+    ensures coming { OnOk result (edits.new.coming.items ≡ edits.old.coming.items) }
 {
     let mut gathered = Vec::new(alloc);
     let mut seen = BTreeSet::new(alloc);

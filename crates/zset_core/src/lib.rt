@@ -9,6 +9,7 @@ mod form;
 mod gather;
 mod limit;
 mod listing;
+pub mod listing_laws;
 mod name;
 mod outline;
 mod owner;
@@ -31,10 +32,3 @@ pub use owner::OneOwner;
 pub use pair::{Flags, Outcome};
 pub use refusal::Refusal;
 pub use set::ZSet;
-
-#[cfg(test)]
-mod column_tests;
-#[cfg(test)]
-mod reading_tests;
-#[cfg(test)]
-mod set_tests;

@@ -1,12 +1,14 @@
 //! What is prepared in a set, and how the plan for it is made.
-ghost use Rattle.std.specs.Prelude.{◌≡◌, ◌*◌, ◌-◌, ◌<◌, ◌≤◌, length, take, pos, IfOk, IfErr, OnOk, OnErr, IsTrue};
+ghost use Rattle.std.specs.Prelude.{◌≡◌, ◌+◌, ◌*◌, ◌-◌, ◌<◌, ◌≤◌, true, max, length, take, pos, IfOk, IfErr, OnOk, OnErr, IsTrue};
 ghost use Rattle.std.specs.FinMap as map;
 ghost use Rattle.resp_wire.specs.Response.{Integer, response_of};
-ghost use Rattle.zset_core.specs.Step.{outcome_of, put_one, put_all, count_all, remove_all, told, increase, step};
+ghost use Rattle.zset_core.specs.Columns.{edit_count, increase_edits};
+ghost use Rattle.zset_core.specs.Step.{counted, outcome_of, put_one, put_all, count_all, remove_all, told, increase, step};
 ghost use Rattle.zset_core.specs.Meaning.{is_writing};
 ghost use Rattle.zset_core.specs.Form.{scored};
-ghost use Rattle.ripple_column.specs.Content.{Holds, SameContent};
-ghost use Rattle.zset_core.specs.Edited.{HasRoom, IsFew, Notes, TurnsInto, most_edits};
+ghost use Rattle.ripple_column.specs.Content.{Holds, IsUnchanged, SameContent, most_pending};
+ghost use Rattle.ripple_column.specs.Cuts.{values};
+ghost use Rattle.zset_core.specs.Edited.{HasAtMost, HasRoom, IsFew, Notes, TurnsInto, most_edits};
 ghost use Rattle.zset_core.specs.Kept.{held, next, rows_by, members_by, IsSettled, IsBack, IsWaiting, Grows};
 ghost use Rattle.zset_core.specs.Sets.{pairs};
 ghost use Rattle.zset_core.specs.Planned.{Prepares, Plans, left_by};
@@ -24,7 +26,7 @@ use crate::stage::{roll_back, score_of, settle, stage_all, stage_one, take_out};
 use crate::told::{tell, tell_count};
 use indexmap::IndexMap;
 use resp_wire::{Bytes, Reply};
-use ripple_column::Column;
+use ripple_column::{Column, MAX_PENDING};
 use std::alloc::{AllocError, Allocator};
 use std::hash::BuildHasher;
 
@@ -59,6 +61,9 @@ pub fn plan_add<H: BuildHasher, A: Allocator + Copy>(
         (put_all flags (members_by held members.old.entries) (scored scores.now words.now))
         (Integer (pos (count_all flags changed (members_by held members.old.entries)
         (scored scores.now words.now))))) }
+    ensures edits { IfOk result
+        (λ plan. HasAtMost (count_all flags true (members_by held members.old.entries)
+        (scored scores.now words.now)) plan.edits) }
     ensures err { OnErr result (IsBack members.old.entries members.new.entries) }
 {
     let kept = members.len();
@@ -108,7 +113,9 @@ fn stage_told<H: BuildHasher, A: Allocator + Copy>(
         score) }
     ensures next { OnOk result (members_by next members.new.entries
         ≡ put_one flags (members_by next members.old.entries) member.now score) }
-    ensures edits { OnOk result (Notes 1 (members_by next members.old.entries)
+    ensures edits { OnOk result
+        (Notes (counted true (outcome_of flags (map.get (members_by next members.old.entries)
+        member.now) score)) (members_by next members.old.entries)
         (members_by next members.new.entries) edits.old edits.new) }
     ensures grows { Grows members.old.entries members.new.entries }
     ensures waiting { IsWaiting touched.new.items members.new.entries }
@@ -130,6 +137,9 @@ fn plan_score<H: BuildHasher, A: Allocator + Copy>(
         (put_one flags (members_by held members.old.entries) member.now score)
         (told (outcome_of flags (map.get (members_by held members.old.entries) member.now) score)
         score)) }
+    ensures edits { IfOk result
+        (λ plan. HasAtMost (counted true (outcome_of flags
+        (map.get (members_by held members.old.entries) member.now) score)) plan.edits) }
     ensures err { OnErr result (IsBack members.old.entries members.new.entries) }
 {
     let kept = members.len();
@@ -169,8 +179,9 @@ fn plan_nothing<H: BuildHasher, A: Allocator + Copy>(
     reply: Reply<A>,
 ) -> Plan<A>
     requires { IsSettled members.now.entries }
-    ensures { Prepares members.now.entries members.now.entries result
+    ensures plan { Prepares members.now.entries members.now.entries result
         (members_by held members.now.entries) (response_of reply) }
+    ensures edits { HasAtMost 0 result.edits }
 {
     Plan {
         kept: members.len(),
@@ -197,6 +208,9 @@ pub fn plan_increase<H: BuildHasher, A: Allocator + Copy>(
     requires { IsSettled members.old.entries }
     ensures ok { IfOk result (λ plan. Plans members.old.entries members.new.entries plan
         (increase flags (members_by held members.old.entries) member.now given)) }
+    ensures edits { IfOk result
+        (λ plan. HasAtMost (increase_edits flags (members_by held members.old.entries) member.now
+        given) plan.edits) }
     ensures err { OnErr result (IsBack members.old.entries members.new.entries) }
     ensures refused { IfErr result
         (λ refusal. IsRefused refusal
@@ -220,10 +234,12 @@ pub fn plan_remove<H: BuildHasher, A: Allocator + Copy>(
 ) -> Result<Plan<A>, AllocError>
     requires settled { IsSettled members.now.entries }
     requires few { length names.now ≤ most_edits }
-    ensures { IfOk result (λ plan. Prepares members.now.entries members.now.entries plan
+    ensures ok { IfOk result (λ plan. Prepares members.now.entries members.now.entries plan
         (remove_all (members_by held members.now.entries) names.now)
         (Integer (pos (map.len (members_by held members.now.entries)
         - map.len (remove_all (members_by held members.now.entries) names.now))))) }
+    ensures edits { IfOk result (λ plan. HasAtMost (map.len (members_by held members.now.entries)
+        - map.len (remove_all (members_by held members.now.entries) names.now)) plan.edits) }
 {
     let mut edits = Edits::none(alloc);
     let removed = gather(alloc, members, &mut edits, names)?;
@@ -252,6 +268,9 @@ fn plan_for<H: BuildHasher, A: Allocator + Copy>(
     requires writing { IsTrue (is_writing command.now.meaning) }
     ensures ok { IfOk result (λ plan. Plans members.old.entries members.new.entries plan
         (step (members_by held members.old.entries) command.now.meaning)) }
+    ensures edits { IfOk result
+        (λ plan. HasAtMost (edit_count (members_by held members.old.entries) command.now.meaning)
+        plan.edits) }
     ensures err { OnErr result (IsBack members.old.entries members.new.entries) }
     ensures refused { IfErr result
         (λ refusal. IsRefused refusal
@@ -290,6 +309,10 @@ fn make_room<H: BuildHasher, A: Allocator + Copy>(
     ensures content { SameContent column.old column.new }
     ensures ok { IfOk result (λ kept. (kept ≡ plan) × (members.new ≡ members.old)) }
     ensures room { OnOk result (HasRoom column.new plan.edits) }
+    ensures values { values column.new.pivots ≡ values column.old.pivots }
+    ensures still { most_pending column.old
+        + max (length plan.edits.coming.items) (length plan.edits.leaving.items) ≤ MAX_PENDING
+        → IsUnchanged column.old column.new }
     ensures held { OnErr result (rows_by held members.new.entries
         ≡ take plan.kept (rows_by held members.old.entries)) }
     ensures settled { OnErr result (IsSettled members.new.entries) }
@@ -317,6 +340,10 @@ pub fn make_plan<H: BuildHasher, A: Allocator + Copy>(
         (step (members_by held members.old.entries) command.now.meaning)) }
     ensures room { IfOk result (λ plan. HasRoom column.new plan.edits) }
     ensures content { SameContent column.old column.new }
+    ensures values { values column.new.pivots ≡ values column.old.pivots }
+    ensures still { most_pending column.old
+        + edit_count (members_by held members.old.entries) command.now.meaning ≤ MAX_PENDING
+        → IsUnchanged column.old column.new }
     ensures err { OnErr result (IsBack members.old.entries members.new.entries) }
     ensures refused { IfErr result
         (λ refusal. IsRefused refusal
@@ -351,6 +378,8 @@ pub fn carry_out<H: BuildHasher, A: Allocator + Copy>(
     ensures members { members_by held members.new.entries ≡ left_by members.old.entries plan }
     ensures settled { IsSettled members.new.entries }
     ensures content { Holds column.new (pairs (left_by members.old.entries plan)) }
+    ensures rows { column.new.rows ≡ column.old.rows }
+    ensures pivots { column.new.pivots ≡ column.old.pivots }
     ensures reply { result ≡ plan.reply }
 {
     settle(members, plan.touched.as_slice());

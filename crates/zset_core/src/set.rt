@@ -1,5 +1,5 @@
 //! One sorted set.
-ghost use Rattle.std.specs.Prelude.{◌≡◌, ◌↔◌, false, Some, None, IsSome, IfSome, IfOk, IfErr, OnOk, OnErr, IsTrue, take, option_map};
+ghost use Rattle.std.specs.Prelude.{◌≡◌, ◌+◌, ◌<◌, ◌≤◌, ◌^◌, ◌⊎◌, ◌↔◌, length, true, false, Some, None, IsSome, IfSome, IfOk, IfErr, OnOk, OnErr, IsTrue, take, option_map};
 ghost use Rattle.std.specs.FinMap as map;
 ghost use Rattle.indexmap.specs.IndexMap.{IsUnique};
 ghost use Rattle.zset_core.specs.Kept.{held, slot_at, same_bytes};
@@ -7,7 +7,10 @@ ghost use Rattle.zset_core.specs.Viewed.{kept_of};
 ghost use Rattle.zset_core.specs.Meaning.{is_writing, key_of};
 ghost use Rattle.zset_core.specs.Outlined.{IsOutline};
 ghost use Rattle.zset_core.specs.Refused.{IsRefused};
-ghost use Rattle.ripple_column.specs.Content.{Holds};
+ghost use Rattle.ripple_column.specs.Content.{Holds, IsUnchanged, most_pending};
+ghost use Rattle.ripple_column.specs.Cuts.{values};
+ghost use Rattle.zset_core.specs.Columns.{Reads, changes_named, edit_count};
+ghost use Rattle.zset_core.specs.Edited.{most_edits};
 ghost use Rattle.zset_core.specs.Readied.{IsReadyFor};
 ghost use Rattle.zset_core.specs.Sets.{pairs, whole};
 ghost use Rattle.zset_core.specs.Step.{step};
@@ -24,7 +27,7 @@ use crate::slot::Slot;
 use crack_kernel::Row;
 use indexmap::IndexMap;
 use resp_wire::Reply;
-use ripple_column::Column;
+use ripple_column::{Column, MAX_PENDING};
 use std::alloc::{AllocError, Allocator};
 use std::hash::BuildHasher;
 use std::marker::Model;
@@ -84,7 +87,8 @@ impl<H: BuildHasher, A: Allocator + Copy> ZSet<H, A> {
 
     /// The number of members.
     pub fn card(&self) -> usize
-        ensures { result ≡ map.len self.now.members }
+        ensures card { result ≡ map.len self.now.members }
+        ensures few { result < 2 ^ 63 }
     {
         kept_len(&self.members, &self.prepared)
     }
@@ -115,6 +119,12 @@ impl<H: BuildHasher, A: Allocator + Copy> ZSet<H, A> {
         ensures members { self.new.members ≡ self.old.members }
         ensures idle { self.new.next ≡ None }
         ensures ready { OnOk result (IsReadyFor self.new.column command.now.meaning) }
+
+        // Outside the range asked for nothing is merged. On Err, the column is unchanged or as an Ok
+        // would leave it.
+        ensures column { OnOk result (Reads command.now.meaning self.old.column self.new.column) }
+        ensures refused { OnErr result (IsUnchanged self.old.column self.new.column
+            ⊎ Reads command.now.meaning self.old.column self.new.column) }
     {
         answer_from(self.alloc, &self.members, &mut self.column, command)
     }
@@ -163,9 +173,17 @@ impl<H: BuildHasher, A: Allocator + Copy> ZSet<H, A> {
         ensures outline { IfOk result
             (λ outline. IfSome self.new.next
             (λ next. IsOutline outline self.old.members next.members)) }
+        ensures few { IfOk result (λ outline. outline.added ≤ most_edits) }
         ensures refused { IfErr result
             (λ refusal. IsRefused refusal (step self.old.members command.now.meaning)) }
         ensures err { OnErr result (self.new.next ≡ None) }
+
+        // ZADD and ZREM merge what waits only where their own edits would not fit beside it.
+        ensures values { changes_named command.now.meaning ≡ true
+            → values self.new.column.pivots ≡ values self.old.column.pivots }
+        ensures still { changes_named command.now.meaning ≡ true → most_pending self.old.column
+            + edit_count self.old.members command.now.meaning ≤ MAX_PENDING
+            → IsUnchanged self.old.column self.new.column }
     {
         let plan = make_plan(self.alloc, &mut self.members, &mut self.column, command)?;
         let outline = plan.outline;
@@ -180,6 +198,12 @@ impl<H: BuildHasher, A: Allocator + Copy> ZSet<H, A> {
         ensures made { IfSome self.old.next
             (λ next. (self.new.members ≡ next.members) × (response_of result ≡ next.reply)) }
         ensures idle { self.new.next ≡ None }
+
+        // The edits of ZADD and ZREM only come to wait in the column.
+        ensures rows { IfSome self.old.next (λ next. changes_named next.meaning ≡ true
+            → self.new.column.rows ≡ self.old.column.rows) }
+        ensures pivots { IfSome self.old.next (λ next. changes_named next.meaning ≡ true
+            → self.new.column.pivots ≡ self.old.column.pivots) }
     {
         match self.prepared.take() {
             None => unreachable!(),
@@ -192,6 +216,8 @@ impl<H: BuildHasher, A: Allocator + Copy> ZSet<H, A> {
         requires { IsSome self.old.next }
         ensures members { self.new.members ≡ self.old.members }
         ensures idle { self.new.next ≡ None }
+        ensures column { IfSome self.old.next (λ next. changes_named next.meaning ≡ true
+            → self.new.column ≡ self.old.column) }
     {
         if let Some(prepared) = self.prepared.take() {
             let_go(&mut self.members, prepared.plan);
@@ -206,6 +232,7 @@ fn kept_len<H: BuildHasher, A: Allocator + Copy>(
 ) -> usize
     ensures kept { result ≡ kept_of members.now.entries prepared.now }
     ensures unique { IsUnique same_bytes members.now }
+    ensures small { length members.now.entries < 2 ^ 63 }
 {
     let len = members.len();
     match prepared {

@@ -1,10 +1,10 @@
 //! ZADD put beside the scores that members have: new members go last, and new scores wait in their
 //! slots.
-ghost use Rattle.std.specs.Prelude.{◌≡◌, ℕ, ◌+◌, ◌*◌, ◌^◌, ◌<◌, ◌≤◌, None, Some, length, drop, slice_get, map as map_list, option_map, IfSome, take, List, OnOk, OnErr, IfOk};
+ghost use Rattle.std.specs.Prelude.{◌≡◌, ℕ, ◌+◌, ◌*◌, ◌^◌, ◌<◌, ◌≤◌, true, None, Some, length, drop, slice_get, map as map_list, option_map, IfSome, take, List, OnOk, OnErr, IfOk};
 ghost use Rattle.std.specs.FinMap as map;
 ghost use Rattle.indexmap.specs.IndexMap.{IsUnique};
 ghost use Rattle.zset_core.specs.declared.slot.Slot.{Slot as SlotType};
-ghost use Rattle.zset_core.specs.Step.{outcome_of, put_one, put_all, count_all, remove_all};
+ghost use Rattle.zset_core.specs.Step.{outcome_of, counted, put_one, put_all, count_all, remove_all};
 ghost use Rattle.zset_core.specs.Form.{scored};
 ghost use Rattle.zset_core.specs.Edited.{Notes};
 ghost use Rattle.zset_core.specs.Kept.{held, next, rows_by, members_by, slot_at, slots, same_bytes, IsSettled, IsWaiting, Grows, bytes_of};
@@ -121,7 +121,8 @@ pub fn stage_one<H: BuildHasher, A: Allocator + Copy>(
         score) }
     ensures next { OnOk result (members_by next members.new.entries
         ≡ put_one flags (members_by next members.old.entries) member.now score) }
-    ensures edits { OnOk result (Notes 1 (members_by next members.old.entries)
+    ensures edits { IfOk result
+        (λ what. Notes (counted true what) (members_by next members.old.entries)
         (members_by next members.new.entries) edits.old edits.new) }
     ensures grows { Grows members.old.entries members.new.entries }
     ensures waiting { IsWaiting touched.new.items members.new.entries }
@@ -167,7 +168,9 @@ pub fn stage_all<H: BuildHasher, A: Allocator + Copy>(
     ensures few { IfOk result (λ n. n ≤ length scores.now) }
     ensures next { OnOk result (members_by next members.new.entries
         ≡ put_all flags (members_by next members.old.entries) (scored scores.now words.now)) }
-    ensures edits { OnOk result (Notes (length scores.now) (members_by next members.old.entries)
+    ensures edits { OnOk result
+        (Notes (count_all flags true (members_by next members.old.entries)
+        (scored scores.now words.now)) (members_by next members.old.entries)
         (members_by next members.new.entries) edits.old edits.new) }
     ensures grows { Grows members.old.entries members.new.entries }
     ensures waiting { IsWaiting touched.new.items members.new.entries }

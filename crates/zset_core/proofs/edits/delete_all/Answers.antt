@@ -12,6 +12,8 @@ loop-row-preserved g c =
     λ p. ap (count_by p) c.in-Some.ensures.items ∙ count_push p rest row in
     record {
       content = λ p. omega (arith, v.content p, out p, c.delete.ensures.content p);
+      rows = c.delete.ensures.rows ∙ v.rows;
+      pivots = c.delete.ensures.pivots ∙ v.pivots;
       there = λ p. omega (arith, v.there p, out p, c.delete.ensures.content p);
       room = omega (arith, ap length c.in-Some.ensures.items, length-append rest (row ∷ []));
     }

@@ -6,6 +6,8 @@ use Rattle.zset_core.proofs.edits.delete_all.Given as goal
 abbrev pub invariant-loop-row : goal.invariant-loop-row
 invariant-loop-row g l = record {
   content : (p : Test) → content_count p l.column + count_by p l.initial.rows.items ≡ content_count p l.initial.column + count_by p l.rows.items;
+  rows : l.column.rows ≡ l.initial.column.rows;
+  pivots : l.column.pivots ≡ l.initial.column.pivots;
   there : (p : Test) → count_by p l.rows.items ≤ content_count p l.column;
   room : length l.rows.items ≤ l.column.delete_spare;
 }

@@ -1,4 +1,4 @@
-use Rattle.std.proofs.Common.{◌≡◌, ◌≤◌, arith, subst, length}
+use Rattle.std.proofs.Common.{◌≡◌, ◌∙◌, ◌≤◌, arith, subst, length}
 use Rattle.std.proofs.lemmas.Grind.{common_steps}
 use Rattle.zset_core.specs.Edited.{Notes}
 use Rattle.zset_core.specs.Step.{remove_all}
@@ -14,6 +14,7 @@ loop-name-preserved g c =
       gone = grind (arith, common_steps);
       edits = Notes-then c.loop-name.name-index 1 m (remove_all m (bytes_of c.loop-name.gathered.items)) (remove_all m (bytes_of c.gather_one.new.gathered.items))
           c.args.edits.now c.loop-name.edits c.gather_one.new.edits c.loop-name.invariant.edits c.in_ok-gather_one.ensures.edits;
+      coming = c.gather_one.ensures.coming ∙ c.loop-name.invariant.coming;
       gathered = c.in_ok-gather_one.ensures.gathered;
     }
 

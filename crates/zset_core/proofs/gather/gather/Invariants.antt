@@ -9,5 +9,6 @@ abbrev pub invariant-loop-name : goal.invariant-loop-name
 invariant-loop-name g l = record {
   gone : remove_all (remove_all (members_by held l.members.entries) (bytes_of l.gathered.items)) (drop l.name-index l.names) ≡ remove_all (members_by held l.members.entries) l.names;
   edits : Notes l.name-index (members_by held l.members.entries) (remove_all (members_by held l.members.entries) (bytes_of l.gathered.items)) l.initial.edits l.edits;
+  coming : l.edits.coming.items ≡ l.initial.edits.coming.items;
   gathered : IsGathered l.members.entries l.seen l.gathered.items;
 }

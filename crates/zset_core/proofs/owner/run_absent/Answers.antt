@@ -18,7 +18,7 @@ returns-then-card-eq0-clause-ok g c =
     let k = c.args.key.now in
     act_of_step (world_of es) k c.args.command.now.meaning c.with_hasher-set.result.members c.run_set.new.set.members (response_of c.in_ok-reply.reply) (world_of es)
     (set_at_none es k c.requires.absent ∙ sym c.with_hasher-set.ensures.members) c.in_ok-reply.ensures.ok
-    (sym (put_empty (world_of es) k c.run_set.new.set.members (none_at es k c.requires.absent) (sym c.card.ensures ∙ c.if-card-eq0.true)))
+    (sym (put_empty (world_of es) k c.run_set.new.set.members (none_at es k c.requires.absent) (sym c.card.ensures.card ∙ c.if-card-eq0.true)))
 
 pub returns-clause-ok : goal.returns-clause-ok
 returns-clause-ok g c =
@@ -31,4 +31,4 @@ pub returns-clause-rest : goal.returns-clause-rest
 returns-clause-rest g c =
     let es = c.args.sets.now.entries in
     let k = c.args.key.now in
-    rest_changed es c.insert_set.new.sets.entries k c.run_set.new.set (others_of es k c.requires.rest) c.in_ok-insert_set.ensures.put c.run_set.ensures.idle (λ none. c.if-card-eq0.false (c.card.ensures ∙ none))
+    rest_changed es c.insert_set.new.sets.entries k c.run_set.new.set (others_of es k c.requires.rest) c.in_ok-insert_set.ensures.put c.run_set.ensures.idle (λ none. c.if-card-eq0.false (c.card.ensures.card ∙ none))

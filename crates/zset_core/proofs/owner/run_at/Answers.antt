@@ -24,7 +24,7 @@ returns-then-card-eq0-clause-ok g c =
     let one = updates_key k c.args.sets.now left (Some w) ((c.get_mut.follows.holds w).3 (subst IsSome c.in-Some.ensures.value refl)) in
     if_ok_map c.run_set-ran.result (λ reply is. act_of_step (world_of es) k c.args.command.now.meaning c.in-Some.set.now.members w.members _ (world_of c.remove.new.self.entries)
     (set_at_entry es k c.in-Some.set.now (sym c.in-Some.ensures.value)) is
-    (world_emptied es left.entries c.remove.new.self.entries k w one (updates_key k left c.remove.new.self None c.remove.ensures.updates) (sym c.card.ensures ∙ c.if-card-eq0.true) ∙ world_put es left.entries k w one)) c.run_set-ran.ensures.ok
+    (world_emptied es left.entries c.remove.new.self.entries k w one (updates_key k left c.remove.new.self None c.remove.ensures.updates) (sym c.card.ensures.card ∙ c.if-card-eq0.true) ∙ world_put es left.entries k w one)) c.run_set-ran.ensures.ok
 
 pub returns-then-card-eq0-clause-err : goal.returns-then-card-eq0-clause-err
 returns-then-card-eq0-clause-err g c =
@@ -34,7 +34,7 @@ returns-then-card-eq0-clause-err g c =
     let left = c.get_mut.follows.lender w in
     let one = updates_key k c.args.sets.now left (Some w) ((c.get_mut.follows.holds w).3 (subst IsSome c.in-Some.ensures.value refl)) in
     on_err c.run_set-ran.result (w.members ≡ c.in-Some.set.now.members) (world_of c.remove.new.self.entries ≡ world_of es)
-    (λ same. world_emptied es left.entries c.remove.new.self.entries k w one (updates_key k left c.remove.new.self None c.remove.ensures.updates) (sym c.card.ensures ∙ c.if-card-eq0.true)
+    (λ same. world_emptied es left.entries c.remove.new.self.entries k w one (updates_key k left c.remove.new.self None c.remove.ensures.updates) (sym c.card.ensures.card ∙ c.if-card-eq0.true)
     ∙ world_kept es left.entries k c.in-Some.set.now w (sym c.in-Some.ensures.value) same one)
     c.run_set-ran.ensures.err
 
@@ -51,7 +51,7 @@ returns-else-card-eq0-clause-rest g c =
     let k = c.args.key.now in
     let left = c.get_mut.follows.lender w in
     rest_changed es left.entries k w (others_of es k c.requires.rest)
-    (updates_key k c.args.sets.now left (Some w) ((c.get_mut.follows.holds w).3 (subst IsSome c.in-Some.ensures.value refl))) c.run_set-ran.ensures.idle (λ none. c.if-card-eq0.false (c.card.ensures ∙ none))
+    (updates_key k c.args.sets.now left (Some w) ((c.get_mut.follows.holds w).3 (subst IsSome c.in-Some.ensures.value refl))) c.run_set-ran.ensures.idle (λ none. c.if-card-eq0.false (c.card.ensures.card ∙ none))
 
 pub returns-else-card-eq0-clause-ok : goal.returns-else-card-eq0-clause-ok
 returns-else-card-eq0-clause-ok g c =

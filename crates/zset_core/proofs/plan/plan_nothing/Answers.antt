@@ -3,11 +3,11 @@ use Rattle.zset_core.specs.Step.{remove_all}
 use Rattle.zset_core.specs.Kept.{held, next, members_by, bytes_of, IsWaiting}
 use Rattle.zset_core.proofs.Outlines.{nothing_outline}
 use Rattle.zset_core.proofs.Staging.{members_same, Grows-self, IsWaiting-none}
-use Rattle.zset_core.proofs.Bags.{Turns-none, IsFew-none}
+use Rattle.zset_core.proofs.Bags.{HasAtMost-none, Turns-none, IsFew-none}
 use Rattle.zset_core.proofs.plan.plan_nothing.Goals as goal
 
-pub returns : goal.returns
-returns g c =
+pub returns-clause-plan : goal.returns-clause-plan
+returns-clause-plan g c =
     let es = c.args.members.now.entries in
     record {
       kept = c.len.ensures.len;
@@ -19,3 +19,6 @@ returns g c =
       few_edits = IsFew-none c.none.result c.none.ensures.coming c.none.ensures.leaving;
       outline_is = nothing_outline (members_by held es);
     }
+
+pub returns-clause-edits : goal.returns-clause-edits
+returns-clause-edits g c = HasAtMost-none c.none.result c.none.ensures.coming c.none.ensures.leaving

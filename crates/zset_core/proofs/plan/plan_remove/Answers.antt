@@ -6,14 +6,14 @@ use Rattle.zset_core.specs.Step.{remove_all}
 use Rattle.zset_core.specs.Kept.{held, members_by, bytes_of, IsWaiting}
 use Rattle.zset_core.proofs.Outlines.{gathered_outline}
 use Rattle.zset_core.proofs.Staging.{members_same, Grows-self, IsWaiting-none}
-use Rattle.zset_core.proofs.Bags.{Turns-noted, IsFew-noted}
+use Rattle.zset_core.proofs.Bags.{HasAtMost-gone, Turns-noted, IsFew-noted}
 use Rattle.zset_core.proofs.plan.plan_remove.Goals as goal
 
 rest_of : (a b n : ℕ) → a + b ≡ n → a ≡ n - b
 rest_of a b n h = omega arith
 
-pub returns : goal.returns
-returns g c =
+pub returns-clause-ok : goal.returns-clause-ok
+returns-clause-ok g c =
     let es = c.args.members.now.entries in
     let m = members_by held es in
     let same_len : vec_len c.in_ok-removed.removed ≡ length c.in_ok-removed.removed.items = search rules in
@@ -27,3 +27,10 @@ returns g c =
       few_edits = IsFew-noted (length c.args.names.now) m (remove_all m c.args.names.now) c.none-edits.result c.gather.new.edits c.none-edits.ensures.coming c.none-edits.ensures.leaving c.requires.few c.in_ok-removed.ensures.edits;
       outline_is = gathered_outline m (remove_all m c.args.names.now) c.in_ok-removed.removed.items c.len-count.result (c.len-count.ensures ∙ same_len) c.in_ok-removed.ensures.gone c.in_ok-removed.ensures.count;
     }
+
+pub returns-clause-edits : goal.returns-clause-edits
+returns-clause-edits g c =
+    let m = members_by held c.args.members.now.entries in
+    let left = remove_all m c.args.names.now in
+    let turns = Turns-noted (length c.args.names.now) m left c.none-edits.result c.gather.new.edits c.none-edits.ensures.coming c.none-edits.ensures.leaving c.in_ok-removed.ensures.edits in
+    HasAtMost-gone m left c.gather.new.edits (c.in_ok-removed.ensures.coming ∙ c.none-edits.ensures.coming) turns

@@ -1,10 +1,10 @@
-use Rattle.std.proofs.Common.{◌∙◌, ◌+◌, ◌*◌, ap, rules, arith, ℤ, pos, drop, get_or, SFits, w64, to_z, of_z, to_z-of_z}
+use Rattle.std.proofs.Common.{◌∙◌, ◌+◌, ◌*◌, ap, rules, arith, ℤ, pos, drop, get_or, SFits, w64, to_z, of_z, to_z-of_z, true}
 use Rattle.zset_core.specs.Form.{scored}
-use Rattle.zset_core.specs.Step.{counted}
+use Rattle.zset_core.specs.Step.{counted, count_all}
 use Rattle.zset_core.specs.Kept.{next, members_by}
 use Rattle.zset_core.proofs.PairSteps.{pairs_step, put_step, count_step, counted_one}
 use Rattle.zset_core.proofs.Staging.{Grows-then}
-use Rattle.zset_core.proofs.Bags.{Notes-then}
+use Rattle.zset_core.proofs.Bags.{Notes-then, Notes-more}
 use Rattle.zset_core.proofs.stage.stage_all.Goals as goal
 
 pub loop-index-preserved : goal.loop-index-preserved
@@ -21,12 +21,25 @@ loop-index-preserved g c =
     let new = members_by next c.stage_one.new.members.entries in
     let within = c.loop-index-test.true in
     let is = pairs_step ss ws i z m c.index-words-index.result within c.requires.pairs (to_z-of_z f) c.as_slice-member.ensures c.index-words-index.is in
+    let noted = c.loop-index.invariant.edits in
+    let written = noted.0 in
     let one = c.counted_in-count.ensures ∙ ap (counted c.args.changed) c.in_ok-what.ensures.outcome in
     record {
       few = omega (arith, c.loop-index.invariant.few, c.counted_in-count.ensures, counted_one c.args.changed c.in_ok-what.what);
       count = count_step c.args.flags c.args.changed old new z m ps rest c.loop-index.count c.counted_in-count.result _ is c.in_ok-what.ensures.next one c.loop-index.invariant.count;
       next = put_step c.args.flags old new z m ps rest _ is c.in_ok-what.ensures.next c.loop-index.invariant.next;
-      edits = Notes-then c.loop-index.index 1 (members_by next c.args.members.now.entries) old new c.args.edits.now c.loop-index.edits c.stage_one.new.edits c.loop-index.invariant.edits c.in_ok-what.ensures.edits;
+      edits = (
+        written + counted true c.in_ok-what.what,
+        Notes-then written (counted true c.in_ok-what.what) (members_by next c.args.members.now.entries) old new c.args.edits.now c.loop-index.edits c.stage_one.new.edits noted.1 c.in_ok-what.ensures.edits,
+        count_step c.args.flags true old new z m ps rest written (counted true c.in_ok-what.what) _ is c.in_ok-what.ensures.next (ap (counted true) c.in_ok-what.ensures.outcome) noted.2,
+      );
       waiting = c.stage_one.ensures.waiting;
       grows = Grows-then c.args.members.now.entries c.loop-index.members.entries c.stage_one.new.members.entries c.loop-index.invariant.grows c.stage_one.ensures.grows;
     }
+
+pub returns-clause-edits : goal.returns-clause-edits
+returns-clause-edits g c =
+    let noted = c.loop-index.invariant.edits in
+    let old = members_by next c.args.members.now.entries in
+    let written = count_all c.args.flags true old (scored c.args.scores.now c.args.words.now) in
+    Notes-more noted.0 written old (members_by next c.loop-index.members.entries) c.args.edits.now c.loop-index.edits (omega (arith, noted.2)) noted.1

@@ -1,0 +1,185 @@
+ghost use Rattle.std.specs.Prelude.{◌≡◌, None, IsSome, OnOk, OnErr, option_map};
+ghost use Rattle.zset_core.specs.Meaning.{key_of};
+
+use resp_wire::{Bytes, BytesList, Reply, Request, write_reply};
+use std::alloc::Global;
+use std::hash::RandomState;
+use std::test::*;
+use zset_core::{Command, OneOwner, Outline};
+
+pub type Owner = OneOwner<RandomState, Global>;
+
+/// The command of a text's words, which single spaces part.
+pub fn command(alloc: Global, text: &str) -> Result<Command<Global>, Fail> {
+    let mut words = Vec::new(alloc);
+    for word in text.split(' ') {
+        words.push(Bytes::new(Vec::from_slice(alloc, word.as_bytes())?))?;
+    }
+    let request = Request::new(BytesList::new(words)).ok_or("no request")?;
+    match Command::read(alloc, request) {
+        Ok(command) => Ok(command),
+        Err(_) => Err("no command")?,
+    }
+}
+
+/// The bytes of a reply, an end of line as `~`.
+pub fn text_of(alloc: Global, reply: &Reply<Global>) -> Result<String, Fail> {
+    let mut bytes = Vec::new(alloc);
+    write_reply(reply, &mut bytes)?;
+    match std::str::from_utf8(bytes.as_slice()) {
+        Ok(text) => Ok(text.replace(alloc, "\r\n", "~")?),
+        Err(_) => Err("no text")?,
+    }
+}
+
+// The bytes of the reply to a command, an end of line as `~`, or the number of its refusal behind
+// `r`.
+pub fn reply_to(alloc: Global, owner: &mut Owner, text: &str) -> Result<String, Fail>
+    requires { owner.old.next ≡ None }
+    ensures { owner.new.next ≡ None }
+{
+    let command = command(alloc, text)?;
+    match owner.run(&command) {
+        Err(refusal) => Ok(format!(in alloc; "r{}", refusal.number())?),
+        Ok(reply) => text_of(alloc, &reply),
+    }
+}
+
+// Commands in turn, with their replies. Each key begins an example of its own.
+const EXAMPLES: [(&str, &str); 42] = [
+    ("PING", "+PONG~"),
+    ("PING hi", "$2~hi~"),
+    ("ZADD one 5 a", ":1~"),
+    ("ZRANGEBYSCORE one 5 5", "*1~$1~a~"),
+    ("ZADD ties 1 b 1 a 1 B", ":3~"),
+    (
+        "ZRANGEBYSCORE ties -inf +inf WITHSCORES",
+        "*6~$1~B~$1~1~$1~a~$1~1~$1~b~$1~1~",
+    ),
+    ("ZADD twice CH 1 a 2 a", ":2~"),
+    ("ZCARD twice", ":1~"),
+    ("ZSCORE twice a", "$1~2~"),
+    ("ZADD plain 1 a 2 a", ":1~"),
+    ("ZADD ends 9223372036854775807 a", ":1~"),
+    ("ZCOUNT ends (9223372036854775807 +inf", ":0~"),
+    ("ZCOUNT ends (9223372036854775806 +inf", ":1~"),
+    ("ZCOUNT ends 9223372036854775807 9223372036854775807", ":1~"),
+    ("ZCOUNT ends -inf (-9223372036854775808", ":0~"),
+    ("ZADD bounds 5 a", ":1~"),
+    ("ZCOUNT bounds 5 1", ":0~"),
+    ("ZCOUNT bounds (5 (5", ":0~"),
+    ("ZCOUNT bounds 5 (5", ":0~"),
+    ("ZCOUNT bounds (inf +INF", ":0~"),
+    ("ZCOUNT bounds 5 5", ":1~"),
+    ("ZCOUNT bounds -inf inf", ":1~"),
+    ("ZCARD missing", ":0~"),
+    ("ZADD sums 1 a", ":1~"),
+    ("ZADD sums INCR 9223372036854775807 a", "r13"),
+    ("ZSCORE sums a", "$1~1~"),
+    ("ZADD sums NX INCR 9223372036854775807 a", "$-1~"),
+    ("ZADD sums XX INCR 5 b", "$-1~"),
+    ("ZADD sums INCR 1.0 a", "$1~2~"),
+    ("ZADD sums XX CH 7 a 8 b", ":1~"),
+    ("ZADD parts 1 a 2 b 3 c 4 d", ":4~"),
+    ("ZRANGEBYSCORE parts -inf +inf LIMIT 1 2", "*2~$1~b~$1~c~"),
+    ("ZRANGEBYSCORE parts -inf +inf LIMIT 2 -1", "*2~$1~c~$1~d~"),
+    ("ZRANGEBYSCORE parts -inf +inf LIMIT -1 2", "*0~"),
+    ("ZRANGEBYSCORE parts -inf +inf LIMIT 0 0", "*0~"),
+    (
+        "ZRANGEBYSCORE parts -inf +inf limit 3 9 withscores",
+        "*2~$1~d~$1~4~",
+    ),
+    (
+        "ZRANGEBYSCORE parts -inf +inf LIMIT 0 1 LIMIT 3 1",
+        "*1~$1~d~",
+    ),
+    ("ZADD gone 1 a 2 b", ":2~"),
+    ("ZREM gone a a x", ":1~"),
+    ("ZADD gone 3 ", ":1~"),
+    ("ZRANGEBYSCORE gone 3 3", "*1~$0~~"),
+    ("ZSCORE gone a", "$-1~"),
+];
+
+#[test]
+fn examples_are_answered(rt: HostRuntime) -> Result<(), Fail> {
+    let alloc = rt.alloc();
+    let mut owner = OneOwner::new(alloc, RandomState::new(&rt)?);
+    for (text, want) in EXAMPLES {
+        assert_eq!(rt; reply_to(alloc, &mut owner, text)?.as_str(), want, "{text}");
+    }
+    Ok(())
+}
+
+// What a command of ZADD or ZREM is prepared to do in its set.
+fn outline_of(alloc: Global, owner: &mut Owner, text: &str) -> Result<Outline, Fail>
+    requires { owner.old.next ≡ None }
+    ensures { owner.new.next ≡ None }
+{
+    let command = command(alloc, text)?;
+    if !command.writes() {
+        Err("a reading command")?;
+    }
+    match owner.prepare(&command) {
+        Err(_) => Err("refused")?,
+        Ok(outline) => {
+            owner.drop_prepared(&command);
+            Ok(outline)
+        }
+    }
+}
+
+#[test]
+fn outlines_tell_the_change(rt: HostRuntime) -> Result<(), Fail> {
+    let alloc = rt.alloc();
+    let mut owner = OneOwner::new(alloc, RandomState::new(&rt)?);
+    reply_to(alloc, &mut owner, "ZADD k 1 a 2 b")?;
+    let rows = [
+        ("ZADD k CH 1 c 2 c", (1, 0, true)),
+        ("ZADD k 5 a 1 a", (0, 0, false)),
+        ("ZADD k 5 a", (0, 0, true)),
+        ("ZADD other XX 5 a", (0, 0, false)),
+        ("ZREM k a a x", (0, 1, true)),
+        ("ZREM k x", (0, 0, false)),
+    ];
+    for (text, (added, removed, changed)) in rows {
+        let want = Outline {
+            added,
+            removed,
+            changed,
+        };
+        assert_eq!(rt; outline_of(alloc, &mut owner, text)?, want, "{text}");
+    }
+    assert_eq!(rt; reply_to(alloc, &mut owner, "ZCARD k")?.as_str(), ":2~");
+    Ok(())
+}
+
+#[test]
+fn keys_and_pairs_are_listed(rt: HostRuntime) -> Result<(), Fail> {
+    let alloc = rt.alloc();
+    let mut owner = OneOwner::new(alloc, RandomState::new(&rt)?);
+    for text in [
+        "ZADD k 1 b 1 a 1 B",
+        "ZADD j -3 x",
+        "ZADD empty 1 a",
+        "ZREM empty a",
+    ] {
+        reply_to(alloc, &mut owner, text)?;
+    }
+    assert_eq!(rt; owner.key_count(), 2);
+    assert_eq!(rt; owner.key_at(0), Some(b"j".as_slice()));
+    assert_eq!(rt; owner.key_at(1), Some(b"k".as_slice()));
+    assert_eq!(rt; owner.key_at(2), None);
+    assert_eq!(rt; owner.key_after(None), Some(b"j".as_slice()));
+    assert!(rt; owner.set(b"empty".as_slice()).is_none());
+    let pairs = owner.pairs(b"k".as_slice())?;
+    let want = [
+        (1, b"B".as_slice()),
+        (1, b"a".as_slice()),
+        (1, b"b".as_slice()),
+    ];
+    assert_eq!(rt; pairs.len(), want.len());
+    for (row, pair) in pairs.iter().zip(want) {
+        assert_eq!(rt; (row.score(), row.member()), pair);
+    }
+    Ok(())
+}

@@ -1,0 +1,137 @@
+use resp_wire::{Bytes, BytesList, Request};
+use std::alloc::Global;
+use std::test::*;
+use zset_core::{Command, Refusal};
+
+// The request of a text's words, which single spaces part.
+fn request(alloc: Global, text: &str) -> Result<Request<Global>, Fail> {
+    let mut words = Vec::new(alloc);
+    for word in text.split(' ') {
+        words.push(Bytes::new(Vec::from_slice(alloc, word.as_bytes())?))?;
+    }
+    Ok(Request::new(BytesList::new(words)).ok_or("no request")?)
+}
+
+// Requests that are refused, and the refusals.
+const REFUSED: [(&str, Refusal); 40] = [
+    ("FOO", Refusal::UnknownCommand),
+    ("", Refusal::UnknownCommand),
+    ("ZREMRANGEBYSCORE k 1 2", Refusal::UnknownCommand),
+    ("ZADD k 1", Refusal::WrongArity),
+    ("ZADD", Refusal::WrongArity),
+    ("PING a b", Refusal::WrongArity),
+    ("ZREM k", Refusal::WrongArity),
+    ("ZSCORE k", Refusal::WrongArity),
+    ("ZSCORE k a b", Refusal::WrongArity),
+    ("ZCARD", Refusal::WrongArity),
+    ("ZCARD k a", Refusal::WrongArity),
+    ("ZCOUNT k 1", Refusal::WrongArity),
+    ("ZCOUNT k 1 2 3", Refusal::WrongArity),
+    ("ZRANGEBYSCORE k 1", Refusal::WrongArity),
+    ("ZADD k NX 1", Refusal::Syntax),
+    ("ZADD k NX XX", Refusal::Syntax),
+    ("ZADD k 1 a 2", Refusal::Syntax),
+    ("ZADD k GT 1 a", Refusal::Syntax),
+    ("ZADD k INCR 1 a 2", Refusal::Syntax),
+    ("ZRANGEBYSCORE k 1 2 LIMIT 0", Refusal::Syntax),
+    ("ZRANGEBYSCORE k 1 2 LIMIT", Refusal::Syntax),
+    ("ZRANGEBYSCORE k x 2 WITHSCORE", Refusal::Syntax),
+    (
+        "ZRANGEBYSCORE k 1 2 WITHSCORES LIMIT 0 1 0",
+        Refusal::Syntax,
+    ),
+    ("ZADD k NX XX 1 a", Refusal::NxAndXx),
+    ("ZADD k xx ch nx x a", Refusal::NxAndXx),
+    ("ZADD k NX XX INCR 1 a 2 b", Refusal::NxAndXx),
+    ("ZADD k INCR 1 a 2 b", Refusal::IncrPair),
+    ("ZADD k incr x a 2 b", Refusal::IncrPair),
+    ("ZADD k 1 a x b", Refusal::BadScore),
+    ("ZADD k 9223372036854775808 a", Refusal::BadScore),
+    ("ZADD k 1 NX 2 a NX b", Refusal::BadScore),
+    ("ZADD k INCR inf a", Refusal::BadScore),
+    ("ZADD k (1 a", Refusal::BadScore),
+    ("ZCOUNT k ( 5", Refusal::BadBound),
+    ("ZCOUNT k 1.5 2", Refusal::BadBound),
+    ("ZCOUNT k 1 ((2", Refusal::BadBound),
+    ("ZRANGEBYSCORE k x 2 LIMIT y 0", Refusal::BadBound),
+    ("ZRANGEBYSCORE k 1 2 LIMIT y 0", Refusal::BadInteger),
+    ("ZRANGEBYSCORE k 1 2 LIMIT 0 1.0", Refusal::BadInteger),
+    (
+        "ZRANGEBYSCORE k 1 2 LIMIT y 0 LIMIT 3 1",
+        Refusal::BadInteger,
+    ),
+];
+
+#[test]
+fn refused_requests(rt: HostRuntime) -> Result<(), Fail> {
+    for (text, refusal) in REFUSED {
+        match Command::read(rt.alloc(), request(rt.alloc(), text)?) {
+            Ok(_) => assert!(rt; false, "{text} is read"),
+            Err(given) => assert_eq!(rt; given, refusal, "at {text}"),
+        }
+    }
+    Ok(())
+}
+
+// Requests that are read: the key, whether they write, and whether they create.
+const READ: [(&str, Option<&str>, bool, bool); 14] = [
+    ("PING", None, false, false),
+    ("ping hi", None, false, false),
+    ("ZADD k 1 a", Some("k"), true, true),
+    ("zadd k nx ch NX 1 a 2 b", Some("k"), true, true),
+    ("ZADD k XX 1 a", Some("k"), true, false),
+    ("ZADD k NX INCR 1.0 a", Some("k"), true, true),
+    ("ZADD k XX INCR 5 b", Some("k"), true, false),
+    ("ZADD  1 ", Some(""), true, true),
+    ("ZREM k a a x", Some("k"), true, false),
+    ("ZSCORE k a", Some("k"), false, false),
+    ("ZCARD k", Some("k"), false, false),
+    ("ZCOUNT k (inf +INF", Some("k"), false, false),
+    (
+        "ZRANGEBYSCORE k -inf +inf limit 3 9 withscores",
+        Some("k"),
+        false,
+        false,
+    ),
+    (
+        "ZRANGEBYSCORE k -inf +inf LIMIT -1 2 LIMIT 0 1",
+        Some("k"),
+        false,
+        false,
+    ),
+];
+
+#[test]
+fn read_requests(rt: HostRuntime) -> Result<(), Fail> {
+    for (text, key, writes, creates) in READ {
+        match Command::read(rt.alloc(), request(rt.alloc(), text)?) {
+            Ok(command) => {
+                assert_eq!(rt;
+                    command.key(),
+                    key.map(|k| k.as_bytes()),
+                    "the key of {text}"
+                );
+                assert_eq!(rt; command.writes(), writes, "at {text}");
+                assert_eq!(rt; command.creates(), creates, "at {text}");
+                let words = request(rt.alloc(), text)?;
+                assert!(rt;
+                    command.request().words() == words.words(),
+                    "the words of {text}"
+                );
+            }
+            Err(refusal) => assert!(rt; false, "{text} is refused: {refusal}"),
+        }
+    }
+    Ok(())
+}
+
+#[test]
+fn refusal_texts(rt: HostRuntime) -> Result<(), Fail> {
+    for (_, refusal) in REFUSED {
+        let shown = refusal.to_string(rt.alloc())?;
+        assert_eq!(rt; shown.as_str(), refusal.text());
+    }
+    assert_eq!(rt; Refusal::OutOfStep.number(), 17);
+    assert_eq!(rt; Refusal::NoMemory.text(), "ERR 1 out of memory");
+    Ok(())
+}

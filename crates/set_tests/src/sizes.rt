@@ -1,0 +1,116 @@
+//! Commands, members and sets as large as they may be, with ample memory.
+
+ghost use Rattle.std.specs.Prelude.{◌≡◌, None};
+
+use crate::examples::{Owner, command, reply_to, text_of};
+use std::alloc::Global;
+use std::hash::RandomState;
+use std::test::Fail;
+use zset_core::OneOwner;
+
+/// The most pairs of one ZADD.
+const PAIRS: u32 = 512;
+
+/// The most members of one ZREM.
+const NAMES: u32 = 1_025;
+
+/// The most bytes of a member.
+const MEMBER: usize = 65_536;
+
+/// `ZADD k` with so many pairs: each member is `m` and its number, which is its score.
+fn addition(alloc: Global, from: u32, count: u32) -> Result<String, Fail> {
+    let mut text = "ZADD k".to_string(alloc)?;
+    for index in 0..count {
+        let number = u64::from(from) + u64::from(index);
+        text.push_str(&format!(in alloc; " {number} m{number}")?)?;
+    }
+    Ok(text)
+}
+
+/// `ZREM k` with so many members, from `m0` on.
+fn removal(alloc: Global, count: u32) -> Result<String, Fail> {
+    let mut text = "ZREM k".to_string(alloc)?;
+    for number in 0..count {
+        text.push_str(&format!(in alloc; " m{number}")?)?;
+    }
+    Ok(text)
+}
+
+/// Commands in turn, with their replies.
+fn expect(alloc: Global, owner: &mut Owner, talk: &[(&str, &str)]) -> Result<(), Fail>
+    requires { owner.old.next ≡ None }
+    ensures { owner.new.next ≡ None }
+{
+    for (text, wanted) in talk {
+        if reply_to(alloc, owner, text)?.as_str() != *wanted {
+            return Err("another reply")?;
+        }
+    }
+    Ok(())
+}
+
+/// A set of so many times 500 members.
+fn fill(alloc: Global, owner: &mut Owner, times: u32) -> Result<(), Fail>
+    requires { owner.old.next ≡ None }
+    ensures { owner.new.next ≡ None }
+{
+    for turn in 0..times {
+        let text = addition(alloc, turn.saturating_mul(500), 500)?;
+        expect(alloc, owner, &[(text.as_str(), ":500~")])?;
+    }
+    Ok(())
+}
+
+#[test]
+fn the_longest_commands_are_answered(rt: HostRuntime) -> Result<(), Fail> {
+    let alloc = rt.alloc();
+    let mut owner = OneOwner::new(alloc, RandomState::new(&rt)?);
+    let added = addition(alloc, 0, PAIRS)?;
+    let removed = removal(alloc, NAMES)?;
+    let talk = [
+        (added.as_str(), ":512~"),
+        ("ZCOUNT k 100 199", ":100~"),
+        (removed.as_str(), ":512~"),
+        ("ZCARD k", ":0~"),
+    ];
+    expect(alloc, &mut owner, &talk)
+}
+
+#[test]
+fn the_longest_member_is_kept(rt: HostRuntime) -> Result<(), Fail> {
+    let alloc = rt.alloc();
+    let mut owner = OneOwner::new(alloc, RandomState::new(&rt)?);
+    let member = "m".repeat(alloc, MEMBER)?;
+    let added = format!(in alloc; "ZADD k 5 {member}")?;
+    let listed = format!(in alloc; "*1~$65536~{member}~")?;
+    let removed = format!(in alloc; "ZREM k {member}")?;
+    let talk = [
+        (added.as_str(), ":1~"),
+        ("ZRANGEBYSCORE k 5 5", listed.as_str()),
+        (removed.as_str(), ":1~"),
+        ("ZRANGEBYSCORE k 5 5", "*0~"),
+    ];
+    expect(alloc, &mut owner, &talk)
+}
+
+#[test]
+fn a_large_set_is_answered(rt: HostRuntime) -> Result<(), Fail> {
+    let alloc = rt.alloc();
+    let mut owner = OneOwner::new(alloc, RandomState::new(&rt)?);
+    fill(alloc, &mut owner, 240)?;
+    let talk = [
+        ("ZCARD k", ":120000~"),
+        ("ZCOUNT k 1000 (2000", ":1000~"),
+        ("ZADD k 1500 x", ":1~"),
+        ("ZREM k m1501", ":1~"),
+        ("ZADD k INCR 1 m99999", "$6~100000~"),
+        (
+            "ZRANGEBYSCORE k 1499 1502",
+            "*4~$5~m1499~$5~m1500~$1~x~$5~m1502~",
+        ),
+        ("ZRANGEBYSCORE k -inf +inf LIMIT 119999 5", "*1~$7~m119999~"),
+        ("ZSCORE k m119998", "$6~119998~"),
+        ("ZCOUNT k -inf +inf", ":120000~"),
+    ];
+    expect(alloc, &mut owner, &talk)
+}
