@@ -9,11 +9,13 @@ use Rattle.zset_core.specs.Step.{step}
 use Rattle.zset_core.specs.View.{Next, ShowsAt, IsReadyAt}
 use Rattle.zset_core.specs.Outlined.{IsOutline}
 use Rattle.zset_core.specs.declared.outline.Outline.{Outline}
-use Rattle.zset_core.specs.World.{World, set_at, put_set, act}
+use Rattle.zset_core.specs.declared.refusal.Refusal.{Refusal}
+use Rattle.zset_core.specs.declared.refusal.Refusal.TheVariants.{NoMemory, ScoreOverflow}
+use Rattle.zset_core.specs.World.{World, set_at, put_set, act_at, act}
 use Rattle.append_log.specs.Records.{Record}
 use Rattle.append_log.specs.Replay.{after, after_reading}
 use Rattle.append_log.specs.Log.{LogView, HasRecords, IsLog, Ends}
-use Rattle.append_log.specs.Logged.{LoggedView, AreSame, Replays}
+use Rattle.append_log.specs.Logged.{LoggedView, AreSame, Changes, NotAppended, NotRun, Replays}
 use Rattle.append_log.proofs.Replays.{replay-append, replay-one}
 use Rattle.append_log.proofs.Sames.{some_is, AreSame-put_back, set_at-put_set-same, act-same}
 use Rattle.append_log.proofs.Decided.{unchanged}
@@ -37,6 +39,22 @@ committed world end (Some k) meaning outline next reply ready o made = shown (st
     shown : (s : Option (Members × Response)) → ShowsAt k s meaning next → Committed world end outline
     shown None is = absurd is
     shown (Some done) is = by_next world end outline (k, record { meaning = meaning; members = done.0; reply = done.1 }) (subst (λ (n : Option (List ℕ × Next)). IfSome n (λ n. (end ≡ put_set world n.0 n.1.members) × (reply ≡ n.1.reply))) is made).0 (subst (λ (n : Option (List ℕ × Next)). IfSome n (λ n. IsOutline outline (set_at world n.0) n.1.members)) is o)
+
+-- a command that is prepared and whose outline says that it changes its set does so
+pub changes-ready : (world : World) (key : Option (List ℕ)) (meaning : Meaning) (outline : Outline) (next : Option (List ℕ × Next)) → IsReadyAt world key meaning next
+    → IfSome next (λ n. IsOutline outline (set_at world n.0) n.1.members) → outline.changed ≡ true → Changes world (act_at world key meaning)
+changes-ready world None meaning outline next ready o change = absurd ready
+changes-ready world (Some k) meaning outline next ready o change = shown (step (set_at world k) meaning) ready
+  where
+    shown : (s : Option (Members × Response)) → ShowsAt k s meaning next → Changes world (option_map (λ done. (put_set world k done.0, done.1)) s)
+    shown None is = absurd is
+    shown (Some done) is = (by_next world (put_set world k done.0) outline (k, record { meaning = meaning; members = done.0; reply = done.1 }) refl (subst (λ (n : Option (List ℕ × Next)). IfSome n (λ n. IsOutline outline (set_at world n.0) n.1.members)) is o)).moved change
+
+-- a command that changes a set and whose record is not appended is not run
+pub not_run : (refusal : Refusal) (world : World) (made : Option (World × Response)) (bytes : List ℕ) (old new : LogView) → Changes world made → NotAppended refusal bytes old new → NotRun refusal world made bytes old new
+not_run NoMemory world made bytes old new changes cause = cause
+not_run ScoreOverflow world made bytes old new changes cause = absurd cause
+not_run refusal world made bytes old new changes cause = (changes, cause)
 
 after-writing : (world : World) (words : Record) (meaning : Meaning) → asked words ≡ Ok meaning → IsTrue (is_writing meaning) → after world words ≡ option_map (λ done. done.0) (act world meaning)
 after-writing world words meaning read writes =

@@ -8,3 +8,4 @@ pub mod Reloading
 pub mod Logged
 pub mod Image
 pub mod Rewriting
+pub mod Files

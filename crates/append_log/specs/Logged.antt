@@ -1,5 +1,5 @@
 -- An owner of sets whose changes are logged.
-use Rattle.std.specs.Prelude.{◌≡◌, ℕ, ◌+◌, true, false, List, Option, None, Some}
+use Rattle.std.specs.Prelude.{◌≡◌, ◌≢◌, ℕ, ◌+◌, true, false, List, Option, None, Some, IsSomeAnd}
 use Rattle.resp_wire.specs.Device.{Rose}
 use Rattle.resp_wire.specs.Spelling.{request}
 use Rattle.resp_wire.specs.Response.{Response}
@@ -29,14 +29,25 @@ pub record Replays (start : World) (state : LoggedView) : Type 0 where
   pub replayed : replay start records ≡ Some world
   pub same : AreSame world state.world
 
--- why a command is not run, where this is what it would make, and what becomes of the log
-abbrev pub NotRun : Refusal → Option (World × Response) → List ℕ → LogView → LogView → Type 0
-NotRun NoMemory next bytes old new = new ≡ old
-NotRun ScoreOverflow next bytes old new = (new ≡ old) × (next ≡ None)
-NotRun LogBroken next bytes old new = (new ≡ old) × (old.broken ≡ true)
-NotRun LogFull next bytes old new = (new ≡ old) × (old.broken ≡ false) × (old.appended ≡ old.limit)
-NotRun LogRefused next bytes old new = Breaks old new bytes × Rose old.failures new.failures
-NotRun _ next bytes old new = ⊥
+-- a command that makes this of a world changes a set of it
+abbrev pub Changes : World → Option (World × Response) → Type 0
+Changes world made = IsSomeAnd made (λ done. AreSame world done.0 → ⊥)
+
+-- why a record is not appended, and what becomes of the log
+abbrev pub NotAppended : Refusal → List ℕ → LogView → LogView → Type 0
+NotAppended NoMemory bytes old new = new ≡ old
+NotAppended LogBroken bytes old new = (new ≡ old) × (old.broken ≡ true)
+NotAppended LogFull bytes old new = (new ≡ old) × (old.broken ≡ false) × (old.appended ≡ old.limit)
+NotAppended LogRefused bytes old new =
+    Breaks old new bytes × Rose old.failures new.failures × (old.broken ≡ false) × (old.appended ≢ old.limit)
+NotAppended _ bytes old new = ⊥
+
+-- why a command is not run that would make this of a world, and what becomes of the log: for want of memory, since a sum
+-- of INCR is no score, or, where it changes a set, since its record is not appended
+abbrev pub NotRun : Refusal → World → Option (World × Response) → List ℕ → LogView → LogView → Type 0
+NotRun NoMemory world made bytes old new = new ≡ old
+NotRun ScoreOverflow world made bytes old new = (new ≡ old) × (made ≡ None)
+NotRun refusal world made bytes old new = Changes world made × NotAppended refusal bytes old new
 
 -- a command was run: its record was appended exactly where a set changed
 pub record Ran (old new : LoggedView) (command : Asked) (reply : Response) : Type 0 where
@@ -48,4 +59,4 @@ pub record Ran (old new : LoggedView) (command : Asked) (reply : Response) : Typ
 pub record Refused (old new : LoggedView) (command : Asked) (refusal : Refusal) : Type 0 where
   pub world_stays : new.world ≡ old.world
   pub share_stays : new.share ≡ old.share
-  pub cause : NotRun refusal (act old.world command.meaning) (request command.words) old.log new.log
+  pub cause : NotRun refusal old.world (act old.world command.meaning) (request command.words) old.log new.log

@@ -1,12 +1,77 @@
-//! Files as sinks.
+//! Files as sinks, and their locks.
 
-ghost use Rattle.std.specs.Prelude.{◌≡◌, ℕ, ◌≤◌, None, length, IfOk};
+ghost use Rattle.std.specs.Prelude.{◌≡◌, ℕ, ◌≤◌, None, length, IfOk, IfErr};
 ghost use Rattle.resp_wire.specs.Device.{risen};
+ghost use Rattle.append_log.specs.Files.{IsOfLock};
 
 use crate::sink::{LogSink, SinkFault};
 use resp_wire::{ATTEMPTS, is_interrupted, write_uninterrupted};
-use std::fs::OpenFile;
+use std::fs::{File, OpenFile, TryLockError};
 use std::io::{Result as IoResult, Write};
+use thiserror::Error;
+
+/// Why a file can't be used.
+#[derive(Clone, Copy, Debug, PartialEq, Eq, Error)]
+pub enum FileFault {
+    /// It could not be opened or made.
+    #[error("it can't be opened or made")]
+    Open,
+    /// It is a folder, a pipe or a device.
+    #[error("it is no regular file")]
+    NotRegular,
+    /// Somebody else holds a lock on it.
+    #[error("it is in use")]
+    Locked,
+    /// The system gave no lock.
+    #[error("it can't be locked")]
+    Lock,
+    /// Its torn end could not be cut.
+    #[error("it can't be cut")]
+    Cut,
+    /// It could not be given its name: a file of that name is there, or the folder has no links.
+    #[error("it can't be given its name")]
+    Name,
+    /// Its folder could not be synced.
+    #[error("its folder can't be synced")]
+    Folder,
+}
+
+/// A file that can be locked. A lock keeps out nobody but those who ask for one, and it is held
+/// until the file is closed.
+pub trait LockFile {
+    /// Takes a lock beside which there is no other. Does not wait.
+    fn hold_alone(&self) -> Result<(), FileFault>
+        ensures { IfErr result IsOfLock };
+
+    /// Takes a lock beside which there are only such as this one. Does not wait.
+    fn hold_shared(&self) -> Result<(), FileFault>
+        ensures { IfErr result IsOfLock };
+}
+
+fn lock_fault(error: TryLockError) -> FileFault
+    ensures { IsOfLock result }
+{
+    match error {
+        TryLockError::WouldBlock => FileFault::Locked,
+        TryLockError::Error(_) => FileFault::Lock,
+    }
+}
+
+impl LockFile for File {
+    fn hold_alone(&self) -> Result<(), FileFault> {
+        match self.try_lock() {
+            Ok(()) => Ok(()),
+            Err(error) => Err(lock_fault(error)),
+        }
+    }
+
+    fn hold_shared(&self) -> Result<(), FileFault> {
+        match self.try_lock_shared() {
+            Ok(()) => Ok(()),
+            Err(error) => Err(lock_fault(error)),
+        }
+    }
+}
 
 fn sync_uninterrupted<F: OpenFile>(file: &F) -> IoResult<()> {
     for _ in 1..ATTEMPTS {

@@ -5,20 +5,24 @@
 //! that a reload after a crash leads to all that was answered.
 #![tactic(auto)]
 
+mod drafting;
 mod file;
 mod kept;
 mod loading;
 mod log;
 mod logged;
+mod opening;
 mod record;
 mod renewing;
 mod share;
 mod sink;
 
-pub use file::FileSink;
+pub use drafting::{RenewFault, write_anew};
+pub use file::{FileFault, FileSink, LockFile};
 pub use loading::{Loaded, ReloadFault, reload};
 pub use log::Log;
 pub use logged::LoggedOwner;
+pub use opening::{OpenFault, open_to_append, open_to_read};
 pub use record::Record;
 pub use renewing::{RewriteFault, rewrite};
 pub use share::RecordShare;

@@ -1,6 +1,6 @@
 //! The log: records one behind the other, each synced before the next.
 
-ghost use Rattle.std.specs.Prelude.{◌≡◌, ℕ, ◌+◌, ◌≤◌, ◌^◌, ◌↔◌, ◌⊎◌, length, take, true, false, OnOk, IsErrOf, IsErr, IfSome, IsTrue};
+ghost use Rattle.std.specs.Prelude.{◌≡◌, ◌≢◌, ℕ, ◌+◌, ◌≤◌, ◌^◌, ◌↔◌, ◌⊎◌, length, take, true, false, OnOk, IsErrOf, IsErr, IfSome, IsTrue};
 ghost use Rattle.std.specs.Io.KnownBytes.{append_known};
 ghost use Rattle.resp_wire.specs.Device.{Rose};
 ghost use Rattle.resp_wire.specs.Spelling.{request};
@@ -194,6 +194,8 @@ impl<S: LogSink, L: Ledger> Log<S, L> {
             → Breaks self.old self.new (request entry.now) }
         ensures cause { IsErrOf result Refusal.LogRefused
             → Rose self.old.failures self.new.failures }
+        ensures asked { IsErrOf result Refusal.LogRefused → (self.old.broken ≡ false)
+            × (self.old.appended ≢ self.old.limit) }
         ensures no_other { IsErr result → IsErrOf result Refusal.LogBroken
             ⊎ IsErrOf result Refusal.LogFull ⊎ IsErrOf result Refusal.LogRefused }
         // Whichever records end the sink, they do so again, this one behind them where it was

@@ -6,7 +6,7 @@ ghost use Rattle.resp_wire.specs.Spelling.{request};
 ghost use Rattle.zset_core.specs.Meaning.{is_writing};
 ghost use Rattle.zset_core.specs.World.{World as WorldType};
 ghost use Rattle.append_log.specs.Log.{LogView, Appends, HasRecords, records_after, share_after};
-ghost use Rattle.append_log.specs.Logged.{LoggedView, AreSame, Replays, NotRun, Ran, Refused};
+ghost use Rattle.append_log.specs.Logged.{LoggedView, AreSame, Replays, NotAppended, Ran, Refused};
 
 use crate::log::Log;
 use crate::record::Record;
@@ -30,7 +30,7 @@ fn append_command<S: LogSink, L: Ledger, A: Allocator + Copy>(
     ensures unbroken { OnOk result (log.old.broken ≡ false) }
     ensures share { share.new ≡ share_after share.old result }
     ensures cause { IfErr result
-        (λ refusal. (next : _) → NotRun refusal next (request command.now.words) log.old log.new) }
+        (λ refusal. NotAppended refusal (request command.now.words) log.old log.new) }
     ensures records { (records : _) → HasRecords log.old records
         → HasRecords log.new (records_after records command.now.words result) }
 {
@@ -162,8 +162,8 @@ impl<H: BuildHasher + Clone + Drop, S: LogSink, L: Ledger, A: Allocator + Copy> 
     /// # Errors
     ///
     /// All sets are as they were. [`Refusal::NoMemory`] or [`Refusal::ScoreOverflow`]: the log was
-    /// not asked. [`Refusal::LogBroken`], [`Refusal::LogFull`] or [`Refusal::LogRefused`]: as
-    /// [`Log::append`] has them.
+    /// not asked. [`Refusal::LogBroken`], [`Refusal::LogFull`] or [`Refusal::LogRefused`]: the
+    /// command would change a set, and [`Log::append`] refused its record.
     pub fn run(&mut self, command: &Command<A>) -> Result<Reply<A>, Refusal>
         ensures ok { IfOk result (λ reply. Ran self.old self.new command.now (response_of reply)) }
         ensures err { IfErr result (λ refusal. Refused self.old self.new command.now refusal) }

@@ -189,11 +189,19 @@ fn file(alloc: Global, records: &[&str]) -> Result<Vec<u8>, Fail> {
     Ok(bytes)
 }
 
+/// ZADD k 1 a, ZADD k 2 b and ZREM k a: records of 35, 35 and 28 bytes.
+const THREE_RECORDS: &[u8] =
+    b"*4\r\n$4\r\nZADD\r\n$1\r\nk\r\n$1\r\n1\r\n$1\r\na\r\n*4\r\n$4\r\nZADD\r\n$1\r\nk\r\n$1\r\n2\r\n$1\r\nb\r\n*3\r\n$4\r\nZREM\r\n$1\r\nk\r\n$1\r\na\r\n";
+
+/// ZADD j -3 x and ZADD k 1 B 1 a 1 b: records of 36 and 63 bytes.
+const TWO_SETS: &[u8] =
+    b"*4\r\n$4\r\nZADD\r\n$1\r\nj\r\n$2\r\n-3\r\n$1\r\nx\r\n*8\r\n$4\r\nZADD\r\n$1\r\nk\r\n$1\r\n1\r\n$1\r\nB\r\n$1\r\n1\r\n$1\r\na\r\n$1\r\n1\r\n$1\r\nb\r\n";
+
 #[test]
 fn reloaded_files(rt: HostRuntime) -> Result<(), Fail> {
     let alloc = rt.alloc();
     let mut whole = file(alloc, &["ZADD k 1 a", "ZADD k 2 b", "ZREM k a"])?;
-    assert_eq!(rt; whole.len(), 98);
+    assert_eq!(rt; whole.as_slice(), THREE_RECORDS);
     let listing = "ZRANGEBYSCORE k -inf +inf WITHSCORES";
 
     let (all, pairs) = load(alloc, RandomState::new(&rt)?, whole.as_slice(), listing)?;
@@ -234,9 +242,7 @@ fn rewritten_sets(rt: HostRuntime) -> Result<(), Fail> {
     answer(alloc, &mut owner, "ZADD j -3 x")?;
     let mut sink = MemorySink::new(alloc, 7);
     assert_eq!(rt; rewrite(alloc, &owner, &mut sink), Ok(2));
-    let records = file(alloc, &["ZADD j -3 x", "ZADD k 1 B 1 a 1 b"])?;
-    assert_eq!(rt; records.len(), 99);
-    assert_eq!(rt; sink.bytes(), records.as_slice());
+    assert_eq!(rt; sink.bytes(), TWO_SETS);
     let listing = "ZRANGEBYSCORE k -inf +inf WITHSCORES";
     let (again, pairs) = load(alloc, RandomState::new(&rt)?, sink.bytes(), listing)?;
     assert_eq!(rt; again, loaded(2, 99, 0));

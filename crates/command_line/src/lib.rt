@@ -6,6 +6,9 @@ use clap::error::ErrorKind;
 use clap::{Arg, ArgAction, ArgMatches, Command, Error};
 use std::alloc::{AllocError, Global};
 
+/// What `--version` prints behind the program's name.
+const VERSION: &str = "0.2.0";
+
 /// What the program is asked to do.
 #[derive(Clone, Copy, Debug, PartialEq, Eq)]
 pub enum Task<'a> {
@@ -18,10 +21,11 @@ pub enum Task<'a> {
 /// Why there is nothing to do.
 #[derive(Debug, Drop)]
 pub enum Unasked {
-    /// Help is wanted: the error prints it.
-    Help(Error),
-    /// The words ask for nothing that is known.
-    Bad,
+    /// A text is asked for, help or the version, which the error prints on standard output.
+    Text(Error),
+    /// The words ask for nothing that is known. The error prints on standard error what is wrong
+    /// with them, and how they are used.
+    Bad(Error),
     NoMemory,
 }
 
@@ -29,7 +33,7 @@ fn stdio_command<'a>(alloc: Global) -> Result<Command<'a>, AllocError> {
     let file = Arg::new(alloc, "file")
         .long("file")
         .value_name("PATH")
-        .help("Keeps the changes in this append file")
+        .help("Keeps the changes in this append file, which is made where it is missing")
         .action(ArgAction::Set);
     Command::new(alloc, "stdio")
         .about("Serves standard input to standard output")
@@ -37,12 +41,14 @@ fn stdio_command<'a>(alloc: Global) -> Result<Command<'a>, AllocError> {
 }
 
 fn rewrite_command<'a>(alloc: Global) -> Result<Command<'a>, AllocError> {
-    let old = Arg::new(alloc, "OLD").required(true);
-    let new = Arg::new(alloc, "NEW").required(true);
+    let old = Arg::new(alloc, "OLD")
+        .help("The append file that is read; no server may have it open")
+        .required(true);
+    let new = Arg::new(alloc, "NEW")
+        .help("The append file that is made; nothing of this name may be there")
+        .required(true);
     Command::new(alloc, "rewrite")
-        .about(
-            "Writes the append file OLD anew, as short as it can be, to NEW, which must not be there",
-        )
+        .about("Writes the append file OLD anew, as short as it can be, to NEW")
         .arg(old)?
         .arg(new)
 }
@@ -50,6 +56,7 @@ fn rewrite_command<'a>(alloc: Global) -> Result<Command<'a>, AllocError> {
 fn command<'a>(alloc: Global) -> Result<Command<'a>, AllocError> {
     Command::new(alloc, "zcrackd")
         .about("A server for sorted sets whose replies are proved")
+        .version(VERSION)
         .subcommand_required(true)
         .disable_help_subcommand(true)
         .subcommand(stdio_command(alloc)?)?
@@ -76,12 +83,10 @@ fn matches<'a>(alloc: Global, words: &'a [String]) -> Result<ArgMatches<'a>, Err
 
 /// Why the words of a command line were not taken.
 fn reason_of(error: Error) -> Unasked {
-    if error.exit_code() == 0 {
-        Unasked::Help(error)
-    } else if error.kind() == ErrorKind::OutOfMemory {
-        Unasked::NoMemory
-    } else {
-        Unasked::Bad
+    match error.kind() {
+        ErrorKind::DisplayHelp | ErrorKind::DisplayVersion => Unasked::Text(error),
+        ErrorKind::OutOfMemory => Unasked::NoMemory,
+        _ => Unasked::Bad(error),
     }
 }
 

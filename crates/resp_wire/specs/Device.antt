@@ -1,5 +1,5 @@
 -- What the calls of a source or a drain do to the bytes that it tells and to its counts.
-use Rattle.std.specs.Prelude.{ℕ, ◌+◌, ◌-◌, ◌^◌, ◌<◌, ◌≤◌, ◌⊎◌, min, List, [], take, Result, Ok, Err}
+use Rattle.std.specs.Prelude.{ℕ, ◌+◌, ◌-◌, ◌^◌, ◌<◌, ◌≤◌, ◌⊎◌, min, List, [], take, Option, Result, Ok, Err}
 
 -- the front of the bytes that a call moved: so many where it is Ok, and none where it failed
 abbrev pub moved : {E : Type 0} → Result ℕ E → List ℕ → List ℕ
@@ -14,6 +14,11 @@ risen n = min (n + 1) (2 ^ 64 - 1)
 abbrev pub failures_after : {T E : Type 0} → ℕ → Result T E → ℕ
 failures_after n (Ok _) = n
 failures_after n (Err _) = risen n
+
+-- the bytes that a drain has sent on after a flush with this result, where it had taken these
+abbrev pub flushed_after : {T E : Type 0} → Option (List ℕ) → Option (List ℕ) → Result T E → Option (List ℕ)
+flushed_after flushed told (Ok _) = told
+flushed_after flushed told (Err _) = flushed
 
 -- a count rose, or stands at its greatest, which counts as risen
 abbrev pub Rose : ℕ → ℕ → Type 0

@@ -7,7 +7,7 @@ ghost use Rattle.std.specs.Prelude.{◌≡◌, ◌↔◌, ℕ, ◌<◌, ◌≤�
 ghost use Rattle.std.specs.IoError.{error_kind};
 ghost use Rattle.std.specs.declared.io.ErrorKind.TheVariants.{Interrupted};
 ghost use Rattle.std.specs.Io.KnownBytes.{append_known, prepend_known, IsAtEnd};
-ghost use Rattle.resp_wire.specs.Device.{moved, risen, failures_after};
+ghost use Rattle.resp_wire.specs.Device.{moved, risen, failures_after, flushed_after};
 
 use std::error::Error;
 use std::fmt;
@@ -51,6 +51,9 @@ pub trait ByteDrain {
     /// The bytes that were taken, where they are known.
     ghost told: { Self → Option (List ℕ) };
 
+    /// The bytes that were taken before the last good flush, where they are known.
+    ghost flushed: { Self → Option (List ℕ) };
+
     /// The number of calls. At 2^64 - 1 it stays, and counts as risen.
     ghost calls: { Self → ℕ };
 
@@ -63,12 +66,14 @@ pub trait ByteDrain {
         ensures count { IfOk result (λ n. n ≤ length piece.now) }
         ensures some { IfOk result (λ n. 0 < length piece.now → 0 < n) }
         ensures told { told self.new ≡ append_known (told self.old) (moved result piece.now) }
+        ensures flushed { flushed self.new ≡ flushed self.old }
         ensures calls { calls self.new ≡ risen (calls self.old) }
         ensures failures { failures self.new ≡ failures_after (failures self.old) result };
 
     /// Sends on what the device holds back.
     fn flush(&mut self) -> Result<(), Failed>
         ensures told { told self.new ≡ told self.old }
+        ensures flushed { flushed self.new ≡ flushed_after (flushed self.old) (told self.old) result }
         ensures calls { calls self.new ≡ risen (calls self.old) }
         ensures failures { failures self.new ≡ failures_after (failures self.old) result };
 }
@@ -193,6 +198,18 @@ impl<W: Write> Writing<W> {
         }
     }
 
+    /// Gives the writer back, with what it holds.
+    pub fn into_inner(self) -> W
+        ensures { result ≡ self.inner }
+    {
+        let Writing {
+            inner,
+            calls: _,
+            failures: _,
+        } = self;
+        inner
+    }
+
     fn fail(&mut self) -> Failed
         ensures calls { self.new.calls ≡ self.old.calls }
         ensures failures { self.new.failures ≡ risen self.old.failures }
@@ -204,6 +221,8 @@ impl<W: Write> Writing<W> {
 
 impl<W: Write> ByteDrain for Writing<W> {
     ghost told = { λ s. None };
+
+    ghost flushed = { λ s. None };
 
     ghost calls = { λ s. s.calls };
 

@@ -1,12 +1,12 @@
 -- How owners of sets answer a command.
-use Rattle.std.specs.Prelude.{◌≡◌, ℕ, Option, None, Some, Result, Ok, Err, MatchResult}
+use Rattle.std.specs.Prelude.{◌≡◌, true, None, Some, Result, Ok, Err, MatchResult, OnOk}
 use Rattle.resp_wire.specs.Response.{Response}
 use Rattle.zset_core.specs.Meaning.{Asked}
 use Rattle.zset_core.specs.World.{World, act}
 use Rattle.zset_core.specs.View.{OwnerView}
 use Rattle.zset_core.specs.Refused.{IsRefused}
 use Rattle.zset_core.specs.declared.refusal.Refusal.{Refusal}
-use Rattle.append_log.specs.Logged.{LoggedView, Ran, Refused, Replays}
+use Rattle.append_log.specs.Logged.{LoggedView, AreSame, Ran, Refused, Replays}
 
 -- no set of it is prepared
 abbrev pub IsIdle : OwnerView → Type 0
@@ -18,7 +18,9 @@ OwnerAnswers old command (Ok reply) new = act old.world command.meaning ≡ Some
 OwnerAnswers old command (Err refusal) new = (new.world ≡ old.world) × IsRefused refusal (act old.world command.meaning)
 
 -- how an owner with an append file answers: it runs the command and appends its record where a set changes, or refuses
--- it and leaves all sets; and whatever world the log's records led from to its own, they do so again
+-- it and leaves all sets; where the log is broken it runs only what changes no set; and whatever world the log's records
+-- led from to its own, they do so again
 pub record LoggedAnswers (old : LoggedView) (command : Asked) (answer : Result Response Refusal) (new : LoggedView) : Type 0 where
   pub told : MatchResult answer (λ reply. Ran old new command reply) (λ refusal. Refused old new command refusal)
+  pub unbroken : OnOk answer (old.log.broken ≡ true → AreSame old.world new.world)
   pub replays : (start : World) → Replays start old → Replays start new

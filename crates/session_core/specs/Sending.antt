@@ -46,3 +46,12 @@ SourceFailed ReadFault old new = Rose old new
 SourceFailed (WriteFault out) old new = new ≡ old
 SourceFailed (Wire told) old new = new ≡ old
 SourceFailed TooManyReads old new = new ≡ old
+
+-- where a session ends by this fault, all that its drain took was sent on, but for want of memory or where the drain
+-- failed
+abbrev pub SentOn : SessionFault → Option (List ℕ) → Option (List ℕ) → Type 0
+SentOn NoMemory told flushed = Unit {0}
+SentOn ReadFault told flushed = flushed ≡ told
+SentOn (WriteFault out) told flushed = Unit {0}
+SentOn (Wire fault) told flushed = flushed ≡ told
+SentOn TooManyReads told flushed = flushed ≡ told

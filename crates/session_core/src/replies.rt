@@ -4,7 +4,7 @@ ghost use Rattle.std.specs.Prelude.{◌≡◌, ℕ, ◌+◌, ◌≤◌, ◌<◌,
 ghost use Rattle.std.specs.Io.KnownBytes.{append_known};
 ghost use Rattle.resp_wire.specs.Device.{Rose};
 ghost use Rattle.resp_wire.specs.Response.{response_of, encoded};
-ghost use Rattle.session_core.specs.Sending.{SendEnds, FaultEnds, DrainFailed};
+ghost use Rattle.session_core.specs.Sending.{SendEnds, FaultEnds, DrainFailed, SentOn};
 
 use crate::fault::SessionFault;
 use resp_wire::{ByteDrain, ProtocolFault, Reply, write_reply};
@@ -45,6 +45,7 @@ pub fn send<D: ByteDrain, A: Allocator>(
     ensures failures { MatchResult result (λ _. D.failures drain.new ≡ D.failures drain.old)
         (λ e. DrainFailed e (D.failures drain.old) (D.failures drain.new)) }
     ensures few { OnOk result (out.new < out.old + 2 ^ 64) }
+    ensures sent_on { IfErr result (λ end. SentOn end (D.told drain.new) (D.flushed drain.new)) }
 {
     text.clear();
     if write_reply(reply, text).is_err() {
@@ -70,6 +71,7 @@ pub fn tell_fault<D: ByteDrain, A: Allocator>(
     requires { out.old < 2 ^ 127 }
     ensures ended { FaultEnds fault out.old (D.told drain.old) (D.told drain.new) result }
     ensures failures { DrainFailed result (D.failures drain.old) (D.failures drain.new) }
+    ensures sent_on { SentOn result (D.told drain.new) (D.flushed drain.new) }
 {
     match send(drain, text, out, &Reply::Fault(fault.text())) {
         Err(end) => end,

@@ -1,11 +1,11 @@
 //! A session, from its first byte to its end.
 
-ghost use Rattle.std.specs.Prelude.{◌≡◌, ℕ, ◌+◌, ◌-◌, ◌≤◌, ◌<◌, ◌^◌, ◌++◌, length, min, None, Err, IfErr, OnOk, MatchResult};
+ghost use Rattle.std.specs.Prelude.{◌≡◌, ℕ, ◌+◌, ◌-◌, ◌≤◌, ◌<◌, ◌^◌, ◌++◌, length, min, None, Err, IfErr, OnOk, OnSome, MatchResult};
 ghost use Rattle.resp_wire.specs.Stream.{requests, fault};
 ghost use Rattle.std.specs.Io.KnownBytes.{IsAtEnd};
 ghost use Rattle.resp_wire.specs.Device.{Rose, risen};
 ghost use Rattle.session_core.specs.Session.{Served};
-ghost use Rattle.session_core.specs.Sending.{DrainFailed, SourceFailed};
+ghost use Rattle.session_core.specs.Sending.{DrainFailed, SourceFailed, SentOn};
 ghost use Rattle.session_core.specs.declared.fault.SessionFault.TheVariants.{WriteFault, TooManyReads};
 ghost use Rattle.session_core.specs.Serving.{IsSmall, AnsweredOne, HaltedOne, Answered, Halted, Round, fed};
 
@@ -47,6 +47,7 @@ fn answer<R, A: Allocator + Copy, D: ByteDrain, E: Exec<R, A>>(
         (D.told drain.new)) }
     ensures failures { MatchResult result (λ _. D.failures drain.new ≡ D.failures drain.old)
         (λ end. DrainFailed end (D.failures drain.old) (D.failures drain.new)) }
+    ensures sent_on { IfErr result (λ end. SentOn end (D.told drain.new) (D.flushed drain.new)) }
 {
     let reply = respond(rt, alloc, exec, request);
     send(drain, text, &mut progress.out, &reply)?;
@@ -77,6 +78,7 @@ fn answer_held<R, A: Allocator + Copy, D: ByteDrain, E: Exec<R, A>>(
         progress.old.out (D.told drain.old) end exec.new (D.told drain.new)) }
     ensures failures { MatchResult result (λ _. D.failures drain.new ≡ D.failures drain.old)
         (λ end. DrainFailed end (D.failures drain.old) (D.failures drain.new)) }
+    ensures sent_on { IfErr result (λ end. SentOn end (D.told drain.new) (D.flushed drain.new)) }
 {
     'requests: loop {
         match decoder.next() {
@@ -129,6 +131,7 @@ fn take_piece<R, A: Allocator + Copy, D: ByteDrain, E: Exec<R, A>>(
         end exec.new (D.told drain.new)) }
     ensures failures { MatchResult result (λ _. D.failures drain.new ≡ D.failures drain.old)
         (λ end. DrainFailed end (D.failures drain.old) (D.failures drain.new)) }
+    ensures sent_on { IfErr result (λ end. SentOn end (D.told drain.new) (D.flushed drain.new)) }
 {
     if session.decoder.feed(piece).is_err() {
         return Err(SessionFault::NoMemory);
@@ -150,6 +153,8 @@ fn flush<D: ByteDrain>(drain: &mut D, progress: &Progress) -> Result<(), Session
     ensures err { IfErr result (λ end. end ≡ WriteFault progress.now.out) }
     ensures failures { MatchResult result (λ _. D.failures drain.new ≡ D.failures drain.old)
         (λ _. Rose (D.failures drain.old) (D.failures drain.new)) }
+    ensures sent_on { MatchResult result (λ _. D.flushed drain.new ≡ D.told drain.new)
+        (λ end. SentOn end (D.told drain.new) (D.flushed drain.new)) }
 {
     match drain.flush() {
         Ok(()) => Ok(()),
@@ -186,6 +191,9 @@ fn read_on<R, A: Allocator + Copy, S: ByteSource, D: ByteDrain, E: Exec<R, A>>(
         (λ end. SourceFailed end (S.failures source.old) (S.failures source.new)) }
     ensures drain_failures { MatchResult result (λ _. D.failures drain.new ≡ D.failures drain.old)
         (λ end. DrainFailed end (D.failures drain.old) (D.failures drain.new)) }
+    ensures sent_on { MatchResult result
+        (λ next. OnSome next (D.flushed drain.new ≡ D.told drain.new))
+        (λ end. SentOn end (D.told drain.new) (D.flushed drain.new)) }
 {
     flush(drain, &session.progress)?;
     match source.read(buffer) {
@@ -239,6 +247,9 @@ pub fn serve<R, A: Allocator + Copy, S: ByteSource, D: ByteDrain, E: Exec<R, A>>
         (λ end. SourceFailed end (S.failures source.old) (S.failures source.new)) }
     ensures drain_failures { MatchResult result (λ _. D.failures drain.new ≡ D.failures drain.old)
         (λ end. DrainFailed end (D.failures drain.old) (D.failures drain.new)) }
+    // A read that fails leaves it so too: all was sent on before each read.
+    ensures sent_on { MatchResult result (λ _. D.flushed drain.new ≡ D.told drain.new)
+        (λ end. SentOn end (D.told drain.new) (D.flushed drain.new)) }
 {
     // What a stream holds does not depend on the pieces that it comes in.
     cut();

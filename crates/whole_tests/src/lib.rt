@@ -5,6 +5,10 @@
 #[cfg(test)]
 mod commands;
 #[cfg(test)]
+mod flushing;
+#[cfg(test)]
+mod logging;
+#[cfg(test)]
 mod memory;
 #[cfg(test)]
 mod sessions;

@@ -79,6 +79,8 @@ struct NotingDrain {
 impl ByteDrain for NotingDrain {
     ghost told = { λ d. ⟦<MemoryDrain<Global> as ByteDrain>⟧.told d.drain };
 
+    ghost flushed = { λ d. ⟦<MemoryDrain<Global> as ByteDrain>⟧.flushed d.drain };
+
     ghost calls = { λ d. ⟦<MemoryDrain<Global> as ByteDrain>⟧.calls d.drain };
 
     ghost failures = { λ d. ⟦<MemoryDrain<Global> as ByteDrain>⟧.failures d.drain };

@@ -1,5 +1,5 @@
 -- How the program ends: its exit status, and the lines on standard error.
-use Rattle.std.specs.Prelude.{◌≡◌, ℕ, List, [], ◌∷◌, Option, None, Some, Result, Ok, Err, MatchResult}
+use Rattle.std.specs.Prelude.{◌≡◌, ℕ, ◌+◌, ◌-◌, ◌^◌, ◌≤◌, min, map, option_map, List, [], ◌∷◌, Option, None, Some, Result, Ok, Err, MatchResult}
 use Rattle.resp_wire.specs.Faults.{number_of}
 use Rattle.zset_core.specs.Meaning.{Asked}
 use Rattle.zset_core.specs.declared.refusal.Refusal.{Refusal}
@@ -8,7 +8,7 @@ use Rattle.session_core.specs.declared.fault.Ended.{Ended}
 use Rattle.session_core.specs.declared.fault.SessionFault.{SessionFault}
 use Rattle.session_core.specs.declared.fault.SessionFault.TheVariants as ends
 use Rattle.session_core.specs.Session.{Served}
-use Rattle.session_core.specs.Sending.{SourceFailed, DrainFailed}
+use Rattle.session_core.specs.Sending.{SourceFailed, DrainFailed, SentOn}
 use Rattle.zcrackd.specs.declared.finish.Line.{Line}
 use Rattle.zcrackd.specs.declared.finish.Line.TheVariants as lines
 use Rattle.zcrackd.specs.declared.finish.Finish.{Finish}
@@ -23,6 +23,15 @@ abbrev pub noticed : Option Line → Finish → Finish
 noticed None finish = finish
 noticed (Some line) finish = record { status = finish.status; lines = Some line ∷ first_line finish.lines ∷ [] }
 
+-- a line that counts bytes of replies, without those that were held back
+abbrev pub line_without_held : ℕ → Line → Line
+line_without_held held (lines.WriteFaultAfter out) = lines.WriteFaultAfter (out - held)
+line_without_held held line = line
+
+-- an end after which so many bytes of replies were still held back
+abbrev pub without_held : ℕ → Finish → Finish
+without_held held finish = record { status = finish.status; lines = map (option_map (line_without_held held)) finish.lines }
+
 -- a session that ended so: status 0 at the end of the input, 4 for want of memory, else 1 with one line
 abbrev pub finish_of : Result Ended SessionFault → Finish
 finish_of (Ok ended) = record { status = 0; lines = None ∷ None ∷ [] }
@@ -32,12 +41,19 @@ finish_of (Err (ends.WriteFault out)) = record { status = 1; lines = Some (lines
 finish_of (Err (ends.Wire fault)) = record { status = 1; lines = Some (lines.ProtocolFault (number_of fault)) ∷ None ∷ [] }
 finish_of (Err ends.TooManyReads) = record { status = 1; lines = Some lines.ReadTooOften ∷ None ∷ [] }
 
+-- the most reads of a session
+abbrev pub most_reads : ℕ
+most_reads = 2 ^ 40
+
 -- a session was served, and the program ends by how it ended; a device's count of failures rose only where the
--- session ends by a fault of that device
+-- session ends by a fault of that device; `calls` counts the source's reads, which are told to be too many only
+-- after the most of them, and `flushed` is what the drain has sent on
 pub record Finishes {S : Type 0} (allows : S → Asked → Result Response Refusal → S → Type 0) (start : S)
-    (source₀ source₁ drain₀ drain₁ : Option (List ℕ)) (reads₀ reads₁ writes₀ writes₁ : ℕ) (finish : Finish) (here : S) : Type 0 where
+    (source₀ source₁ drain₀ drain₁ flushed : Option (List ℕ)) (reads₀ reads₁ writes₀ writes₁ calls₀ calls₁ : ℕ) (finish : Finish) (here : S) : Type 0 where
   pub result : Result Ended SessionFault
   pub served : Served allows start source₀ source₁ drain₀ drain₁ result here
   pub reads : MatchResult result (λ ended. reads₁ ≡ reads₀) (λ end. SourceFailed end reads₀ reads₁)
   pub writes : MatchResult result (λ ended. writes₁ ≡ writes₀) (λ end. DrainFailed end writes₀ writes₁)
+  pub many : result ≡ Err ends.TooManyReads → min (calls₀ + most_reads) (2 ^ 64 - 1) ≤ calls₁
+  pub sent_on : MatchResult result (λ ended. flushed ≡ drain₁) (λ end. SentOn end drain₁ flushed)
   pub finish_is : finish ≡ finish_of result

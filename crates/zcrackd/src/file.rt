@@ -1,43 +1,59 @@
 //! The append file: opened for a session, and written anew.
 
-ghost use Rattle.std.specs.Prelude.{◌≡◌, ◌^◌, ◌-◌, None, min, length, IfOk, IfErr, OnOk};
+ghost use Rattle.std.specs.Prelude.{◌≡◌, None, IfOk, IfErr, OnOk};
 ghost use Rattle.std.specs.Io.KnownBytes.{append_known};
 ghost use Rattle.resp_wire.specs.Device.{Rose};
-ghost use Rattle.append_log.specs.Image.{image};
+ghost use Rattle.append_log.specs.Files.{Restores};
 ghost use Rattle.zcrackd.specs.Files as files;
-ghost use Rattle.zcrackd.specs.Files.{PrintsRecords, records_text};
+ghost use Rattle.zcrackd.specs.Files.{FailsBy, Prints, Renews, Rewrites, ServesFile, ServesFrom};
 ghost use Rattle.zcrackd.specs.declared.finish.Line.TheVariants as lines;
 
-use crate::finish::{Finish, Line};
-use append_log::{FileSink, Loaded, ReloadFault, RewriteFault, reload, rewrite};
-use resp_wire::{ByteDrain, Reading};
+use crate::finish::{Finish, Line, Unusable};
+use crate::stdio::stdio_run;
+use append_log::{
+    FileSink, Loaded, LockFile, Log, LogSink, LoggedOwner, OpenFault, ReloadFault, RenewFault,
+    RewriteFault, open_to_append, open_to_read, write_anew,
+};
+use resp_wire::{ByteDrain, ByteSource};
 use std::alloc::Global;
-use std::fs::{File, Files, OpenFile, OpenOptions};
+use std::fs::Files;
 use std::hash::{BuildHasher, RandomState};
-use std::path::Path;
+use std::marker::Brand;
+use std::sync::ledger::{Blank, Ledger};
 use zset_core::OneOwner;
 
-/// The bytes that are read at once.
-const BUFFER: usize = 16_384;
+/// The most records that a session appends to its file.
+const MAX_RECORDS: u64 = 1_000_000_000;
 
-/// The most reads of a file.
-const MAX_READS: u64 = 1 << 40;
-
-/// The line that tells why a file could not be reloaded.
-fn reload_line(fault: ReloadFault) -> Line
-    ensures { result ≡ files.reload_line fault }
+/// The line that tells why a file was not opened.
+fn open_line(fault: OpenFault) -> Line
+    ensures { result ≡ files.open_line fault }
 {
     match fault {
-        ReloadFault::NoMemory => Line::OutOfMemory,
-        ReloadFault::Damaged(at) => Line::FileDamaged(at),
-        ReloadFault::ReadFault => Line::FileReadFault,
-        ReloadFault::NotACommand(at) => Line::NoCommandInFile(at),
-        ReloadFault::TooManyReads => Line::FileReadTooOften,
+        OpenFault::File(fault) => Line::CannotUseFile(Unusable::Old(fault)),
+        OpenFault::Reload(fault) => match fault {
+            ReloadFault::NoMemory => Line::OutOfMemory,
+            ReloadFault::Damaged(at) => Line::FileDamaged(at),
+            ReloadFault::ReadFault => Line::FileReadFault,
+            ReloadFault::NotACommand(at) => Line::NoCommandInFile(at),
+            ReloadFault::TooManyReads => Line::FileReadTooOften,
+        },
+    }
+}
+
+/// The line that tells why a file was not written anew.
+fn renew_line(fault: RenewFault) -> Line
+    ensures { result ≡ files.renew_line fault }
+{
+    match fault {
+        RenewFault::File(fault) => Line::CannotUseFile(Unusable::New(fault)),
+        RenewFault::Rewrite(RewriteFault::NoMemory) => Line::OutOfMemory,
+        RenewFault::Rewrite(RewriteFault::Sink) => Line::WriteFault,
     }
 }
 
 /// How the program ends where a file can't be used, for the cause of the line.
-pub fn file_fault(line: Line) -> Finish
+fn file_fault(line: Line) -> Finish
     ensures { result ≡ files.file_fault line }
 {
     let status = match line {
@@ -49,7 +65,7 @@ pub fn file_fault(line: Line) -> Finish
 }
 
 /// The notice of a torn end, where there is one.
-pub fn torn_notice(loaded: &Loaded) -> Option<Line>
+fn torn_notice(loaded: &Loaded) -> Option<Line>
     ensures { result ≡ files.torn_notice loaded.now }
 {
     if loaded.torn == 0 {
@@ -59,96 +75,87 @@ pub fn torn_notice(loaded: &Loaded) -> Option<Line>
     }
 }
 
-/// Brings the folder of a file to the device, so that a file that was made is found there after a
-/// crash.
-fn sync_folder<R: Files>(rt: &R, path: &str) -> Result<(), Line> {
-    let folder = match Path::new(path).parent() {
-        Some(parent) if !parent.as_str().is_empty() => parent.as_str(),
-        _ => ".",
-    };
-    let Ok(folder) = File::open(rt, folder) else {
-        return Err(Line::CannotUseFile);
-    };
-    folder.sync_all().map_err(|_| Line::CannotUseFile)
-}
-
-/// Opens a file for appending: makes it where it is missing, replays its records on the sets of the
-/// owner, and cuts its torn end. A file with a fault is not written to.
+/// Opens a file for appending, as [`open_to_append`] does, with the line of its fault.
 pub fn open_file<R: Files, H: BuildHasher + Clone + Drop>(
     rt: &R,
     alloc: Global,
     path: &str,
     owner: &mut OneOwner<H, Global>,
 ) -> Result<(FileSink<R::File>, Loaded), Line>
+where
+    R::File: LockFile,
     requires { owner.old.next ≡ None }
-    ensures { owner.new.next ≡ None }
+    ensures idle { owner.new.next ≡ None }
+    ensures restores { IfOk result
+        (λ opened. Restores owner.old.world opened.1 owner.new.world) }
+    ensures calls { IfOk result (λ opened. ⟦<FileSink<R::File> as LogSink>⟧.calls opened.0 ≡ 0) }
+    ensures failures { IfOk result
+        (λ opened. ⟦<FileSink<R::File> as LogSink>⟧.failures opened.0 ≡ 0) }
+    ensures fails { IfErr result (λ line. FailsBy line owner.old.world owner.new.world) }
 {
-    let Ok(file) = OpenOptions::new()
-        .read(true)
-        .append(true)
-        .create(true)
-        .open(rt, path)
-    else {
-        return Err(Line::CannotUseFile);
-    };
-    let mut source = Reading::new(file);
-    let loaded = match reload(alloc, &mut source, owner, BUFFER, MAX_READS) {
-        Ok(loaded) => loaded,
-        Err(fault) => return Err(reload_line(fault)),
-    };
-    let file = source.into_inner();
-    if file.set_len(loaded.whole).is_err() {
-        return Err(Line::CannotUseFile);
+    match open_to_append(rt, alloc, path, owner) {
+        Ok(opened) => Ok(opened),
+        Err(fault) => Err(open_line(fault)),
     }
-    if loaded.whole == 0 {
-        sync_folder(rt, path)?;
-    }
-    Ok((FileSink::new(file), loaded))
 }
 
-/// Opens an old append file for reading, and replays its records.
-fn read_old<R: Files, H: BuildHasher + Clone + Drop>(
+/// Serves the source to the drain from an owner whose changes go to the sink. The blank is of the
+/// ledger that counts its records: one part for the log, one for the owner.
+fn serve_logged<L: Ledger, R, K: LogSink + Drop, S: ByteSource, D: ByteDrain>(
     rt: &R,
     alloc: Global,
-    path: &str,
-    owner: &mut OneOwner<H, Global>,
-) -> Result<Loaded, Line>
-    requires { owner.old.next ≡ None }
-    ensures { owner.new.next ≡ None }
+    blank: Blank,
+    owner: OneOwner<RandomState, Global>,
+    sink: K,
+    source: &mut S,
+    drain: &mut D,
+) -> Finish
+    requires name { blank.name ≡ L.name }
+    requires parts { blank.parts ≡ L.parts }
+    requires two { blank.parts ≡ 2 }
+    requires idle { owner.next ≡ None }
+    ensures { ServesFrom owner.world (S.told source.old) (S.told source.new) (D.told drain.old)
+        (D.told drain.new) (D.flushed drain.new) (S.failures source.old) (S.failures source.new)
+        (D.failures drain.old) (D.failures drain.new) (S.calls source.old) (S.calls source.new)
+        result }
 {
-    let Ok(file) = File::open(rt, path) else {
-        return Err(Line::CannotUseFile);
-    };
-    let mut source = Reading::new(file);
-    reload(alloc, &mut source, owner, BUFFER, MAX_READS).map_err(reload_line)
+    let log = Log::<_, L>::new(blank, sink, MAX_RECORDS);
+    let mut logged = LoggedOwner::new(alloc, owner, log);
+    stdio_run(rt, alloc, source, drain, &mut logged)
 }
 
-/// Makes the new file, which must not be there, and writes the records of the owner's sets into it.
-fn write_new<R: Files, H: BuildHasher + Clone + Drop>(
+/// Serves the source to the drain from the sets of an append file, which is locked meanwhile and to
+/// which the changes go. A torn end is told, and cut.
+pub fn serve_file<R: Files, S: ByteSource, D: ByteDrain>(
     rt: &R,
     alloc: Global,
+    hasher: RandomState,
     path: &str,
-    owner: &OneOwner<H, Global>,
-) -> Result<u64, Line>
-    requires { owner.now.next ≡ None }
-    ensures { IfOk result (λ count. count ≡ min (length (image owner.now.world)) (2 ^ 64 - 1)) }
+    source: &mut S,
+    drain: &mut D,
+) -> Finish
+where
+    R::File: LockFile,
+    ensures { ServesFile (S.told source.old) (S.told source.new) (D.told drain.old)
+        (D.told drain.new) (D.flushed drain.new) (S.failures source.old) (S.failures source.new)
+        (D.failures drain.old) (D.failures drain.new) (S.calls source.old) (S.calls source.new)
+        result }
 {
-    let Ok(file) = OpenOptions::new()
-        .write(true)
-        .create_new(true)
-        .open(rt, path)
-    else {
-        return Err(Line::CannotUseFile);
+    let mut owner = OneOwner::new(alloc, hasher);
+    let (sink, loaded) = match open_file(rt, alloc, path, &mut owner) {
+        Ok(opened) => opened,
+        Err(line) => return file_fault(line),
     };
-    let mut sink = FileSink::new(file);
-    match rewrite(alloc, owner, &mut sink) {
-        Ok(records) => {
-            sync_folder(rt, path)?;
-            Ok(records)
-        }
-        Err(RewriteFault::NoMemory) => Err(Line::OutOfMemory),
-        Err(RewriteFault::Sink) => Err(Line::WriteFault),
-    }
+    let finish = serve_logged::<Brand, _, _, _, _>(
+        rt,
+        alloc,
+        Blank::new(2),
+        owner,
+        sink,
+        source,
+        drain,
+    );
+    finish.after_notice(torn_notice(&loaded))
 }
 
 /// Writes a text to the drain, and sends it on.
@@ -167,20 +174,46 @@ fn print<D: ByteDrain>(drain: &mut D, text: &[u8]) -> Result<(), Line>
     drain.flush().map_err(|_| Line::WriteFault)
 }
 
-/// Prints the number of records.
-fn print_records<D: ByteDrain>(alloc: Global, drain: &mut D, records: u64) -> Result<(), Line>
-    ensures { OnOk result (D.told drain.new
-        ≡ append_known (D.told drain.old) (records_text records)) }
+/// Prints the number of records, and gives it.
+fn print_records<D: ByteDrain>(alloc: Global, drain: &mut D, records: u64) -> Result<u64, Line>
+    ensures { Prints records result (D.told drain.old) (D.told drain.new) (D.failures drain.old)
+        (D.failures drain.new) }
 {
     let Ok(text) = format!(in alloc; "records {records}\n") else {
         return Err(Line::OutOfMemory);
     };
-    print(drain, text.as_bytes())
+    match print(drain, text.as_bytes()) {
+        Ok(()) => Ok(records),
+        Err(line) => Err(line),
+    }
+}
+
+/// Writes the new file with the records of the owner's sets, and prints their number.
+fn renew<R: Files, D: ByteDrain>(
+    rt: &R,
+    alloc: Global,
+    path: &str,
+    owner: &OneOwner<RandomState, Global>,
+    drain: &mut D,
+) -> Finish
+where
+    R::File: LockFile,
+    requires { owner.now.next ≡ None }
+    ensures { Renews owner.now.world (D.told drain.old) (D.told drain.new)
+        (D.failures drain.old) (D.failures drain.new) result }
+{
+    match write_anew(rt, alloc, path, owner) {
+        Ok(records) => match print_records(alloc, drain, records) {
+            Ok(_) => Finish::quiet(0),
+            Err(line) => file_fault(line),
+        },
+        Err(fault) => file_fault(renew_line(fault)),
+    }
 }
 
 /// Writes the append file `new` with the records of the sets that the append file `old` leads to,
-/// and prints their number. `old` is read whole before `new` is made, which must not be there, and
-/// is not written to.
+/// and prints their number. `old` is locked and read whole before anything is made of `new`, which
+/// must not be there, and is not written to.
 pub fn rewrite_run<R: Files, D: ByteDrain>(
     rt: &R,
     hasher: RandomState,
@@ -189,102 +222,17 @@ pub fn rewrite_run<R: Files, D: ByteDrain>(
     new: &str,
     drain: &mut D,
 ) -> Finish
-    ensures { PrintsRecords result (D.told drain.old) (D.told drain.new) }
+where
+    R::File: LockFile,
+    ensures { Rewrites (D.told drain.old) (D.told drain.new) (D.failures drain.old)
+        (D.failures drain.new) result }
 {
     let mut owner = OneOwner::new(alloc, hasher);
-    let loaded = match read_old(rt, alloc, old, &mut owner) {
-        Ok(loaded) => loaded,
-        Err(line) => return file_fault(line),
+    // The old file stays locked until the new one is whole.
+    let (_locked, loaded) = match open_to_read(rt, alloc, old, &mut owner) {
+        Ok(opened) => opened,
+        Err(fault) => return file_fault(open_line(fault)),
     };
-    let finish = match write_new(rt, alloc, new, &owner) {
-        Ok(records) => match print_records(alloc, drain, records) {
-            Ok(()) => Finish::quiet(0),
-            Err(line) => file_fault(line),
-        },
-        Err(line) => file_fault(line),
-    };
+    let finish = renew(rt, alloc, new, &owner, drain);
     finish.after_notice(torn_notice(&loaded))
-}
-
-#[cfg(test)]
-mod tests {
-    use super::*;
-    use resp_wire::MemoryDrain;
-    use std::fs;
-    use std::io::{Read, Write};
-    use std::test::Fail;
-
-    /// Three records, of 35, 35 and 28 bytes.
-    const RECORDS: &[u8] =
-        b"*4\r\n$4\r\nZADD\r\n$1\r\nk\r\n$1\r\n1\r\n$1\r\na\r\n*4\r\n$4\r\nZADD\r\n$1\r\nk\r\n$1\r\n2\r\n$1\r\nb\r\n*3\r\n$4\r\nZREM\r\n$1\r\nk\r\n$1\r\na\r\n";
-
-    fn write_file(rt: &HostRuntime, path: &str, bytes: &[u8]) -> Result<(), Fail> {
-        let mut file = File::create(rt, path)?;
-        file.write_all(bytes)?;
-        Ok(())
-    }
-
-    fn read_file(rt: &HostRuntime, path: &str) -> Result<Vec<u8>, Fail> {
-        let mut bytes = Vec::new(rt.alloc());
-        File::open(rt, path)?.read_to_end(&mut bytes)?;
-        Ok(bytes)
-    }
-
-    #[test]
-    fn a_file_is_written_anew_and_opened(rt: HostRuntime) -> Result<(), Fail> {
-        let alloc = rt.alloc();
-        let hasher = RandomState::new(&rt)?;
-        write_file(&rt, "old.append", RECORDS)?;
-        let mut drain = MemoryDrain::new(alloc, 64);
-        let finish = rewrite_run(&rt, hasher, alloc, "old.append", "new.append", &mut drain);
-        assert_eq!(rt; finish.status, 0);
-        assert_eq!(rt; drain.bytes(), b"records 1\n".as_slice());
-        assert_eq!(rt;
-            read_file(&rt, "new.append")?.as_slice(),
-            RECORDS.get(35..70).unwrap_or(&[])
-        );
-        let again = rewrite_run(&rt, hasher, alloc, "old.append", "new.append", &mut drain);
-        assert!(rt; again == Finish::with_line(3, Line::CannotUseFile));
-        fs::remove_file(&rt, "new.append")?;
-
-        write_file(&rt, "old.append", RECORDS.get(..80).unwrap_or(&[]))?;
-        let torn = rewrite_run(&rt, hasher, alloc, "old.append", "new.append", &mut drain);
-        assert!(rt; torn == Finish::quiet(0).after_notice(Some(Line::TornEnd(10))));
-        assert_eq!(rt; read_file(&rt, "new.append")?.len(), 49);
-        let mut owner = OneOwner::new(alloc, hasher);
-        match open_file(&rt, alloc, "old.append", &mut owner) {
-            Ok((_, loaded)) => {
-                assert!(rt;
-                    loaded
-                        == Loaded {
-                            records: 2,
-                            whole: 70,
-                            torn: 10
-                        }
-                );
-            }
-            Err(line) => assert!(rt; false, "{line}"),
-        }
-        assert_eq!(rt; read_file(&rt, "old.append")?.len(), 70);
-        fs::remove_file(&rt, "old.append")?;
-        fs::remove_file(&rt, "new.append")?;
-
-        let mut empty = OneOwner::new(alloc, hasher);
-        match open_file(&rt, alloc, "made.append", &mut empty) {
-            Ok((_, loaded)) => {
-                assert!(rt;
-                    loaded
-                        == Loaded {
-                            records: 0,
-                            whole: 0,
-                            torn: 0
-                        }
-                );
-            }
-            Err(line) => assert!(rt; false, "{line}"),
-        }
-        assert_eq!(rt; read_file(&rt, "made.append")?.len(), 0);
-        fs::remove_file(&rt, "made.append")?;
-        Ok(())
-    }
 }

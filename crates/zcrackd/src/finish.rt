@@ -1,16 +1,32 @@
 //! How the program ends.
 
 ghost use Rattle.std.specs.Prelude.{◌≡◌, None, Some, [], ◌∷◌};
+ghost use Rattle.zcrackd.specs.Finish as ends;
+ghost use Rattle.zcrackd.specs.declared.finish.Line.TheVariants as lines;
 ghost use Rattle.zcrackd.specs.Finish.{noticed};
 
+use append_log::FileFault;
+use std::alloc::Global;
 use std::fmt;
+
+/// What can't be used, and why. The line is the same for all; a terminal is told more.
+#[derive(Clone, Copy, Debug, PartialEq, Eq)]
+pub enum Unusable {
+    /// A standard stream is closed, and `/dev/null` can't be opened in its place.
+    Stream,
+    /// The append file that is there, or that a session makes.
+    Old(FileFault),
+    /// The append file that a rewrite makes.
+    New(FileFault),
+}
 
 /// A line on standard error.
 #[derive(Clone, Copy, Debug, PartialEq, Eq)]
 pub enum Line {
     BadCommandLine,
-    /// An append file could not be opened, made, cut or synced, or a new one is there already.
-    CannotUseFile,
+    /// An append file can't be used: it can't be opened, made, locked, cut, synced or given its
+    /// name, or it is in use.
+    CannotUseFile(Unusable),
     /// The record that begins at this byte of the append file, counted from 0, is damaged.
     FileDamaged(u64),
     /// The record that begins at this byte of the append file, counted from 0, is no command that
@@ -23,7 +39,7 @@ pub enum Line {
     TornEnd(u64),
     OutOfMemory,
     ReadFault,
-    /// After so many bytes of replies.
+    /// A reply could not be written, after so many bytes of replies had gone out.
     WriteFaultAfter(u128),
     /// What the program prints could not be written, or a new append file.
     WriteFault,
@@ -32,11 +48,23 @@ pub enum Line {
     ReadTooOften,
 }
 
+impl Line {
+    /// The same line, where of the bytes that it counts so many were held back.
+    fn without_held(self, held: usize) -> Line
+        ensures { result ≡ ends.line_without_held held self }
+    {
+        match self {
+            Line::WriteFaultAfter(out) => Line::WriteFaultAfter(out.saturating_sub(held as u128)),
+            line => line,
+        }
+    }
+}
+
 impl fmt::Display for Line {
     fn fmt<W: fmt::Write>(&self, f: &mut fmt::Formatter<W>) -> fmt::Result {
         match self {
             Line::BadCommandLine => f.write_str("zcrackd: bad command line"),
-            Line::CannotUseFile => f.write_str("zcrackd: cannot use file"),
+            Line::CannotUseFile(_) => f.write_str("zcrackd: cannot use file"),
             Line::FileDamaged(at) => write!(f, "zcrackd: append file damaged at byte {at}"),
             Line::NoCommandInFile(at) => {
                 write!(f, "zcrackd: append file has no command at byte {at}")
@@ -72,6 +100,13 @@ impl Finish {
         }
     }
 
+    /// The end for want of memory.
+    pub fn out_of_memory() -> Self
+        ensures { result ≡ record { status = 4; lines = Some lines.OutOfMemory ∷ None ∷ [] } }
+    {
+        Finish::with_line(4, Line::OutOfMemory)
+    }
+
     /// An end with one line.
     pub fn with_line(status: u8, line: Line) -> Self
         ensures { result ≡ record { status = status; lines = Some line ∷ None ∷ [] } }
@@ -79,6 +114,21 @@ impl Finish {
         Finish {
             status,
             lines: [Some(line), None],
+        }
+    }
+
+    /// The same end, after a session whose drain kept so many bytes of replies that it had taken:
+    /// they count as written for the session, and did not go out.
+    pub fn without_held(self, held: usize) -> Self
+        ensures { result ≡ ends.without_held held self }
+    {
+        let [first, second] = self.lines;
+        Finish {
+            status: self.status,
+            lines: [
+                first.map(|line| line.without_held(held)),
+                second.map(|line| line.without_held(held)),
+            ],
         }
     }
 
@@ -92,6 +142,48 @@ impl Finish {
                 status: self.status,
                 lines: [Some(line), self.lines[0]],
             },
+        }
+    }
+}
+
+/// How the program ends, and what its lines mean in this case.
+#[derive(Drop)]
+pub struct Ending {
+    pub finish: Finish,
+    /// For a reader at a terminal, behind the lines. There is none where no memory was left for it.
+    pub explanation: Option<String>,
+}
+
+impl Ending {
+    /// An end whose lines say all.
+    pub fn of(finish: Finish) -> Self
+        ensures { result.finish ≡ finish }
+    {
+        Ending {
+            finish,
+            explanation: None,
+        }
+    }
+
+    /// An end with an explanation of a file that can't be used: by its path, and why.
+    pub fn of_files(alloc: Global, finish: Finish, old: &str, new: &str) -> Self
+        ensures { result.finish ≡ finish }
+    {
+        let mut explanation = None;
+        for line in finish.lines.iter().flatten() {
+            match line {
+                Line::CannotUseFile(Unusable::Old(fault)) => {
+                    explanation = format!(in alloc; "{old}: {fault}\n").ok();
+                }
+                Line::CannotUseFile(Unusable::New(fault)) => {
+                    explanation = format!(in alloc; "{new}: {fault}\n").ok();
+                }
+                _ => {}
+            }
+        }
+        Ending {
+            finish,
+            explanation,
         }
     }
 }

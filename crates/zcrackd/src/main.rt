@@ -1,109 +1,120 @@
 //! A server for sorted sets whose replies are proved.
 #![tactic(auto)]
 
-ghost use Rattle.std.specs.Prelude.{◌≡◌, None};
-
 mod file;
+#[cfg(test)]
+mod file_tests;
 mod finish;
 mod stdio;
+mod streams;
 
-use crate::file::{file_fault, open_file, rewrite_run, torn_notice};
-use crate::finish::{Finish, Line};
+use crate::file::{rewrite_run, serve_file};
+use crate::finish::{Ending, Finish, Line, Unusable};
 use crate::stdio::stdio_run;
-use append_log::{FileSink, Log, LoggedOwner};
+use crate::streams::StandIns;
 use command_line::{CommandLine, Task, Unasked};
 use resp_wire::{Reading, Writing};
-use std::alloc::Global;
-use std::fs::File;
+use std::env;
 use std::hash::RandomState;
-use std::io::{self, BufWriter};
-use std::marker::Brand;
+use std::io::{BufWriter, ErrorKind, IsTerminal};
 use std::process::ExitCode;
-use std::sync::ledger::{Blank, Ledger};
 use zset_core::OneOwner;
 
-/// The most records that a session appends to its file.
-const MAX_RECORDS: u64 = 1_000_000_000;
-
-/// Serves standard input to standard output, from sets in memory.
-fn serve_memory(rt: &HostRuntime) -> io::Result<Finish> {
+/// Serves standard input to standard output, with the changes kept in an append file where one is
+/// named. Of the replies, those that the writer still holds at the end did not go out, and are not
+/// counted as written.
+fn serve(rt: &HostRuntime, hasher: RandomState, file: Option<&str>) -> Finish {
     let alloc = rt.alloc();
-    let mut owner = OneOwner::new(alloc, RandomState::new(rt)?);
-    let mut source = Reading::new(rt.stdin());
-    let mut drain = Writing::new(BufWriter::new(alloc, rt.stdout())?);
-    Ok(stdio_run(rt, alloc, &mut source, &mut drain, &mut owner))
-}
-
-/// The same, with the changes kept in an append file.
-fn serve_file(rt: &HostRuntime, path: &str) -> io::Result<Finish> {
-    let alloc = rt.alloc();
-    let mut owner = OneOwner::new(alloc, RandomState::new(rt)?);
-    let (sink, loaded) = match open_file(rt, alloc, path, &mut owner) {
-        Ok(opened) => opened,
-        Err(line) => return Ok(file_fault(line)),
+    let Ok(writer) = BufWriter::new(alloc, rt.stdout()) else {
+        return Finish::out_of_memory();
     };
-    let finish = serve_logged::<Brand>(rt, Blank::new(2), owner, sink)?;
-    Ok(finish.after_notice(torn_notice(&loaded)))
-}
-
-/// Serves standard input to standard output from an owner whose changes go to the file. The blank
-/// is of the ledger that counts its records: one part for the log, one for the owner.
-fn serve_logged<L: Ledger>(
-    rt: &HostRuntime,
-    blank: Blank,
-    owner: OneOwner<RandomState, Global>,
-    sink: FileSink<File>,
-) -> io::Result<Finish>
-    requires name { blank.name ≡ L.name }
-    requires parts { blank.parts ≡ L.parts }
-    requires two { blank.parts ≡ 2 }
-    requires idle { owner.next ≡ None }
-{
-    let alloc = rt.alloc();
-    let log = Log::<_, L>::new(blank, sink, MAX_RECORDS);
-    let mut logged = LoggedOwner::new(alloc, owner, log);
     let mut source = Reading::new(rt.stdin());
-    let mut drain = Writing::new(BufWriter::new(alloc, rt.stdout())?);
-    Ok(stdio_run(rt, alloc, &mut source, &mut drain, &mut logged))
+    let mut drain = Writing::new(writer);
+    let finish = match file {
+        None => {
+            let mut owner = OneOwner::new(alloc, hasher);
+            stdio_run(rt, alloc, &mut source, &mut drain, &mut owner)
+        }
+        Some(path) => serve_file(rt, alloc, hasher, path, &mut source, &mut drain),
+    };
+    let (_, held) = drain.into_inner().into_parts();
+    finish.without_held(held.len())
 }
 
-fn do_task(rt: &HostRuntime, task: Task<'_>) -> io::Result<Finish> {
+/// Does what the command line asks for.
+fn do_task(rt: &HostRuntime, task: Task<'_>) -> Ending {
+    let alloc = rt.alloc();
+    let Ok(hasher) = RandomState::new(rt) else {
+        return Ending::of(Finish::out_of_memory());
+    };
     match task {
-        Task::Stdio { file: None } => serve_memory(rt),
-        Task::Stdio { file: Some(path) } => serve_file(rt, path),
+        Task::Stdio { file } => {
+            let finish = serve(rt, hasher, file);
+            let path = file.unwrap_or("");
+            Ending::of_files(alloc, finish, path, path)
+        }
         Task::Rewrite { old, new } => {
             let mut drain = Writing::new(rt.stdout());
-            Ok(rewrite_run(rt, RandomState::new(rt)?, rt.alloc(), old, new, &mut drain))
+            let finish = rewrite_run(rt, hasher, alloc, old, new, &mut drain);
+            Ending::of_files(alloc, finish, old, new)
         }
     }
 }
 
-fn run(rt: &HostRuntime) -> io::Result<Finish> {
+/// The words of the command line, the program's name included.
+fn words(rt: &HostRuntime) -> Result<Vec<String>, Finish> {
+    match env::args(rt) {
+        Ok(words) => words
+            .collect(rt.alloc())
+            .map_err(|_| Finish::out_of_memory()),
+        Err(error) if error.kind() == ErrorKind::OutOfMemory => Err(Finish::out_of_memory()),
+        Err(_) => Err(Finish::with_line(2, Line::BadCommandLine)),
+    }
+}
+
+/// Reads the command line, and does what it asks for.
+fn run(rt: &HostRuntime) -> Ending {
     let alloc = rt.alloc();
-    let Ok(given) = std::env::args(rt) else {
-        return Ok(Finish::with_line(2, Line::BadCommandLine));
+    let words = match words(rt) {
+        Ok(words) => words,
+        Err(finish) => return Ending::of(finish),
     };
-    let Ok(words) = given.collect::<Vec<String>>(alloc) else {
-        return Ok(Finish::with_line(4, Line::OutOfMemory));
-    };
+    let bad = Finish::with_line(2, Line::BadCommandLine);
     match CommandLine::read(alloc, words.as_slice()) {
         Ok(line) => match line.task() {
             Some(task) => do_task(rt, task),
-            None => Ok(Finish::with_line(2, Line::BadCommandLine)),
+            None => Ending::of(bad),
         },
-        Err(Unasked::Help(help)) => {
-            help.print(rt)?;
-            Ok(Finish::quiet(0))
-        }
-        Err(Unasked::Bad) => Ok(Finish::with_line(2, Line::BadCommandLine)),
-        Err(Unasked::NoMemory) => Ok(Finish::with_line(4, Line::OutOfMemory)),
+        Err(Unasked::Text(text)) => Ending::of(match text.print(rt) {
+            Ok(()) => Finish::quiet(0),
+            Err(_) => Finish::with_line(1, Line::WriteFault),
+        }),
+        Err(Unasked::Bad(usage)) => Ending {
+            finish: bad,
+            explanation: format!(in alloc; "{usage}").ok(),
+        },
+        Err(Unasked::NoMemory) => Ending::of(Finish::out_of_memory()),
     }
 }
 
-fn main(rt: HostRuntime) -> io::Result<ExitCode> {
-    let finish = run(&rt)?;
-    for line in finish.lines.iter().flatten() {
-        eprintln!(rt; "{line}")?;
+/// Prints the lines of an end on standard error, and behind them, where that is a terminal, what
+/// they mean. That standard error takes nothing changes no status.
+fn tell(rt: &HostRuntime, ending: &Ending) {
+    for line in ending.finish.lines.iter().flatten() {
+        let _ = eprintln!(rt; "{line}");
     }
-    Ok(ExitCode::from(finish.status))
+    if let Some(explanation) = &ending.explanation
+        && rt.stderr().is_terminal()
+    {
+        let _ = eprint!(rt; "{explanation}");
+    }
+}
+
+fn main(rt: HostRuntime) -> ExitCode {
+    let ending = match StandIns::open(&rt) {
+        Ok(_stand_ins) => run(&rt),
+        Err(_) => Ending::of(Finish::with_line(3, Line::CannotUseFile(Unusable::Stream))),
+    };
+    tell(&rt, &ending);
+    ExitCode::from(ending.finish.status)
 }

@@ -1,7 +1,7 @@
 //! One session over standard input and output, or over what stands for them in a test.
 
-ghost use Rattle.std.specs.Prelude.{◌≡◌};
-ghost use Rattle.zcrackd.specs.Finish.{finish_of, Finishes};
+ghost use Rattle.std.specs.Prelude.{◌≡◌, ◌+◌, ◌≤◌};
+ghost use Rattle.zcrackd.specs.Finish.{finish_of, Finishes, most_reads};
 
 use crate::finish::{Finish, Line};
 use resp_wire::{ByteDrain, ByteSource};
@@ -42,8 +42,10 @@ pub fn stdio_run<R, A: Allocator + Copy, S: ByteSource, D: ByteDrain, E: Exec<R,
     requires { E.settled exec.old }
     ensures settled { E.settled exec.new }
     ensures finishes { Finishes E.allows exec.old (S.told source.old) (S.told source.new)
-        (D.told drain.old) (D.told drain.new) (S.failures source.old) (S.failures source.new)
-        (D.failures drain.old) (D.failures drain.new) result exec.new }
+        (D.told drain.old) (D.told drain.new) (D.flushed drain.new) (S.failures source.old)
+        (S.failures source.new) (D.failures drain.old) (D.failures drain.new) (S.calls source.old)
+        (S.calls source.new) result exec.new }
+    ensures reads { S.calls source.new ≤ S.calls source.old + most_reads }
 {
     after_session(serve(rt, alloc, source, drain, exec, BUFFER, MAX_READS))
 }

@@ -3,9 +3,20 @@ use Rattle.zset_core.specs.Meaning.{key_of}
 use Rattle.zset_core.specs.World.{set_at}
 use Rattle.resp_wire.specs.Response.{response_of}
 use Rattle.append_log.proofs.Sames.{act-ready}
-use Rattle.append_log.proofs.Loggeds.{committed, Replays-push, Replays-stay}
+use Rattle.append_log.proofs.Loggeds.{committed, changes-ready, not_run, Replays-push, Replays-stay}
 use Rattle.append_log.proofs.logged.run_writing.Goals as goal
 use Rattle.append_log.proofs.logged.run_writing.Goals.{then-outline+in_default, else-outline}
+
+pub returns-in-Err-clause-err : goal.returns-in-Err-clause-err
+returns-in-Err-clause-err g c =
+    let command = c.args.command.now in
+    let world = c.args.owner.now.world in
+    let changes = changes-ready world (key_of command.meaning) command.meaning c.in_ok-outline.outline c.prepare.new.self.next c.in_ok-outline.ensures.ready c.in_ok-outline.ensures.outline c.if-outline.true in
+    record {
+      world_stays = c.drop_prepared.ensures.world ∙ c.in_ok-outline.ensures.world;
+      share_stays = c.in-Err.ensures.share;
+      cause = not_run _ _ _ _ _ _ changes c.in-Err.ensures.cause;
+    }
 
 pub returns-in-Err-clause-replays : goal.returns-in-Err-clause-replays
 returns-in-Err-clause-replays g c = λ start.

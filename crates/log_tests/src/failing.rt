@@ -1,0 +1,150 @@
+//! The system's files, but that calls of one kind fail.
+
+use append_log::{FileFault, LockFile};
+use std::alloc::Allocator;
+use std::fs::{self, File, Files, Metadata, OpenFile, OpenOptions};
+use std::io::{Error, ErrorKind, Read, Result, Seek, SeekFrom, Write};
+
+/// The calls that fail.
+#[derive(Clone, Copy, Debug, PartialEq, Eq)]
+pub enum Fails {
+    Nothing,
+    Read,
+    Write,
+    SyncData,
+    SetLen,
+    HardLink,
+    /// The sync of a folder.
+    SyncAll,
+}
+
+impl Fails {
+    fn refuse(self, call: Fails) -> Result<()> {
+        if self == call {
+            Err(Error::from(ErrorKind::StorageFull))
+        } else {
+            Ok(())
+        }
+    }
+}
+
+#[derive(Drop)]
+pub struct Failing<'a> {
+    pub rt: &'a HostRuntime,
+    pub fails: Fails,
+}
+
+#[derive(Drop)]
+pub struct FailingFile {
+    file: File,
+    fails: Fails,
+}
+
+impl Files for Failing<'_> {
+    type File = FailingFile;
+
+    type Dir = <HostRuntime as Files>::Dir;
+
+    fn open_file(&self, how: &OpenOptions, path: &str) -> Result<FailingFile> {
+        Ok(FailingFile {
+            file: self.rt.open_file(how, path)?,
+            fails: self.fails,
+        })
+    }
+
+    fn open_dir(&self, path: &str) -> Result<<HostRuntime as Files>::Dir> {
+        self.rt.open_dir(path)
+    }
+
+    fn metadata(&self, path: &str) -> Result<Metadata> {
+        fs::metadata(self.rt, path)
+    }
+
+    fn symlink_metadata(&self, path: &str) -> Result<Metadata> {
+        fs::symlink_metadata(self.rt, path)
+    }
+
+    fn copy(&self, from: &str, to: &str) -> Result<u64> {
+        fs::copy(self.rt, from, to)
+    }
+
+    fn rename(&self, from: &str, to: &str) -> Result<()> {
+        fs::rename(self.rt, from, to)
+    }
+
+    fn remove_file(&self, path: &str) -> Result<()> {
+        fs::remove_file(self.rt, path)
+    }
+
+    fn create_dir(&self, path: &str) -> Result<()> {
+        fs::create_dir(self.rt, path)
+    }
+
+    fn remove_dir(&self, path: &str) -> Result<()> {
+        fs::remove_dir(self.rt, path)
+    }
+
+    fn remove_dir_all<B: Allocator>(&self, alloc: B, path: &str) -> Result<()> {
+        self.rt.remove_dir_all(alloc, path)
+    }
+
+    fn hard_link(&self, original: &str, link: &str) -> Result<()> {
+        self.fails.refuse(Fails::HardLink)?;
+        fs::hard_link(self.rt, original, link)
+    }
+}
+
+impl Read for FailingFile {
+    fn read(&mut self, buffer: &mut [u8]) -> Result<usize> {
+        self.fails.refuse(Fails::Read)?;
+        self.file.read(buffer)
+    }
+}
+
+impl Write for FailingFile {
+    fn write(&mut self, bytes: &[u8]) -> Result<usize> {
+        self.fails.refuse(Fails::Write)?;
+        self.file.write(bytes)
+    }
+
+    fn flush(&mut self) -> Result<()> {
+        self.file.flush()
+    }
+}
+
+impl Seek for FailingFile {
+    fn seek(&mut self, to: SeekFrom) -> Result<u64> {
+        self.file.seek(to)
+    }
+}
+
+impl OpenFile for FailingFile {
+    fn metadata(&self) -> Result<Metadata> {
+        self.file.metadata()
+    }
+
+    fn set_len(&self, size: u64) -> Result<()> {
+        self.fails.refuse(Fails::SetLen)?;
+        self.file.set_len(size)
+    }
+
+    fn sync_all(&self) -> Result<()> {
+        self.fails.refuse(Fails::SyncAll)?;
+        self.file.sync_all()
+    }
+
+    fn sync_data(&self) -> Result<()> {
+        self.fails.refuse(Fails::SyncData)?;
+        self.file.sync_data()
+    }
+}
+
+impl LockFile for FailingFile {
+    fn hold_alone(&self) -> std::result::Result<(), FileFault> {
+        self.file.hold_alone()
+    }
+
+    fn hold_shared(&self) -> std::result::Result<(), FileFault> {
+        self.file.hold_shared()
+    }
+}

@@ -1,0 +1,152 @@
+use crate::failing::{Failing, Fails};
+use append_log::{
+    FileFault, Loaded, OpenFault, ReloadFault, RenewFault, RewriteFault, open_to_append,
+    open_to_read, reload, write_anew,
+};
+use resp_wire::MemorySource;
+use std::fs;
+use std::hash::RandomState;
+use std::test::Fail;
+use zset_core::OneOwner;
+
+/// ZADD k 1 a.
+const RECORD: &[u8] = b"*4\r\n$4\r\nZADD\r\n$1\r\nk\r\n$1\r\n1\r\n$1\r\na\r\n";
+
+/// The same, and the front of one more.
+const TORN: &[u8] = b"*4\r\n$4\r\nZADD\r\n$1\r\nk\r\n$1\r\n1\r\n$1\r\na\r\n*3";
+
+fn loaded(records: u64, whole: u64, torn: u64) -> Loaded {
+    Loaded {
+        records,
+        whole,
+        torn,
+    }
+}
+
+fn failing(rt: &HostRuntime, fails: Fails) -> Failing<'_> {
+    Failing { rt, fails }
+}
+
+/// What a file is opened as, for appending.
+fn appending(
+    rt: &HostRuntime,
+    fails: Fails,
+    path: &str,
+) -> Result<Result<Loaded, OpenFault>, Fail> {
+    let mut owner = OneOwner::new(rt.alloc(), RandomState::new(rt)?);
+    match open_to_append(&failing(rt, fails), rt.alloc(), path, &mut owner) {
+        Ok((_, loaded)) => Ok(Ok(loaded)),
+        Err(fault) => Ok(Err(fault)),
+    }
+}
+
+/// What a file is opened as, for reading.
+fn reading(rt: &HostRuntime, fails: Fails, path: &str) -> Result<Result<Loaded, OpenFault>, Fail> {
+    let mut owner = OneOwner::new(rt.alloc(), RandomState::new(rt)?);
+    match open_to_read(&failing(rt, fails), rt.alloc(), path, &mut owner) {
+        Ok((_, loaded)) => Ok(Ok(loaded)),
+        Err(fault) => Ok(Err(fault)),
+    }
+}
+
+/// What becomes of a new file for the sets of the record.
+fn renewed(rt: &HostRuntime, fails: Fails, path: &str) -> Result<Result<u64, RenewFault>, Fail> {
+    let mut owner = OneOwner::new(rt.alloc(), RandomState::new(rt)?);
+    let mut source = MemorySource::new(RECORD, 64);
+    reload(rt.alloc(), &mut source, &mut owner, 64, 10)?;
+    Ok(write_anew(&failing(rt, fails), rt.alloc(), path, &owner))
+}
+
+fn has_bytes(rt: &HostRuntime, path: &str, wanted: &[u8]) -> Result<bool, Fail> {
+    Ok(fs::read(rt, path)?.as_slice() == wanted)
+}
+
+fn is_missing(rt: &HostRuntime, path: &str) -> bool {
+    fs::metadata(rt, path).is_err()
+}
+
+#[test]
+fn a_file_is_cut_only_where_it_is_torn(rt: HostRuntime) -> Result<(), Fail> {
+    fs::write(&rt, "whole.append", RECORD)?;
+    assert!(rt; appending(&rt, Fails::SetLen, "whole.append")? == Ok(loaded(1, 35, 0)));
+    fs::write(&rt, "torn.append", TORN)?;
+    let cut = Err(OpenFault::File(FileFault::Cut));
+    assert!(rt; appending(&rt, Fails::SetLen, "torn.append")? == cut);
+    assert!(rt; has_bytes(&rt, "torn.append", TORN)?);
+    assert!(rt; reading(&rt, Fails::SetLen, "torn.append")? == Ok(loaded(1, 35, 2)));
+    assert!(rt; has_bytes(&rt, "torn.append", TORN)?);
+    fs::remove_file(&rt, "whole.append")?;
+    fs::remove_file(&rt, "torn.append")?;
+    Ok(())
+}
+
+#[test]
+fn a_fault_of_opening_is_told(rt: HostRuntime) -> Result<(), Fail> {
+    fs::write(&rt, "unread.append", RECORD)?;
+    let unread = Err(OpenFault::Reload(ReloadFault::ReadFault));
+    assert!(rt; appending(&rt, Fails::Read, "unread.append")? == unread);
+    assert!(rt; reading(&rt, Fails::Read, "unread.append")? == unread);
+    let folder = Err(OpenFault::File(FileFault::Folder));
+    assert!(rt; appending(&rt, Fails::SyncAll, "empty.append")? == folder);
+    let missing = Err(OpenFault::File(FileFault::Open));
+    assert!(rt; reading(&rt, Fails::Nothing, "missing.append")? == missing);
+    assert!(rt; appending(&rt, Fails::Nothing, "no_folder/a.append")? == missing);
+    fs::remove_file(&rt, "unread.append")?;
+    fs::remove_file(&rt, "empty.append")?;
+    Ok(())
+}
+
+#[test]
+fn a_failed_rewrite_leaves_nothing(rt: HostRuntime) -> Result<(), Fail> {
+    let ends = [
+        (Fails::Write, RenewFault::Rewrite(RewriteFault::Sink)),
+        (Fails::SyncData, RenewFault::Rewrite(RewriteFault::Sink)),
+        (Fails::HardLink, RenewFault::File(FileFault::Name)),
+        (Fails::SyncAll, RenewFault::File(FileFault::Folder)),
+    ];
+    for (fails, fault) in ends.iter() {
+        assert!(rt;
+            renewed(&rt, *fails, "new.append")? == Err(*fault),
+            "{fails:?}"
+        );
+        assert!(rt; is_missing(&rt, "new.append"));
+        assert!(rt; is_missing(&rt, "new.append.new"));
+    }
+    assert!(rt; renewed(&rt, Fails::Nothing, "new.append")? == Ok(1));
+    assert!(rt; has_bytes(&rt, "new.append", RECORD)?);
+    fs::remove_file(&rt, "new.append")?;
+    Ok(())
+}
+
+#[test]
+fn an_old_draft_is_taken_away(rt: HostRuntime) -> Result<(), Fail> {
+    // A rewrite that was killed at its end leaves its file under both names.
+    fs::write(&rt, "both.append", TORN)?;
+    fs::hard_link(&rt, "both.append", "both.append.new")?;
+    let taken = Err(RenewFault::File(FileFault::Name));
+    assert!(rt; renewed(&rt, Fails::Nothing, "both.append")? == taken);
+    assert!(rt; has_bytes(&rt, "both.append", TORN)?);
+    assert!(rt; is_missing(&rt, "both.append.new"));
+    fs::remove_file(&rt, "both.append")?;
+    Ok(())
+}
+
+#[test]
+fn a_draft_in_use_is_left_alone(rt: HostRuntime) -> Result<(), Fail> {
+    let mut owner = OneOwner::new(rt.alloc(), RandomState::new(&rt)?);
+    let held = open_to_append(&rt, rt.alloc(), "used.append.new", &mut owner);
+    assert!(rt; held.is_ok());
+    let locked = Err(RenewFault::File(FileFault::Locked));
+    assert!(rt; renewed(&rt, Fails::Nothing, "used.append")? == locked);
+    assert!(rt; is_missing(&rt, "used.append"));
+    assert!(rt; has_bytes(&rt, "used.append.new", b"")?);
+    fs::remove_file(&rt, "used.append.new")?;
+    Ok(())
+}
+
+#[test]
+fn a_device_keeps_no_records(rt: HostRuntime) -> Result<(), Fail> {
+    let refused = Err(OpenFault::File(FileFault::NotRegular));
+    assert!(rt; appending(&rt, Fails::Nothing, "/dev/null")? == refused);
+    Ok(())
+}

@@ -1,0 +1,146 @@
+//! Commands over a log, and records.
+
+ghost use Rattle.std.specs.Prelude.{◌≡◌, IsTrue, IfOk};
+ghost use Rattle.zset_core.specs.Meaning.{is_writing};
+ghost use Rattle.zset_core.specs.View.{IsReady};
+
+use crate::talking::bytes_of;
+use append_log::{Log, LogSink, LoggedOwner, MemorySink, NoSink, Record, SinkFault};
+use resp_wire::{Bytes, BytesList, Request, write_reply};
+use std::alloc::Global;
+use std::hash::RandomState;
+use std::marker::Brand;
+use std::sync::ledger::{Blank, Ledger};
+use std::test::Fail;
+use zset_core::{Command, OneOwner, ZSet};
+
+/// A sink in memory that counts its syncs.
+#[derive(Drop)]
+struct CountingSink {
+    sink: MemorySink<Global>,
+    syncs: u64,
+}
+
+impl LogSink for CountingSink {
+    ghost told = { λ s. ⟦<MemorySink<Global> as LogSink>⟧.told s.sink };
+
+    ghost synced = { λ s. ⟦<MemorySink<Global> as LogSink>⟧.synced s.sink };
+
+    ghost calls = { λ s. ⟦<MemorySink<Global> as LogSink>⟧.calls s.sink };
+
+    ghost failures = { λ s. ⟦<MemorySink<Global> as LogSink>⟧.failures s.sink };
+
+    fn write(&mut self, bytes: &[u8]) -> Result<usize, SinkFault> {
+        self.sink.write(bytes)
+    }
+
+    fn sync(&mut self) -> Result<(), SinkFault> {
+        self.syncs = self.syncs.saturating_add(1);
+        self.sink.sync()
+    }
+}
+
+/// The command whose words stand between single blanks.
+fn command(alloc: Global, words: &str) -> Result<Command<Global>, Fail> {
+    let mut list = Vec::new(alloc);
+    for word in words.split(' ') {
+        list.push(Bytes::new(Vec::from_slice(alloc, word.as_bytes())?))?;
+    }
+    let request = Request::new(BytesList::new(list)).ok_or("no request")?;
+    Command::read(alloc, request).map_err(|_| Fail::from("no command"))
+}
+
+/// What commands came to over a log: the bytes of the replies, how many records it has, and its sink.
+#[derive(Drop)]
+struct Played<S> {
+    replies: Vec<u8>,
+    appended: u64,
+    sink: S,
+}
+
+/// Runs commands in turn over an empty owner whose changes go to the sink.
+fn play<L: Ledger, S: LogSink + Drop>(
+    rt: &HostRuntime,
+    blank: Blank,
+    sink: S,
+    talk: &[&str],
+) -> Result<Played<S>, Fail>
+    requires name { blank.name ≡ L.name }
+    requires parts { blank.parts ≡ L.parts }
+    requires two { blank.parts ≡ 2 }
+{
+    let alloc = rt.alloc();
+    let owner = OneOwner::new(alloc, RandomState::new(rt)?);
+    let mut logged = LoggedOwner::new(alloc, owner, Log::<_, L>::new(blank, sink, 10));
+    let mut replies = Vec::new(alloc);
+    for words in talk {
+        let command = command(alloc, words)?;
+        if let Ok(reply) = logged.run(&command) {
+            write_reply(&reply, &mut replies)?;
+        }
+    }
+    let (_, log) = logged.into_parts();
+    Ok(Played {
+        replies,
+        appended: log.appended(),
+        sink: log.into_sink(),
+    })
+}
+
+const TALK: [&str; 5] = [
+    "ZADD k 1 a",
+    "ZADD k 1 a",
+    "ZCARD k",
+    "ZREM k z",
+    "ZREM k a",
+];
+
+const REPLIES: &str = ":1~:0~:1~:0~:1~";
+
+// The first and the last command alone change the set.
+#[test]
+fn each_record_is_synced(rt: HostRuntime) -> Result<(), Fail> {
+    let alloc = rt.alloc();
+    let sink = CountingSink {
+        sink: MemorySink::new(alloc, 7),
+        syncs: 0,
+    };
+    let played = play::<Brand, _>(&rt, Blank::new(2), sink, &TALK)?;
+    assert_eq!(rt; played.replies, bytes_of(alloc, REPLIES)?);
+    assert_eq!(rt; played.sink.syncs, 2);
+    Ok(())
+}
+
+#[test]
+fn a_log_may_keep_nothing(rt: HostRuntime) -> Result<(), Fail> {
+    let played = play::<Brand, _>(&rt, Blank::new(2), NoSink::new(), &TALK)?;
+    assert_eq!(rt; played.replies, bytes_of(rt.alloc(), REPLIES)?);
+    assert_eq!(rt; played.appended, 2);
+    Ok(())
+}
+
+/// An empty set that has prepared a command.
+fn prepared(rt: &HostRuntime, command: &Command<Global>) -> Result<ZSet<RandomState, Global>, Fail>
+    requires { IsTrue (is_writing command.now.meaning) }
+    ensures { IfOk result (λ set. IsReady set.members command.now.meaning set.next) }
+{
+    let mut set = ZSet::with_hasher(rt.alloc(), RandomState::new(rt)?);
+    match set.prepare(command) {
+        Ok(_) => Ok(set),
+        Err(_) => Err(Fail::from("refused")),
+    }
+}
+
+#[test]
+fn a_record_is_the_request(rt: HostRuntime) -> Result<(), Fail> {
+    let alloc = rt.alloc();
+    let command = command(alloc, "ZADD k 1 a")?;
+    if command.writes() {
+        let set = prepared(&rt, &command)?;
+        let record = Record::of(alloc, &command, &set)?;
+        let wanted = bytes_of(alloc, "*4~$4~ZADD~$1~k~$1~1~$1~a~")?;
+        assert_eq!(rt; record.text(), wanted.as_slice());
+        return Ok(());
+    }
+    Err("no change")?
+}
