@@ -1,4 +1,4 @@
-//! The system's files, but that calls of one kind fail.
+//! The system's files, but that calls of one kind fail, or do what they should not.
 
 use append_log::{FileFault, LockFile};
 use std::alloc::Allocator;
@@ -13,7 +13,11 @@ pub enum Fails {
     Write,
     SyncData,
     SetLen,
+    /// No call fails, but a file that is cut loses all its bytes.
+    CutsAll,
     HardLink,
+    /// No call fails, but a file that is not locked alone gets no second name.
+    LinksLocked,
     /// The sync of a folder.
     SyncAll,
 }
@@ -90,6 +94,9 @@ impl Files for Failing<'_> {
 
     fn hard_link(&self, original: &str, link: &str) -> Result<()> {
         self.fails.refuse(Fails::HardLink)?;
+        if self.fails == Fails::LinksLocked && fs::open(self.rt, original)?.hold_shared().is_ok() {
+            return Err(Error::from(ErrorKind::Other));
+        }
         fs::hard_link(self.rt, original, link)
     }
 }
@@ -125,7 +132,12 @@ impl OpenFile for FailingFile {
 
     fn set_len(&self, size: u64) -> Result<()> {
         self.fails.refuse(Fails::SetLen)?;
-        self.file.set_len(size)
+        let kept = if self.fails == Fails::CutsAll {
+            0
+        } else {
+            size
+        };
+        self.file.set_len(kept)
     }
 
     fn sync_all(&self) -> Result<()> {

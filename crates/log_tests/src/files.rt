@@ -69,6 +69,8 @@ fn is_missing(rt: &HostRuntime, path: &str) -> bool {
 fn a_file_is_cut_only_where_it_is_torn(rt: HostRuntime) -> Result<(), Fail> {
     fs::write(&rt, "whole.append", RECORD)?;
     assert!(rt; appending(&rt, Fails::SetLen, "whole.append")? == Ok(loaded(1, 35, 0)));
+    assert!(rt; appending(&rt, Fails::CutsAll, "whole.append")? == Ok(loaded(1, 35, 0)));
+    assert!(rt; has_bytes(&rt, "whole.append", RECORD)?);
     fs::write(&rt, "torn.append", TORN)?;
     let cut = Err(OpenFault::File(FileFault::Cut));
     assert!(rt; appending(&rt, Fails::SetLen, "torn.append")? == cut);
@@ -115,6 +117,26 @@ fn a_failed_rewrite_leaves_nothing(rt: HostRuntime) -> Result<(), Fail> {
     assert!(rt; renewed(&rt, Fails::Nothing, "new.append")? == Ok(1));
     assert!(rt; has_bytes(&rt, "new.append", RECORD)?);
     fs::remove_file(&rt, "new.append")?;
+    Ok(())
+}
+
+#[test]
+fn readers_share_a_file(rt: HostRuntime) -> Result<(), Fail> {
+    fs::write(&rt, "shared.append", RECORD)?;
+    let mut owner = OneOwner::new(rt.alloc(), RandomState::new(&rt)?);
+    let held = open_to_read(&rt, rt.alloc(), "shared.append", &mut owner);
+    assert!(rt; held.is_ok());
+    assert!(rt; reading(&rt, Fails::Nothing, "shared.append")? == Ok(loaded(1, 35, 0)));
+    let locked = Err(OpenFault::File(FileFault::Locked));
+    assert!(rt; appending(&rt, Fails::Nothing, "shared.append")? == locked);
+    fs::remove_file(&rt, "shared.append")?;
+    Ok(())
+}
+
+#[test]
+fn a_new_file_is_locked_as_it_gets_its_name(rt: HostRuntime) -> Result<(), Fail> {
+    assert!(rt; renewed(&rt, Fails::LinksLocked, "named.append")? == Ok(1));
+    fs::remove_file(&rt, "named.append")?;
     Ok(())
 }
 

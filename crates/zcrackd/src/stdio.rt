@@ -81,4 +81,13 @@ mod tests {
         }
         Ok(())
     }
+
+    #[test]
+    fn too_many_reads_are_told(rt: HostRuntime) -> Result<(), Fail> {
+        let finish = after_session(Err(SessionFault::TooManyReads));
+        assert_eq!(rt; finish, Finish::with_line(1, Line::ReadTooOften));
+        let line = format!(in rt.alloc(); "{}", Line::ReadTooOften)?;
+        assert_eq!(rt; line.as_str(), "zcrackd: read too often");
+        Ok(())
+    }
 }
