@@ -1,6 +1,8 @@
 //! A client of a server of sorted sets that speaks RESP2, on pipes or on loopback.
 use std::io::{self, BufRead, BufReader, BufWriter, Read, Write};
 use std::net::TcpStream;
+use std::os::fd::OwnedFd;
+use std::os::unix::net::UnixStream;
 use std::process::{Child, Command, Stdio};
 use std::time::Instant;
 
@@ -97,10 +99,33 @@ impl Server {
         })
     }
 
-    /// The server that a bench's arguments name: `stdio PROGRAM ARGUMENTS..` or `tcp PORT PID`.
+    /// Starts a server of which standard input and output are one end of a pair of Unix sockets.
+    pub fn start_on_sockets(program: &str, arguments: &[String]) -> io::Result<Server> {
+        let (ours, theirs) = UnixStream::pair()?;
+        let child = Command::new(program)
+            .args(arguments)
+            .stdin(Stdio::from(OwnedFd::from(theirs.try_clone()?)))
+            .stdout(Stdio::from(OwnedFd::from(theirs)))
+            .spawn()?;
+        Server::of_stream(ours, child.id(), Some(child))
+    }
+
+    fn of_stream(stream: UnixStream, pid: u32, child: Option<Child>) -> io::Result<Server> {
+        Ok(Server {
+            input: Some(Box::new(BufWriter::with_capacity(65536, stream.try_clone()?))),
+            output: BufReader::with_capacity(65536, Box::new(stream)),
+            pid,
+            child,
+        })
+    }
+
+    /// The server that a bench's arguments name: `stdio PROGRAM ARGUMENTS..` on pipes, `pair PROGRAM ARGUMENTS..` on
+    /// a pair of Unix sockets, `tcp PORT PID` or `unix PATH PID`.
     pub fn of_arguments(arguments: &[String]) -> io::Result<Server> {
         match arguments[0].as_str() {
             "stdio" => Server::start(&arguments[1], &arguments[2..]),
+            "pair" => Server::start_on_sockets(&arguments[1], &arguments[2..]),
+            "unix" => Server::of_stream(UnixStream::connect(&arguments[1])?, arguments[2].parse().unwrap(), None),
             _ => Server::connect(arguments[1].parse().unwrap(), arguments[2].parse().unwrap()),
         }
     }

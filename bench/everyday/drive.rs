@@ -1,0 +1,200 @@
+//! Drives a server of sorted sets through one piece of everyday work and prints a line `WORK NUMBER`: nanoseconds of
+//! the server's processor time a command, or bytes a member. `drive WORK MEMBERS SEED pair PROGRAM ARGUMENTS..`
+//! starts a server on a pair of Unix sockets, `drive WORK MEMBERS SEED unix PATH PID` talks to one on a Unix socket.
+#[path = "../client.rs"]
+#[allow(dead_code)]
+mod client;
+
+use client::{Random, Server, request};
+use std::io;
+
+const SCORES: u64 = 100_000_000;
+
+/// The nanoseconds that the server's one thread has run.
+fn processor_time(pid: u32) -> io::Result<u128> {
+    let text = std::fs::read_to_string(format!("/proc/{pid}/schedstat"))?;
+    Ok(text.split_whitespace().next().unwrap().parse().unwrap())
+}
+
+fn resident(pid: u32) -> io::Result<u64> {
+    let status = std::fs::read_to_string(format!("/proc/{pid}/status"))?;
+    let line = status.lines().find(|l| l.starts_with("VmRSS:")).unwrap();
+    Ok(line.split_whitespace().nth(1).unwrap().parse::<u64>().unwrap() * 1024)
+}
+
+struct Work {
+    random: Random,
+    members: u64,
+    requests: Vec<u8>,
+    count: u64,
+}
+
+impl Work {
+    fn put(&mut self, words: &[&str]) {
+        request(words, &mut self.requests);
+        self.count += 1;
+    }
+
+    fn member(&mut self) -> String {
+        format!("member:{:06}", self.random.below(self.members))
+    }
+
+    fn score(&mut self, scores: u64) -> String {
+        self.random.below(scores).to_string()
+    }
+
+    fn update(&mut self, scores: u64) {
+        let (score, member) = (self.score(scores), self.member());
+        self.put(&["ZADD", "board", &score, &member]);
+    }
+
+    fn count_at_new_bounds(&mut self) {
+        let low = self.random.below(SCORES);
+        let high = low + self.random.below(SCORES - low);
+        self.put(&["ZCOUNT", "board", &low.to_string(), &high.to_string()]);
+    }
+
+    /// A range of some members in the middle of nowhere.
+    fn range_of(&mut self, members: u64) {
+        let width = members * SCORES / self.members;
+        let low = self.random.below(SCORES - width);
+        self.put(&["ZRANGEBYSCORE", "board", &low.to_string(), &(low + width).to_string()]);
+    }
+
+    /// One of a mix: half updates and new scores, a quarter reads of a score, the rest removals, counts and ranges.
+    fn one_of_a_mix(&mut self) {
+        let member = self.member();
+        match self.random.below(20) {
+            0..=9 => self.update(SCORES),
+            10..=14 => self.put(&["ZSCORE", "board", &member]),
+            15 | 16 => self.put(&["ZREM", "board", &member]),
+            17 => self.count_at_new_bounds(),
+            _ => self.range_of(50),
+        }
+    }
+
+    fn load(&mut self, scores: u64, padding: &str) {
+        for member in 0..self.members {
+            let score = self.score(scores);
+            self.put(&["ZADD", "board", &score, &format!("member:{member:06}{padding}")]);
+        }
+    }
+
+    fn load_small_sets(&mut self) {
+        for member in 0..self.members {
+            let score = self.score(SCORES);
+            self.put(&["ZADD", &format!("board:{}", member / 50), &score, &format!("member:{member:06}")]);
+        }
+    }
+
+    /// Sends what was put, and gives the processor time of the server and the number of commands.
+    fn send(&mut self, server: &mut Server) -> io::Result<(u128, u64)> {
+        let before = processor_time(server.pid)?;
+        server.pipelined(std::mem::take(&mut self.requests), self.count)?;
+        let time = processor_time(server.pid)? - before;
+        Ok((time, std::mem::take(&mut self.count)))
+    }
+}
+
+/// How often work is done whose cost grows with the set in one of the servers.
+fn slow_times(members: u64) -> u64 {
+    (20_000_000 / members).clamp(100, 1000)
+}
+
+/// How often one member is changed where members share scores: enough for the pending lists to be merged.
+const CHANGES: u64 = 10_000;
+
+/// Puts the requests of the work behind those that load the set.
+fn put_work(work: &mut Work, name: &str) {
+    let (times, slow) = (100_000.min(10 * work.members), slow_times(work.members));
+    for _ in 0..times {
+        match name {
+            "updates" | "updates_after_ranges" => work.update(SCORES),
+            "mix" => work.one_of_a_mix(),
+            "zscore" => {
+                let member = work.member();
+                work.put(&["ZSCORE", "board", &member]);
+            }
+            _ => break,
+        }
+    }
+    for _ in 0..slow {
+        match name {
+            "update_and_top_ten" => {
+                work.update(SCORES);
+                work.put(&["ZRANGEBYSCORE", "board", "-inf", "+inf", "WITHSCORES", "LIMIT", "0", "10"]);
+            }
+            "update_and_rank" => {
+                work.update(SCORES);
+                work.put(&["ZCOUNT", "board", "-inf", &(SCORES / 2).to_string()]);
+            }
+            _ => break,
+        }
+    }
+    for _ in 0..CHANGES {
+        match name {
+            "counters_by_incr" => {
+                let member = work.member();
+                work.put(&["ZADD", "board", "INCR", "1", &member]);
+            }
+            "two_scores" => work.update(2),
+            "ten_scores" => work.update(10),
+            "hundred_scores" => work.update(100),
+            _ => break,
+        }
+    }
+    if name.starts_with("ranges_of_100") {
+        (0..1000).for_each(|_| work.range_of(100));
+    }
+    if name == "1000_counts_at_new_bounds" {
+        (0..1000).for_each(|_| work.count_at_new_bounds());
+    }
+}
+
+/// What is done to the set before the work is measured.
+fn prepare(work: &mut Work, server: &mut Server, name: &str) -> io::Result<()> {
+    match name {
+        "counters_by_incr" => work.load(1, ""),
+        "two_scores" => work.load(2, ""),
+        "ten_scores" => work.load(10, ""),
+        "hundred_scores" => work.load(100, ""),
+        _ => work.load(SCORES, ""),
+    }
+    if name.ends_with("_after_ranges") || name.starts_with("ranges_of_100") {
+        (0..1000).for_each(|_| work.count_at_new_bounds());
+    }
+    if name == "update_and_top_ten" {
+        work.put(&["ZRANGEBYSCORE", "board", "-inf", "+inf", "WITHSCORES", "LIMIT", "0", "10"]);
+    }
+    work.send(server).map(|_| ())
+}
+
+fn main() -> io::Result<()> {
+    let arguments: Vec<String> = std::env::args().collect();
+    let name = arguments[1].as_str();
+    let mut server = Server::of_arguments(&arguments[4..])?;
+    let (members, seed) = (arguments[2].parse().unwrap(), arguments[3].parse().unwrap());
+    let mut work = Work { random: Random(seed), members, requests: Vec::new(), count: 0 };
+    let before = resident(server.pid)?;
+    match name {
+        "load" => work.load(SCORES, ""),
+        "bytes_of_13" => work.load(SCORES, ""),
+        "bytes_of_200" => work.load(SCORES, &"x".repeat(187)),
+        "bytes_in_sets_of_50" => work.load_small_sets(),
+        _ => {
+            prepare(&mut work, &mut server, name)?;
+            put_work(&mut work, name);
+        }
+    }
+    let again = work.requests.clone();
+    let (mut time, count) = work.send(&mut server)?;
+    if name == "ranges_of_100_again" {
+        (work.requests, work.count) = (again, count);
+        time = work.send(&mut server)?.0;
+    }
+    match name.starts_with("bytes") {
+        true => println!("{name} {}", (resident(server.pid)? - before) / members),
+        false => println!("{name} {}", time / u128::from(count)),
+    }
+    Ok(())
+}
