@@ -1,7 +1,7 @@
 -- What a log is seen as, and what holds of every log.
 use Rattle.std.specs.Prelude.{◌≡◌, ℕ, ◌+◌, ◌*◌, ◌^◌, ◌<◌, ◌≤◌, Bool, true, false, List, [], ◌∷◌, ◌++◌, length, take, Option, IfSome, Result, Ok, Err}
 use Rattle.std.specs.Io.KnownBytes.{append_known}
-use Rattle.append_log.specs.Records.{Record, text_of, AreRecords, IsFront, ReadsFront}
+use Rattle.append_log.specs.Records.{Record, text_of, AreRecords, IsRecordPrefix, ReadsPrefix}
 
 -- a log, without the types of its sink and its ledger
 pub record LogView : Type 0 where
@@ -19,10 +19,10 @@ pub record LogView : Type 0 where
   -- how many shares it can still give away
   pub parts : ℕ
 
--- what stands behind the last record: nothing, or in a broken log the front of one more
+-- what stands behind the last record: nothing, or in a broken log a prefix of one more
 abbrev pub IsTail : Bool → List ℕ → Type 0
 IsTail false tail = tail ≡ []
-IsTail true tail = IsFront tail
+IsTail true tail = IsRecordPrefix tail
 
 -- the last `written` bytes are the text of these `appended` records, and the tail
 pub record Ends (bytes : List ℕ) (records : List Record) (synced appended written : ℕ) (broken : Bool) : Type 0 where
@@ -61,7 +61,7 @@ pub record Appends (old new : LogView) (bytes : List ℕ) : Type 0 where
   pub parts : new.parts ≡ old.parts
   pub failures : new.failures ≡ old.failures
 
--- a front of the bytes was written, perhaps none or all of them, and the log is broken
+-- a prefix of the bytes was written, perhaps none or all of them, and the log is broken
 pub record Breaks (old new : LogView) (bytes : List ℕ) : Type 0 where
   pub out : ℕ
   pub at_most : out ≤ length bytes
@@ -94,6 +94,6 @@ pub record Readable (bytes : List ℕ) (synced appended written : ℕ) : Type 0 
   pub size : length last ≡ written
   pub count : length records ≡ appended
   pub at_most_one : length one ≤ 1
-  pub fronts : (n : ℕ) → n ≤ written → ReadsFront (take n last) (records ++ one)
-  -- a front that reaches the last good sync has all appended records
+  pub prefixes : (n : ℕ) → n ≤ written → ReadsPrefix (take n last) (records ++ one)
+  -- a prefix that reaches the last good sync has all appended records
   pub durable : 0 < appended → (n : ℕ) → synced ≤ length before + n → length (text_of records) ≤ n

@@ -1,10 +1,10 @@
--- The text of an append file: records one behind the other, each the spelling of a request in RESP2.
+-- The text of an append file: records one behind the other, each the encoding of a request in RESP2.
 use Rattle.std.specs.Prelude.{◌≡◌, ℕ, ◌≤◌, List, ◌++◌, length, take, None}
 use Rattle.std.specs.List.{flat_map, AllByRecursion}
-use Rattle.resp_wire.specs.Spelling.{request, IsRequest}
+use Rattle.resp_wire.specs.RequestEncoding.{request, IsRequest}
 use Rattle.resp_wire.specs.Stream.{requests, fault}
 
--- a record: the words of a command
+-- a record: the arguments of a command
 abbrev pub Record : Type 0
 Record = List (List ℕ)
 
@@ -15,8 +15,8 @@ text_of records = flat_map request records
 abbrev pub AreRecords : List Record → Type 0
 AreRecords records = AllByRecursion IsRequest records
 
--- the front of the text of one record, perhaps nothing or all of it
-pub record IsFront (bytes : List ℕ) : Type 0 where
+-- a prefix of the text of one record, perhaps nothing or all of it
+pub record IsRecordPrefix (bytes : List ℕ) : Type 0 where
   pub record_of : Record
   pub more : List ℕ
   pub is_record : IsRequest record_of
@@ -24,7 +24,7 @@ pub record IsFront (bytes : List ℕ) : Type 0 where
 
 -- bytes that a reload takes without a fault: their requests are the first of these records, and all of those
 -- whose text the bytes reach
-pub record ReadsFront (bytes : List ℕ) (records : List Record) : Type 0 where
+pub record ReadsPrefix (bytes : List ℕ) (records : List Record) : Type 0 where
   pub unfaulted : fault bytes ≡ None
   pub count : ℕ
   pub requests_are : requests bytes ≡ take count records

@@ -3,10 +3,10 @@ use Rattle.std.specs.Prelude.{◌≡◌, ℕ, ◌+◌, List, [], ◌++◌, lengt
 use Rattle.std.specs.Io.KnownBytes.{prepend_known}
 use Rattle.resp_wire.specs.declared.fault.ProtocolFault.{ProtocolFault}
 use Rattle.resp_wire.specs.declared.fault.Stop.TheVariants.{Wrong}
-use Rattle.resp_wire.specs.Spelling.{request, IsRequest}
-use Rattle.resp_wire.specs.Reading.{item_at}
+use Rattle.resp_wire.specs.RequestEncoding.{request, IsRequest}
+use Rattle.resp_wire.specs.Parser.{item_at}
 use Rattle.resp_wire.specs.Stream.{requests, rest, fault}
-use Rattle.resp_wire.specs.Wire.{Wire}
+use Rattle.resp_wire.specs.DecoderView.{DecoderView}
 use Rattle.zset_core.specs.World.{World}
 use Rattle.append_log.specs.Records.{Record}
 use Rattle.append_log.specs.Replay.{after, replay}
@@ -14,7 +14,7 @@ use Rattle.append_log.specs.declared.loading.Loaded.{Loaded}
 use Rattle.append_log.specs.declared.loading.ReloadFault.{ReloadFault}
 use Rattle.append_log.specs.declared.loading.ReloadFault.TheVariants.{NoMemory, Damaged, ReadFault, NotACommand, TooManyReads}
 
--- `front` is whole records and skips, and their replay leads from start to world; behind it stands `behind`
+-- `front` is whole records and skips, and they replay from start to world; behind it stands `behind`
 pub record Replayed (start : World) (bytes : List ℕ) (at : ℕ) (behind : List ℕ) (world : World) (count : ℕ) : Type 0 where
   pub front : List ℕ
   pub bytes_are : bytes ≡ front ++ behind
@@ -23,7 +23,7 @@ pub record Replayed (start : World) (bytes : List ℕ) (at : ℕ) (behind : List
   pub replayed : replay start (requests front) ≡ Some world
   pub count_is : count ≡ length (requests front)
 
--- a record that no replay takes stands at the front of these bytes
+-- a record that no replay takes stands at the start of these bytes
 pub record IsNoCommand (world : World) (bytes : List ℕ) : Type 0 where
   pub words : Record
   pub more : List ℕ
@@ -62,7 +62,7 @@ pub record Reads (source₀ source₁ : Option (List ℕ)) (start : World) (resu
   pub reloaded : Reloaded result start bytes world
 
 -- what a decoder that answered no fault holds stands behind the records that are replayed
-pub record Holds (start : World) (bytes : List ℕ) (wire : Wire) (world : World) (count : ℕ) : Type 0 where
+pub record Holds (start : World) (bytes : List ℕ) (wire : DecoderView) (world : World) (count : ℕ) : Type 0 where
   pub unfaulted : wire.fault ≡ None
   pub replayed : Replayed start bytes wire.taken wire.held world count
 

@@ -1,12 +1,12 @@
--- What records lead to: each is a command that changes sets, carried out in turn.
+-- What records replay to: each is a command that changes sets, carried out in turn.
 use Rattle.std.specs.Prelude.{List, [], ◌∷◌, Option, Some, None, Result, Ok, Err, option_map, option_and_then, if◌then◌else◌}
 use Rattle.zset_core.specs.declared.refusal.Refusal.{Refusal}
-use Rattle.zset_core.specs.Meaning.{Meaning, is_writing}
-use Rattle.zset_core.specs.Asking.{asked}
+use Rattle.zset_core.specs.CommandMeaning.{Meaning, is_writing}
+use Rattle.zset_core.specs.CommandGrammar.{asked}
 use Rattle.zset_core.specs.World.{World, act}
 use Rattle.append_log.specs.Records.{Record}
 
--- the world after words that were read so; none where they are no command that changes sets, or it is refused
+-- the world after arguments that were read so; none where they are no command that changes sets, or it is refused
 abbrev pub after_reading : World → Result Meaning Refusal → Option World
 after_reading world (Err refusal) = None
 after_reading world (Ok meaning) = if is_writing meaning then option_map (λ done. done.0) (act world meaning) else None

@@ -1,7 +1,7 @@
 //! A new append file, written as a draft first.
 
 ghost use Rattle.std.specs.Prelude.{◌≡◌, ◌^◌, ◌-◌, None, length, min, IfOk};
-ghost use Rattle.append_log.specs.Image.{image};
+ghost use Rattle.append_log.specs.Dump.{dump};
 ghost use Rattle.append_log.specs.declared.drafting.RenewFault.TheVariants as renews;
 
 use crate::file::{FileFault, FileSink, LockFile};
@@ -88,18 +88,25 @@ where
     Ok(file)
 }
 
+/// The names of a new append file: that of its draft, and its own.
+#[derive(Clone, Copy)]
+struct Names<'a> {
+    draft: &'a str,
+    path: &'a str,
+}
+
 /// Gives a whole draft its name, which must be free, and takes its old name away, in either case. A
 /// new file that a crash could take away is taken away.
-fn name_draft<R: Files>(rt: &R, draft: &str, path: &str) -> Result<(), FileFault> {
-    let named = fs::hard_link(rt, draft, path);
-    let gone = fs::remove_file(rt, draft);
+fn name_draft<R: Files>(rt: &R, names: Names<'_>) -> Result<(), FileFault> {
+    let named = fs::hard_link(rt, names.draft, names.path);
+    let gone = fs::remove_file(rt, names.draft);
     if named.is_err() {
         return Err(FileFault::Name);
     }
-    if gone.is_ok() && sync_folder(rt, path).is_ok() {
+    if gone.is_ok() && sync_folder(rt, names.path).is_ok() {
         return Ok(());
     }
-    let _gone = fs::remove_file(rt, path);
+    let _gone = fs::remove_file(rt, names.path);
     Err(FileFault::Folder)
 }
 
@@ -107,21 +114,20 @@ fn name_draft<R: Files>(rt: &R, draft: &str, path: &str) -> Result<(), FileFault
 fn fill_draft<R: Files, H: BuildHasher + Clone + Drop, A: Allocator + Copy>(
     rt: &R,
     alloc: A,
-    draft: &str,
-    path: &str,
+    names: Names<'_>,
     owner: &OneOwner<H, A>,
     sink: &mut FileSink<R::File>,
 ) -> Result<u64, RenewFault>
     requires { owner.now.next ≡ None }
-    ensures { IfOk result (λ n. n ≡ min (length (image owner.now.world)) (2 ^ 64 - 1)) }
+    ensures { IfOk result (λ n. n ≡ min (length (dump owner.now.world)) (2 ^ 64 - 1)) }
 {
     match rewrite(alloc, owner, sink) {
         Ok(records) => {
-            name_draft(rt, draft, path)?;
+            name_draft(rt, names)?;
             Ok(records)
         }
         Err(fault) => {
-            let _gone = fs::remove_file(rt, draft);
+            let _gone = fs::remove_file(rt, names.draft);
             Err(RenewFault::Rewrite(fault))
         }
     }
@@ -147,11 +153,15 @@ pub fn write_anew<R: Files, H: BuildHasher + Clone + Drop, A: Allocator + Copy>(
 where
     R::File: LockFile,
     requires { owner.now.next ≡ None }
-    ensures { IfOk result (λ n. n ≡ min (length (image owner.now.world)) (2 ^ 64 - 1)) }
+    ensures { IfOk result (λ n. n ≡ min (length (dump owner.now.world)) (2 ^ 64 - 1)) }
 {
     let Ok(draft) = format!(in alloc; "{path}.new") else {
         return Err(RenewFault::Rewrite(RewriteFault::NoMemory));
     };
     let mut sink = FileSink::new(make_draft(rt, draft.as_str())?);
-    fill_draft(rt, alloc, draft.as_str(), path, owner, &mut sink)
+    let names = Names {
+        draft: draft.as_str(),
+        path,
+    };
+    fill_draft(rt, alloc, names, owner, &mut sink)
 }

@@ -1,8 +1,8 @@
 //! Files as sinks, and their locks.
 
 ghost use Rattle.std.specs.Prelude.{◌≡◌, ℕ, ◌≤◌, None, length, IfOk, IfErr};
-ghost use Rattle.resp_wire.specs.Device.{risen};
-ghost use Rattle.append_log.specs.Files.{IsOfLock};
+ghost use Rattle.resp_wire.specs.Device.{saturating_succ};
+ghost use Rattle.append_log.specs.FileOpening.{IsOfLock};
 
 use crate::sink::{LogSink, SinkFault};
 use resp_wire::{ATTEMPTS, is_interrupted, write_uninterrupted};
@@ -107,7 +107,7 @@ impl<F: Write + OpenFile> FileSink<F> {
 
     fn fail(&mut self) -> SinkFault
         ensures calls { self.new.calls ≡ self.old.calls }
-        ensures failures { self.new.failures ≡ risen self.old.failures }
+        ensures failures { self.new.failures ≡ saturating_succ self.old.failures }
     {
         self.failures = self.failures.saturating_add(1);
         SinkFault

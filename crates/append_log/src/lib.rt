@@ -1,13 +1,13 @@
 //! The append file: a log of the commands that changed sets, its reload, and its rewrite.
 //!
-//! A record is the request of a command that changes sets, in RESP2, with its words as they were
-//! given. Records stand one behind the other, and each is synced before its command is answered, so
-//! that a reload after a crash leads to all that was answered.
+//! A record is the request of a command that changes sets, in RESP2, with its arguments as they
+//! were given. Records stand one behind the other, and each is synced before its command is
+//! answered, so that a reload after a crash replays to all that was answered.
 #![tactic(auto)]
 
 mod drafting;
 mod file;
-mod kept;
+mod ledger_share;
 mod loading;
 mod log;
 mod logged;
@@ -27,6 +27,3 @@ pub use record::Record;
 pub use renewing::{RewriteFault, rewrite};
 pub use share::RecordShare;
 pub use sink::{FuseSink, LogSink, MemorySink, NoSink, SinkFault};
-
-#[cfg(test)]
-mod tests;

@@ -1,17 +1,19 @@
 //! Reading an append file back.
 
-ghost use Rattle.std.specs.Prelude.{◌≡◌, ◌≢◌, ℕ, ◌+◌, ◌-◌, ◌≤◌, ◌<◌, ◌^◌, ◌++◌, List, length, true, min, None, Ok, Err, Some, IfOk, OnOk, OnErr, IfErr, IsSome, MatchResult};
+ghost use Rattle.std.specs.Prelude.{◌≡◌, ◌≢◌, ℕ, ◌+◌, ◌-◌, ◌≤◌, ◌<◌, ◌^◌, [], ◌++◌, List, length, true, min, None, Ok, Err, Some, IfOk, OnOk, OnErr, IfErr, IsSome, MatchResult};
 ghost use Rattle.std.specs.Io.KnownBytes.{prepend_known, IsAtEnd};
-ghost use Rattle.resp_wire.specs.Device.{Rose, risen};
-ghost use Rattle.resp_wire.specs.Spelling.{request as request_text};
+ghost use Rattle.resp_wire.specs.Device.{Rose, saturating_succ};
+ghost use Rattle.resp_wire.specs.RequestEncoding.{request as request_text};
 ghost use Rattle.zset_core.specs.World.{World as WorldType};
 ghost use Rattle.append_log.specs.Replay.{after};
 ghost use Rattle.append_log.specs.Reload.{Reads};
-ghost use Rattle.append_log.specs.Reloading.{Stepped, Drained, ReadsOn, SourceFailed, IsOfBytes, UnreplayedFor};
+ghost use Rattle.append_log.specs.ReloadSteps.{IsBetweenReads, Stepped, Drained, ReadsOn, SourceFailed, IsOfBytes, UnreplayedFor};
 ghost use Rattle.append_log.specs.Reload.{Holds};
 ghost use Rattle.append_log.specs.declared.loading.ReloadFault.TheVariants as faults;
 
-use resp_wire::{ByteSource, Decoder, Request, WireFault, cut, longest, write_request};
+use resp_wire::{
+    ByteSource, Decoder, MAX_READ_BUFFER, MAX_READS, Request, WireFault, laws, write_request,
+};
 use std::alloc::{AllocError, Allocator};
 use std::hash::BuildHasher;
 use thiserror::Error;
@@ -98,155 +100,158 @@ fn text_len<A: Allocator>(wanted: &Request<A>, scratch: &mut Vec<u8, A>) -> Resu
     Ok(scratch.len() as u64)
 }
 
-/// Replays the next record that the decoder holds, and says whether there was one.
-fn replay_next<H: BuildHasher + Clone + Drop, A: Allocator + Copy>(
-    alloc: A,
-    decoder: &mut Decoder<A>,
-    owner: &mut OneOwner<H, A>,
-    scratch: &mut Vec<u8, A>,
-) -> Result<bool, ReloadFault>
-    requires idle { owner.old.next ≡ None }
-    requires unfaulted { decoder.old.fault ≡ None }
-    ensures idle { owner.new.next ≡ None }
-    ensures bytes { decoder.new.taken + length decoder.new.held ≡ decoder.old.taken
-        + length decoder.old.held }
-    ensures unfaulted { OnOk result (decoder.new.fault ≡ None) }
-    ensures taken { OnOk result (decoder.old.taken ≤ decoder.new.taken) }
-    ensures took { result ≡ Ok true → decoder.old.taken < decoder.new.taken }
-    ensures cause { IfErr result IsOfBytes }
-    ensures stepped { (start : WorldType) (bytes : List ℕ) (count : ℕ)
-        → Holds start bytes decoder.old owner.old.world count
-        → Stepped result start bytes count decoder.new owner.new.world }
-{
-    // What a stream holds does not depend on the pieces that it comes in.
-    cut();
-    longest();
-    match decoder.next() {
-        Err(WireFault::NoMemory) => Err(ReloadFault::NoMemory),
-        Err(WireFault::Protocol(_)) => Err(ReloadFault::Damaged(decoder.taken())),
-        Ok(None) => Ok(false),
-        Ok(Some(request)) => {
-            let size = text_len(&request, scratch)?;
-            match replay_one(alloc, owner, request) {
-                Ok(()) => Ok(true),
-                Err(Unreplayed::NoMemory) => Err(ReloadFault::NoMemory),
-                Err(Unreplayed::NotACommand) => {
-                    Err(ReloadFault::NotACommand(decoder.taken() - size))
-                }
-            }
-        }
-    }
-}
-
-/// Replays all records that the decoder holds.
-fn replay_held<H: BuildHasher + Clone + Drop, A: Allocator + Copy>(
-    alloc: A,
-    decoder: &mut Decoder<A>,
-    owner: &mut OneOwner<H, A>,
-    scratch: &mut Vec<u8, A>,
-    records: &mut u64,
-) -> Result<(), ReloadFault>
-    requires idle { owner.old.next ≡ None }
-    requires unfaulted { decoder.old.fault ≡ None }
-    requires room { decoder.old.taken + length decoder.old.held < 2 ^ 60 }
-    requires few { records.old ≤ decoder.old.taken }
-    ensures idle { owner.new.next ≡ None }
-    ensures bytes { decoder.new.taken + length decoder.new.held ≡ decoder.old.taken
-        + length decoder.old.held }
-    ensures unfaulted { OnOk result (decoder.new.fault ≡ None) }
-    ensures few { OnOk result (records.new ≤ decoder.new.taken) }
-    ensures cause { IfErr result IsOfBytes }
-    ensures drained { (start : WorldType) (bytes : List ℕ)
-        → Holds start bytes decoder.old owner.old.world records.old
-        → Drained result start bytes decoder.new owner.new.world records.new }
-{
-    'records: while replay_next(alloc, decoder, owner, scratch)? {
-        *records += 1;
-    }
-    Ok(())
-}
-
 /// What a reload keeps between its reads.
 #[derive(Drop)]
-struct Progress<A: Allocator> {
+struct Reloader<A: Allocator> {
     alloc: A,
     decoder: Decoder<A>,
     /// The buffer in which texts are measured.
     scratch: Vec<u8, A>,
+    /// The number of records that were replayed.
     records: u64,
 }
 
-/// Takes the next piece of the file, and replays all records that are whole then.
-fn take_piece<H: BuildHasher + Clone + Drop, A: Allocator + Copy>(
-    progress: &mut Progress<A>,
-    owner: &mut OneOwner<H, A>,
-    piece: &[u8],
-) -> Result<(), ReloadFault>
-    requires idle { owner.old.next ≡ None }
-    requires unfaulted { progress.old.decoder.fault ≡ None }
-    requires room { progress.old.decoder.taken + length progress.old.decoder.held + length piece.now
-        < 2 ^ 60 }
-    requires few { progress.old.records ≤ progress.old.decoder.taken }
-    ensures idle { owner.new.next ≡ None }
-    ensures bytes { OnOk result (progress.new.decoder.taken + length progress.new.decoder.held
-        ≡ progress.old.decoder.taken + length progress.old.decoder.held + length piece.now) }
-    ensures unfaulted { OnOk result (progress.new.decoder.fault ≡ None) }
-    ensures few { OnOk result (progress.new.records ≤ progress.new.decoder.taken) }
-    ensures cause { IfErr result IsOfBytes }
-    ensures drained { (start : WorldType) (bytes : List ℕ)
-        → Holds start bytes progress.old.decoder owner.old.world progress.old.records
-        → Drained result start (bytes ++ piece.now) progress.new.decoder owner.new.world
-        progress.new.records }
-{
-    progress.decoder.feed(piece)?;
-    replay_held(
-        progress.alloc,
-        &mut progress.decoder,
-        owner,
-        &mut progress.scratch,
-        &mut progress.records,
-    )
-}
+impl<A: Allocator + Copy> Reloader<A> {
+    /// A reload before its first read. It takes no memory.
+    fn new(alloc: A) -> Self
+        ensures decoder { result.decoder ≡ record { held = []; taken = 0; fault = None } }
+        ensures records { result.records ≡ 0 }
+    {
+        Reloader {
+            alloc,
+            decoder: Decoder::new(alloc),
+            scratch: Vec::new(alloc),
+            records: 0,
+        }
+    }
 
-/// Reads once, and replays all records that are whole then. None: the file may go on.
-fn read_on<R: ByteSource, H: BuildHasher + Clone + Drop, A: Allocator + Copy>(
-    progress: &mut Progress<A>,
-    owner: &mut OneOwner<H, A>,
-    source: &mut R,
-    buffer: &mut [u8],
-) -> Result<Option<Loaded>, ReloadFault>
-    requires idle { owner.old.next ≡ None }
-    requires unfaulted { progress.old.decoder.fault ≡ None }
-    requires some { 1 ≤ length buffer.old }
-    requires room { progress.old.decoder.taken + length progress.old.decoder.held
-        + length buffer.old < 2 ^ 60 }
-    requires few { progress.old.records ≤ progress.old.decoder.taken }
-    ensures idle { owner.new.next ≡ None }
-    ensures bytes { OnOk result (progress.new.decoder.taken + length progress.new.decoder.held
-        ≤ progress.old.decoder.taken + length progress.old.decoder.held + length buffer.old) }
-    ensures unfaulted { OnOk result (progress.new.decoder.fault ≡ None) }
-    ensures few { OnOk result (progress.new.records ≤ progress.new.decoder.taken) }
-    ensures round { ReadsOn (R.told source.old) (R.told source.new) progress.old.decoder
-        progress.new.decoder owner.old.world owner.new.world progress.old.records
-        progress.new.records result }
-    ensures at_end { IfOk result (λ loaded. IsSome loaded → IsAtEnd (R.told source.new)) }
-    ensures not_late { IfErr result (λ fault. fault ≢ faults.TooManyReads) }
-    ensures calls { R.calls source.new ≡ risen (R.calls source.old) }
-    ensures failures { MatchResult result (λ _. R.failures source.new ≡ R.failures source.old)
-        (λ fault. SourceFailed fault (R.failures source.old) (R.failures source.new)) }
-{
-    // What a stream holds does not depend on the pieces that it comes in.
-    cut();
-    match source.read(buffer) {
-        Err(_) => Err(ReloadFault::ReadFault),
-        Ok(0) => Ok(Some(Loaded {
-            records: progress.records,
-            whole: progress.decoder.taken(),
-            torn: progress.decoder.rest_len() as u64,
-        })),
-        Ok(n) => {
-            take_piece(progress, owner, &buffer[..n])?;
-            Ok(None)
+    /// Replays the next record that the decoder holds, and says whether there was one. It is not
+    /// counted here.
+    fn replay_next<H: BuildHasher + Clone + Drop>(
+        &mut self,
+        owner: &mut OneOwner<H, A>,
+    ) -> Result<bool, ReloadFault>
+        requires idle { owner.old.next ≡ None }
+        requires unfaulted { self.old.decoder.fault ≡ None }
+        ensures idle { owner.new.next ≡ None }
+        ensures records { self.new.records ≡ self.old.records }
+        ensures bytes { self.new.decoder.taken + length self.new.decoder.held
+            ≡ self.old.decoder.taken + length self.old.decoder.held }
+        ensures unfaulted { OnOk result (self.new.decoder.fault ≡ None) }
+        ensures taken { OnOk result (self.old.decoder.taken ≤ self.new.decoder.taken) }
+        ensures took { result ≡ Ok true → self.old.decoder.taken < self.new.decoder.taken }
+        ensures cause { IfErr result IsOfBytes }
+        ensures stepped { (start : WorldType) (bytes : List ℕ) (count : ℕ)
+            → Holds start bytes self.old.decoder owner.old.world count
+            → Stepped result start bytes count self.new.decoder owner.new.world }
+    {
+        // What a stream holds does not depend on the pieces that it comes in.
+        laws::cut();
+        // A record is a whole item, and the text behind the last one is the rest.
+        laws::longest();
+        match self.decoder.next() {
+            Err(WireFault::NoMemory) => Err(ReloadFault::NoMemory),
+            Err(WireFault::Protocol(_)) => Err(ReloadFault::Damaged(self.decoder.taken())),
+            Ok(None) => Ok(false),
+            Ok(Some(request)) => {
+                let size = text_len(&request, &mut self.scratch)?;
+                match replay_one(self.alloc, owner, request) {
+                    Ok(()) => Ok(true),
+                    Err(Unreplayed::NoMemory) => Err(ReloadFault::NoMemory),
+                    Err(Unreplayed::NotACommand) => {
+                        Err(ReloadFault::NotACommand(self.decoder.taken() - size))
+                    }
+                }
+            }
+        }
+    }
+
+    /// Replays all records that the decoder holds.
+    fn replay_held<H: BuildHasher + Clone + Drop>(
+        &mut self,
+        owner: &mut OneOwner<H, A>,
+    ) -> Result<(), ReloadFault>
+        requires idle { owner.old.next ≡ None }
+        requires ready { IsBetweenReads self.old.decoder self.old.records }
+        requires room { self.old.decoder.taken + length self.old.decoder.held < 2 ^ 60 }
+        ensures idle { owner.new.next ≡ None }
+        ensures bytes { self.new.decoder.taken + length self.new.decoder.held
+            ≡ self.old.decoder.taken + length self.old.decoder.held }
+        ensures ready { OnOk result (IsBetweenReads self.new.decoder self.new.records) }
+        ensures cause { IfErr result IsOfBytes }
+        ensures drained { (start : WorldType) (bytes : List ℕ)
+            → Holds start bytes self.old.decoder owner.old.world self.old.records
+            → Drained result start bytes self.new.decoder owner.new.world self.new.records }
+    {
+        'records: while self.replay_next(owner)? {
+            self.records += 1;
+        }
+        Ok(())
+    }
+
+    /// Takes the next piece of the file, and replays all records that are whole then.
+    fn take_piece<H: BuildHasher + Clone + Drop>(
+        &mut self,
+        owner: &mut OneOwner<H, A>,
+        piece: &[u8],
+    ) -> Result<(), ReloadFault>
+        requires idle { owner.old.next ≡ None }
+        requires ready { IsBetweenReads self.old.decoder self.old.records }
+        requires room { self.old.decoder.taken + length self.old.decoder.held + length piece.now
+            < 2 ^ 60 }
+        ensures idle { owner.new.next ≡ None }
+        ensures bytes { OnOk result (self.new.decoder.taken + length self.new.decoder.held
+            ≡ self.old.decoder.taken + length self.old.decoder.held + length piece.now) }
+        ensures ready { OnOk result (IsBetweenReads self.new.decoder self.new.records) }
+        ensures cause { IfErr result IsOfBytes }
+        ensures drained { (start : WorldType) (bytes : List ℕ)
+            → Holds start bytes self.old.decoder owner.old.world self.old.records
+            → Drained result start (bytes ++ piece.now) self.new.decoder owner.new.world
+            self.new.records }
+    {
+        self.decoder.feed(piece)?;
+        self.replay_held(owner)
+    }
+
+    /// Reads once, and replays all records that are whole then. None: the file may go on.
+    fn read_on<R: ByteSource, H: BuildHasher + Clone + Drop>(
+        &mut self,
+        owner: &mut OneOwner<H, A>,
+        source: &mut R,
+        buffer: &mut [u8],
+    ) -> Result<Option<Loaded>, ReloadFault>
+        requires idle { owner.old.next ≡ None }
+        requires ready { IsBetweenReads self.old.decoder self.old.records }
+        requires some { 1 ≤ length buffer.old }
+        requires room { self.old.decoder.taken + length self.old.decoder.held + length buffer.old
+            < 2 ^ 60 }
+        ensures idle { owner.new.next ≡ None }
+        ensures bytes { OnOk result (self.new.decoder.taken + length self.new.decoder.held
+            ≤ self.old.decoder.taken + length self.old.decoder.held + length buffer.old) }
+        ensures ready { OnOk result (IsBetweenReads self.new.decoder self.new.records) }
+        ensures round { ReadsOn (R.told source.old) (R.told source.new) self.old.decoder
+            self.new.decoder owner.old.world owner.new.world self.old.records self.new.records
+            result }
+        ensures at_end { IfOk result (λ loaded. IsSome loaded → IsAtEnd (R.told source.new)) }
+        ensures not_late { IfErr result (λ fault. fault ≢ faults.TooManyReads) }
+        ensures calls { R.calls source.new ≡ saturating_succ (R.calls source.old) }
+        ensures failures { MatchResult result
+            (λ _. R.failures source.new ≡ R.failures source.old)
+            (λ fault. SourceFailed fault (R.failures source.old) (R.failures source.new)) }
+    {
+        // What a stream holds does not depend on the pieces that it comes in.
+        laws::cut();
+        match source.read(buffer) {
+            Err(_) => Err(ReloadFault::ReadFault),
+            Ok(0) => Ok(Some(Loaded {
+                records: self.records,
+                whole: self.decoder.taken(),
+                torn: self.decoder.rest_len() as u64,
+            })),
+            Ok(n) => {
+                self.take_piece(owner, &buffer[..n])?;
+                Ok(None)
+            }
         }
     }
 }
@@ -260,8 +265,8 @@ fn read_on<R: ByteSource, H: BuildHasher + Clone + Drop, A: Allocator + Copy>(
 ///
 /// # Errors
 ///
-/// The owner then holds what the records before the fault lead to, at a fault of reading all that
-/// were read.
+/// The owner then holds the sets that the records before the fault replay to, at a fault of reading
+/// those of all records that were read.
 pub fn reload<R: ByteSource, H: BuildHasher + Clone + Drop, A: Allocator + Copy>(
     alloc: A,
     source: &mut R,
@@ -271,8 +276,8 @@ pub fn reload<R: ByteSource, H: BuildHasher + Clone + Drop, A: Allocator + Copy>
 ) -> Result<Loaded, ReloadFault>
     requires idle { owner.old.next ≡ None }
     requires some { 1 ≤ buffer }
-    requires buffer { buffer ≤ 65536 }
-    requires reads { max_reads ≤ 2 ^ 40 }
+    requires buffer { buffer ≤ MAX_READ_BUFFER }
+    requires reads { max_reads ≤ MAX_READS }
     ensures idle { owner.new.next ≡ None }
     ensures read { Reads (R.told source.old) (R.told source.new) owner.old.world result
         owner.new.world }
@@ -283,16 +288,12 @@ pub fn reload<R: ByteSource, H: BuildHasher + Clone + Drop, A: Allocator + Copy>
     ensures failures { MatchResult result (λ _. R.failures source.new ≡ R.failures source.old)
         (λ fault. SourceFailed fault (R.failures source.old) (R.failures source.new)) }
 {
-    cut();
+    // What a stream holds does not depend on the pieces that it comes in.
+    laws::cut();
     let mut piece = vec![in alloc; 0; buffer]?;
-    let mut progress = Progress {
-        alloc,
-        decoder: Decoder::new(alloc),
-        scratch: Vec::new(alloc),
-        records: 0,
-    };
+    let mut reloader = Reloader::new(alloc);
     'reads: for _ in 0..max_reads {
-        if let Some(loaded) = read_on(&mut progress, owner, source, &mut piece)? {
+        if let Some(loaded) = reloader.read_on(owner, source, &mut piece)? {
             return Ok(loaded);
         }
     }

@@ -3,13 +3,13 @@
 ghost use Rattle.std.specs.Prelude.{◌≡◌, ◌≢◌, ℕ, ◌+◌, ◌≤◌, ◌^◌, ◌↔◌, ◌⊎◌, length, take, true, false, OnOk, IsErrOf, IsErr, IfSome, IsTrue};
 ghost use Rattle.std.specs.Io.KnownBytes.{append_known};
 ghost use Rattle.resp_wire.specs.Device.{Rose};
-ghost use Rattle.resp_wire.specs.Spelling.{request};
+ghost use Rattle.resp_wire.specs.RequestEncoding.{request};
 ghost use Rattle.append_log.specs.Log.{Appends, Breaks, HasRecords, IsLog, Readable, share_after, records_after};
 
 use crate::record::Record;
 use crate::share::RecordShare;
 use crate::sink::LogSink;
-use resp_wire::{faults, longest};
+use resp_wire::laws;
 use std::alloc::Allocator;
 use std::marker::Model;
 use std::sync::ledger::{Blank, Book, Ledger, Share};
@@ -184,10 +184,8 @@ impl<S: LogSink, L: Ledger> Log<S, L> {
         ensures ok { OnOk result (Appends self.old self.new (request entry.now)) }
         ensures share { share.new ≡ share_after share.old result }
         ensures broken { IsErrOf result Refusal.LogBroken ↔ (self.old.broken ≡ true) }
-        ensures full { IsErrOf result Refusal.LogFull → (self.old.broken ≡ false)
-            × (self.old.appended ≡ self.old.limit) }
-        ensures full_always { self.old.broken ≡ false → self.old.appended ≡ self.old.limit
-            → IsErrOf result Refusal.LogFull }
+        ensures full { IsErrOf result Refusal.LogFull ↔ ((self.old.broken ≡ false)
+            × (self.old.appended ≡ self.old.limit)) }
         ensures untouched { IsErrOf result Refusal.LogBroken ⊎ IsErrOf result Refusal.LogFull
             → self.new ≡ self.old }
         ensures refused { IsErrOf result Refusal.LogRefused
@@ -226,11 +224,13 @@ impl<S: LogSink, L: Ledger> Log<S, L> {
         ensures told { S.told result ≡ self.told }
         ensures synced { S.synced result ≡ self.synced }
         ensures counts { (S.calls result ≡ self.calls) × (S.failures result ≡ self.failures) }
-        ensures fronts { IfSome self.told
+        ensures prefixes { IfSome self.told
             (λ bytes. Readable bytes self.synced self.appended self.written) }
     {
-        longest();
-        faults();
+        // What a log wrote is whole records and a prefix of one more.
+        laws::longest();
+        // Such a prefix is no item yet, and has no fault.
+        laws::faults();
         let Log {
             sink,
             book: _,

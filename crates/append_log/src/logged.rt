@@ -2,11 +2,11 @@
 
 ghost use Rattle.std.specs.Prelude.{◌≡◌, ℕ, ◌+◌, ◌≤◌, None, Some, true, false, IfOk, IfErr, OnOk, IsTrue};
 ghost use Rattle.resp_wire.specs.Response.{response_of};
-ghost use Rattle.resp_wire.specs.Spelling.{request};
-ghost use Rattle.zset_core.specs.Meaning.{is_writing};
+ghost use Rattle.resp_wire.specs.RequestEncoding.{request};
+ghost use Rattle.zset_core.specs.CommandMeaning.{is_writing};
 ghost use Rattle.zset_core.specs.World.{World as WorldType};
 ghost use Rattle.append_log.specs.Log.{LogView, Appends, HasRecords, records_after, share_after};
-ghost use Rattle.append_log.specs.Logged.{LoggedView, AreSame, Replays, NotAppended, Ran, Refused};
+ghost use Rattle.append_log.specs.LoggedOwner.{LoggedView, AreSame, Replays, NotAppended, Ran, Refused};
 
 use crate::log::Log;
 use crate::record::Record;
@@ -112,12 +112,12 @@ pub struct LoggedOwner<H: BuildHasher, S: LogSink, L: Ledger, A: Allocator + Cop
 }
 
 impl<H: BuildHasher, S: LogSink, L: Ledger, A: Allocator + Copy> Model for LoggedOwner<H, S, L, A> {
-    ghost use Rattle.append_log.specs.Logged.{LoggedView};
+    ghost use Rattle.append_log.specs.LoggedOwner.{LoggedView};
 
     ghost Value = { LoggedView };
 
     ghost use Rattle.std.specs.Coded.{codes};
-    ghost use Rattle.zset_core.specs.View.{coded_members, coded_world};
+    ghost use Rattle.zset_core.specs.Views.{coded_members, coded_world};
 
     ghost coded = { Prim.hlevel (codes, coded_members, coded_world) };
 
@@ -143,7 +143,7 @@ impl<H: BuildHasher + Clone + Drop, S: LogSink, L: Ledger, A: Allocator + Copy> 
         ensures log { result.log ≡ record log { parts = result.log.parts } }
         ensures part { result.log.parts + 1 ≡ log.parts }
         ensures share { result.share ≡ 0 }
-        // A log that has no record yet leads from the world to the world.
+        // A log that has no record yet replays from the world to the world.
         ensures replays { log.appended ≡ 0 → Replays owner.world result }
     {
         let mut log = log;
@@ -169,8 +169,8 @@ impl<H: BuildHasher + Clone + Drop, S: LogSink, L: Ledger, A: Allocator + Copy> 
         ensures err { IfErr result (λ refusal. Refused self.old self.new command.now refusal) }
         ensures unbroken { OnOk result
             (self.old.log.broken ≡ true → AreSame self.old.world self.new.world) }
-        // Whatever world the log's records led from to this one's, they do so again, refused or
-        // not.
+        // From whatever world the log's records replay to this one's, they do so again, refused
+        // or not.
         ensures replays { (start : WorldType) → Replays start self.old → Replays start self.new }
     {
         if command.writes() {
@@ -186,7 +186,7 @@ impl<H: BuildHasher + Clone + Drop, S: LogSink, L: Ledger, A: Allocator + Copy> 
         }
     }
 
-    /// The owner and the log. The share of the records that were appended here is let go.
+    /// The owner and the log. The share of the records that were appended here is discarded.
     pub fn into_parts(self) -> (OneOwner<H, A>, Log<S, L>)
         ensures world { result.0.world ≡ self.world }
         ensures idle { result.0.next ≡ None }

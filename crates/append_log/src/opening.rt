@@ -1,26 +1,20 @@
 //! Opening an append file: it is locked before it is read.
 
 ghost use Rattle.std.specs.Prelude.{◌≡◌, ◌<◌, None, IfOk, IfErr};
-ghost use Rattle.append_log.specs.Files.{Restores, OpenFails};
+ghost use Rattle.append_log.specs.FileOpening.{Restores, OpenFails};
 ghost use Rattle.append_log.specs.declared.opening.OpenFault.TheVariants as opens;
 ghost use Rattle.append_log.specs.declared.file.FileFault.TheVariants as files;
 
 use crate::file::{FileFault, FileSink, LockFile};
 use crate::loading::{Loaded, ReloadFault, reload};
 use crate::sink::LogSink;
-use resp_wire::Reading;
+use resp_wire::{MAX_READS, READ_BUFFER, Reading};
 use std::alloc::Allocator;
 use std::fs::{self, Files, OpenFile, OpenOptions};
 use std::hash::BuildHasher;
 use std::path::Path;
 use thiserror::Error;
 use zset_core::OneOwner;
-
-/// The bytes that are read at once.
-const BUFFER: usize = 16_384;
-
-/// The most reads of a file.
-const MAX_READS: u64 = 1 << 40;
 
 /// Why an append file was not opened.
 #[derive(Clone, Copy, Debug, PartialEq, Eq, Error)]
@@ -97,7 +91,7 @@ fn cut_torn<F: OpenFile>(file: &F, loaded: &Loaded) -> Result<(), FileFault>
 /// # Errors
 ///
 /// A file with damage, or with a record that is no command, is not written to. The owner then holds
-/// what the records before lead to.
+/// the sets that the records before replay to.
 pub fn open_to_append<R: Files, H: BuildHasher + Clone + Drop, A: Allocator + Copy>(
     rt: &R,
     alloc: A,
@@ -126,7 +120,7 @@ where
     check_regular(&file)?;
     file.hold_alone()?;
     let mut source = Reading::new(file);
-    let loaded = reload(alloc, &mut source, owner, BUFFER, MAX_READS)?;
+    let loaded = reload(alloc, &mut source, owner, READ_BUFFER, MAX_READS)?;
     let file = source.into_inner();
     cut_torn(&file, &loaded)?;
     if loaded.whole == 0 {
@@ -140,7 +134,7 @@ where
 ///
 /// # Errors
 ///
-/// The owner then holds what the records before lead to.
+/// The owner then holds the sets that the records before replay to.
 pub fn open_to_read<R: Files, H: BuildHasher + Clone + Drop, A: Allocator + Copy>(
     rt: &R,
     alloc: A,
@@ -160,6 +154,6 @@ where
     };
     file.hold_shared()?;
     let mut source = Reading::new(file);
-    let loaded = reload(alloc, &mut source, owner, BUFFER, MAX_READS)?;
+    let loaded = reload(alloc, &mut source, owner, READ_BUFFER, MAX_READS)?;
     Ok((source.into_inner(), loaded))
 }

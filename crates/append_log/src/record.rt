@@ -1,9 +1,9 @@
 //! Records.
 
 ghost use Rattle.std.specs.Prelude.{◌≡◌, List, ℕ, Some, IfOk, IfSome, IsTrue};
-ghost use Rattle.resp_wire.specs.Spelling.{request, IsRequest};
-ghost use Rattle.zset_core.specs.Meaning.{key_of, is_writing};
-ghost use Rattle.zset_core.specs.View.{IsReady};
+ghost use Rattle.resp_wire.specs.RequestEncoding.{request, IsRequest};
+ghost use Rattle.zset_core.specs.CommandMeaning.{key_of, is_writing};
+ghost use Rattle.zset_core.specs.Views.{IsPreparedFor};
 ghost use Rattle.zset_core.specs.World.{World as WorldType, set_at, put_set};
 ghost use Rattle.append_log.specs.Replay.{after};
 
@@ -14,8 +14,8 @@ use std::marker::Model;
 use std::snapshot::Snapshot;
 use zset_core::{Command, ZSet};
 
-/// A record of an append file: a command that changes sets, spelled as the request that it came in.
-/// A contract sees the request's words.
+/// A record of an append file: a command that changes sets, encoded as the request that it came in.
+/// A contract sees the request's arguments.
 #[derive(Drop)]
 pub struct Record<A: Allocator> {
     text: Vec<u8, A>,
@@ -24,7 +24,7 @@ pub struct Record<A: Allocator> {
 
 impl<A: Allocator> Model for Record<A> {
     ghost use Rattle.std.specs.Prelude.{◌≡◌};
-    ghost use Rattle.resp_wire.specs.Spelling.{request, IsRequest};
+    ghost use Rattle.resp_wire.specs.RequestEncoding.{request, IsRequest};
     ghost use Rattle.append_log.specs.Records.{Record as Words};
 
     ghost Value = { Words };
@@ -43,7 +43,7 @@ impl<A: Allocator + Copy> Record<A> {
         set: &ZSet<H, A>,
     ) -> Result<Self, AllocError>
         requires writing { IsTrue (is_writing command.now.meaning) }
-        requires prepared { IsReady set.now.members command.now.meaning set.now.next }
+        requires prepared { IsPreparedFor set.now.members command.now.meaning set.now.next }
         ensures words { IfOk result (λ entry. entry ≡ command.now.words) }
         ensures replays { IfOk result
             (λ entry. (world : WorldType) (key : List ℕ) → key_of command.now.meaning ≡ Some key

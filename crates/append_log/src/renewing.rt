@@ -3,17 +3,17 @@
 ghost use Rattle.std.specs.Prelude.{◌≡◌, ◌≤◌, [], ◌∷◌, ◌++◌, length, min, ◌-◌, ◌^◌, IfOk, IfErr, IfSome, OnOk, OnErr, MatchResult};
 ghost use Rattle.std.specs.Io.KnownBytes.{append_known};
 ghost use Rattle.resp_wire.specs.Device.{Rose};
-ghost use Rattle.resp_wire.specs.Spelling.{request};
-ghost use Rattle.append_log.specs.Image.{add_record, pieces, piece_records, set_records, image};
+ghost use Rattle.resp_wire.specs.RequestEncoding.{request};
+ghost use Rattle.append_log.specs.Dump.{add_record, pieces, piece_records, set_records, dump};
 ghost use Rattle.append_log.specs.Records.{text_of as text_of_records};
-ghost use Rattle.append_log.specs.Rewriting.{LeadsTo, TakesFront, SinkFailed};
+ghost use Rattle.append_log.specs.Rewrite.{ReplaysTo, TakesPrefix, SinkFailed};
 ghost use Rattle.append_log.specs.declared.renewing.RewriteFault.TheVariants as faults;
 ghost use Rattle.score_bounds.specs.Scores.{score_text};
 
 use crate::log::write_out;
 use crate::sink::LogSink;
 use crack_kernel::Row;
-use resp_wire::{Bytes, BytesList, Reply, longest, write_reply};
+use resp_wire::{Bytes, BytesList, Reply, laws, write_reply};
 use score_bounds::laws::printed_scores;
 use score_bounds::write_score;
 use std::alloc::{AllocError, Allocator};
@@ -57,7 +57,7 @@ fn score_bytes<A: Allocator>(alloc: A, score: i64) -> Result<Bytes<A>, AllocErro
     Ok(Bytes::new(text))
 }
 
-/// A score and its member, as two words more.
+/// A score and its member, as two arguments more.
 fn push_pair<A: Allocator + Copy>(
     alloc: A,
     words: &mut Vec<Bytes<A>, A>,
@@ -71,7 +71,7 @@ fn push_pair<A: Allocator + Copy>(
     Ok(())
 }
 
-/// The words of ZADD with these pairs.
+/// The arguments of ZADD with these pairs.
 fn words_of<A: Allocator + Copy>(
     alloc: A,
     key: &[u8],
@@ -98,7 +98,7 @@ fn text_of<A: Allocator + Copy>(
 {
     let words = words_of(alloc, key, pairs)?;
     let mut text = Vec::new(alloc);
-    // An array of bulk strings is spelled the same as a reply and as a request.
+    // An array of bulk strings has the same encoding as a reply and as a request.
     write_reply(&Reply::List(words), &mut text)?;
     Ok(text)
 }
@@ -112,7 +112,7 @@ fn put_record<S: LogSink, A: Allocator + Copy>(
 ) -> Result<(), RewriteFault>
     ensures ok { OnOk result (S.told sink.new
         ≡ append_known (S.told sink.old) (request (add_record key.now pairs.now))) }
-    ensures err { OnErr result (TakesFront (S.told sink.old) (S.told sink.new)
+    ensures err { OnErr result (TakesPrefix (S.told sink.old) (S.told sink.new)
         (request (add_record key.now pairs.now))) }
     ensures failures { MatchResult result (λ _. S.failures sink.new ≡ S.failures sink.old)
         (λ fault. SinkFailed fault (S.failures sink.old) (S.failures sink.new)) }
@@ -136,7 +136,7 @@ fn put_set<S: LogSink, A: Allocator + Copy>(
     ensures few { IfOk result (λ n. n ≤ length rows.now) }
     ensures ok { OnOk result (S.told sink.new
         ≡ append_known (S.told sink.old) (text_of_records (piece_records key.now rows.now))) }
-    ensures err { OnErr result (TakesFront (S.told sink.old) (S.told sink.new)
+    ensures err { OnErr result (TakesPrefix (S.told sink.old) (S.told sink.new)
         (text_of_records (piece_records key.now rows.now))) }
     ensures failures { MatchResult result (λ _. S.failures sink.new ≡ S.failures sink.old)
         (λ fault. SinkFailed fault (S.failures sink.old) (S.failures sink.new)) }
@@ -152,40 +152,42 @@ fn put_set<S: LogSink, A: Allocator + Copy>(
     Ok(count)
 }
 
-/// A law: the text of an owner's records leads back to its sets. The body does nothing.
-fn leads_back<H: BuildHasher + Clone + Drop, A: Allocator + Copy>(owner: &OneOwner<H, A>)
-    ensures { LeadsTo (text_of_records (image owner.now.world)) owner.now.world }
+/// A law: the text of an owner's records replays to its sets. The body does nothing.
+fn replays_back<H: BuildHasher + Clone + Drop, A: Allocator + Copy>(owner: &OneOwner<H, A>)
+    ensures { ReplaysTo (text_of_records (dump owner.now.world)) owner.now.world }
 {
     owner.bounds();
+    // A score is printed as it is read.
     printed_scores();
-    longest();
+    // The text of records is read as these records.
+    laws::longest();
 }
 
 /// Writes the sets of an owner anew: the pairs of each set in the order of their listing, as
 /// records of ZADD with 512 of them, the last with what remains, and the sets in the byte order of
-/// their keys. Then syncs. A reload of these bytes leads from no sets to the owner's. Gives the
+/// their keys. Then syncs. A reload of these bytes replays them, from no sets, to the owner's. Gives the
 /// number of records, which stays at 2^64 - 1.
 ///
 /// # Errors
 ///
-/// A front of these bytes was written then.
+/// A prefix of these bytes was written then.
 pub fn rewrite<H: BuildHasher + Clone + Drop, S: LogSink, A: Allocator + Copy>(
     alloc: A,
     owner: &OneOwner<H, A>,
     sink: &mut S,
 ) -> Result<u64, RewriteFault>
     requires idle { owner.now.next ≡ None }
-    ensures count { IfOk result (λ n. n ≡ min (length (image owner.now.world)) (2 ^ 64 - 1)) }
+    ensures count { IfOk result (λ n. n ≡ min (length (dump owner.now.world)) (2 ^ 64 - 1)) }
     ensures told { OnOk result (S.told sink.new
-        ≡ append_known (S.told sink.old) (text_of_records (image owner.now.world))) }
-    ensures leads_back { LeadsTo (text_of_records (image owner.now.world)) owner.now.world }
+        ≡ append_known (S.told sink.old) (text_of_records (dump owner.now.world))) }
+    ensures replays_back { ReplaysTo (text_of_records (dump owner.now.world)) owner.now.world }
     ensures synced { OnOk result (IfSome (S.told sink.new) (λ all. S.synced sink.new ≡ length all)) }
     ensures refused { OnErr result
-        (TakesFront (S.told sink.old) (S.told sink.new) (text_of_records (image owner.now.world))) }
+        (TakesPrefix (S.told sink.old) (S.told sink.new) (text_of_records (dump owner.now.world))) }
     ensures failures { MatchResult result (λ _. S.failures sink.new ≡ S.failures sink.old)
         (λ fault. SinkFailed fault (S.failures sink.old) (S.failures sink.new)) }
 {
-    leads_back(owner);
+    replays_back(owner);
     let mut count: u64 = 0;
     let mut next = owner.key_after(None);
     'keys: while let Some(key) = next {

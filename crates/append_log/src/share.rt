@@ -2,7 +2,7 @@
 
 ghost use Rattle.std.specs.Prelude.{◌≡◌, ◌+◌, ◌<◌, ◌^◌};
 
-use crate::kept::Kept;
+use crate::ledger_share::LedgerShare;
 use std::marker::Model;
 use std::sync::ledger::{Book, Ledger, Share};
 
@@ -11,7 +11,7 @@ use std::sync::ledger::{Book, Ledger, Share};
 #[derive(Drop)]
 pub struct RecordShare<L: Ledger> {
     count: u64,
-    kept: Kept<L>,
+    share: LedgerShare<L>,
 }
 
 impl<L: Ledger> Model for RecordShare<L> {
@@ -19,9 +19,9 @@ impl<L: Ledger> Model for RecordShare<L> {
 
     ghost Value = { ℕ };
 
-    ghost view = { λ s. s.kept.amount };
+    ghost view = { λ s. s.share.amount };
 
-    ghost invariant = { λ s. (s.kept.amount ≡ s.count) × (s.kept.parts ≡ 1) };
+    ghost invariant = { λ s. (s.share.amount ≡ s.count) × (s.share.parts ≡ 1) };
 }
 
 impl<L: Ledger> RecordShare<L> {
@@ -32,7 +32,7 @@ impl<L: Ledger> RecordShare<L> {
     {
         RecordShare {
             count: 0,
-            kept: Kept::new(share),
+            share: LedgerShare::new(share),
         }
     }
 
@@ -49,8 +49,8 @@ impl<L: Ledger> RecordShare<L> {
         ensures share { self.new ≡ self.old + 1 }
         ensures book { book.new.total ≡ book.old.total + 1 }
     {
-        self.kept.audit(book);
-        self.kept.add_one(book);
+        self.share.audit(book);
+        self.share.add_one(book);
         self.count += 1;
     }
 }

@@ -2,8 +2,8 @@
 
 ghost use Rattle.std.specs.Prelude.{◌≡◌, ℕ, ◌<◌, ◌≤◌, [], List, Option, Some, None, length, IfOk};
 ghost use Rattle.std.specs.Io.KnownBytes.{append_known};
-ghost use Rattle.resp_wire.specs.Device.{moved, risen, failures_after};
-ghost use Rattle.append_log.specs.Sink.{synced_after};
+ghost use Rattle.resp_wire.specs.Device.{moved, saturating_succ, failures_after};
+ghost use Rattle.append_log.specs.SyncedBytes.{synced_after};
 
 use std::alloc::Allocator;
 use thiserror::Error;
@@ -28,21 +28,21 @@ pub trait LogSink {
     /// The number of calls that failed, counted in the same way.
     ghost failures: { Self → ℕ };
 
-    /// Takes bytes from the front of a slice, of one that is not empty at least one, and gives
-    /// their number.
+    /// Takes a prefix of a slice, of one that is not empty at least one byte, and gives its
+    /// length.
     fn write(&mut self, bytes: &[u8]) -> Result<usize, SinkFault>
         ensures count { IfOk result (λ n. n ≤ length bytes.now) }
         ensures some { IfOk result (λ n. 0 < length bytes.now → 0 < n) }
         ensures told { told self.new ≡ append_known (told self.old) (moved result bytes.now) }
         ensures synced { synced self.new ≡ synced self.old }
-        ensures calls { calls self.new ≡ risen (calls self.old) }
+        ensures calls { calls self.new ≡ saturating_succ (calls self.old) }
         ensures failures { failures self.new ≡ failures_after (failures self.old) result };
 
     /// Puts all bytes that it took where they outlive the program.
     fn sync(&mut self) -> Result<(), SinkFault>
         ensures told { told self.new ≡ told self.old }
         ensures synced { synced self.new ≡ synced_after (synced self.old) (told self.old) result }
-        ensures calls { calls self.new ≡ risen (calls self.old) }
+        ensures calls { calls self.new ≡ saturating_succ (calls self.old) }
         ensures failures { failures self.new ≡ failures_after (failures self.old) result };
 }
 
@@ -191,7 +191,7 @@ impl<S: LogSink> FuseSink<S> {
 
     // Counts a call, and says whether it is the one that fails.
     fn blows(&mut self) -> bool
-        ensures { self.new ≡ record self.old { calls = risen self.old.calls } }
+        ensures { self.new ≡ record self.old { calls = saturating_succ self.old.calls } }
     {
         let before = self.calls;
         self.calls = before.saturating_add(1);
@@ -200,7 +200,7 @@ impl<S: LogSink> FuseSink<S> {
 
     // Counts a failure.
     fn fail(&mut self) -> SinkFault
-        ensures { self.new ≡ record self.old { failures = risen self.old.failures } }
+        ensures { self.new ≡ record self.old { failures = saturating_succ self.old.failures } }
     {
         self.failures = self.failures.saturating_add(1);
         SinkFault

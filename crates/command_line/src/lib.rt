@@ -14,7 +14,7 @@ const VERSION: &str = "0.2.0";
 pub enum Task<'a> {
     /// Serve standard input to standard output, with an append file where one is named.
     Stdio { file: Option<&'a str> },
-    /// Write a new append file that leads to the same sets as an old one.
+    /// Write a new append file that replays to the same sets as an old one.
     Rewrite { old: &'a str, new: &'a str },
 }
 
@@ -23,7 +23,7 @@ pub enum Task<'a> {
 pub enum Unasked {
     /// A text is asked for, help or the version, which the error prints on standard output.
     Text(Error),
-    /// The words ask for nothing that is known. The error prints on standard error what is wrong
+    /// The arguments ask for nothing that is known. The error prints on standard error what is wrong
     /// with them, and how they are used.
     Bad(Error),
     NoMemory,

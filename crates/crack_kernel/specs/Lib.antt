@@ -1,3 +1,3 @@
-pub mod Bags
+pub mod RowBag
 pub mod Parts
 pub mod PivotList

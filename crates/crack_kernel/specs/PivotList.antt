@@ -13,11 +13,15 @@ pub record PivotList : Type 0 where
 abbrev pub IsRising : List (ℤ × ℕ) → Type 0
 IsRising ps = (i j : ℕ) (d : ℤ × ℕ) → i < j → j < length ps → (slice_index_or ps i d).0 <ℤ (slice_index_or ps j d).0
 
--- the pivot law: each pivot parts the rows at its place, the values rise strictly, and there are at most 4,096
+-- the greatest number of pivots (MAX_PIVOTS in code)
+abbrev pub max_pivots : ℕ
+max_pivots = 4096
+
+-- the pivot law: each pivot parts the rows at its place, the values rise strictly, and there are at most max_pivots
 pub record ObeysPivots (pivots : List (ℤ × ℕ)) (rows : List (ℤ × List ℕ)) : Type 0 where
   pub parted : All (λ p. IsParted (IsBelow p.0) (IsFrom p.0) rows p.1) pivots
   pub rising : IsRising pivots
-  pub few : length pivots ≤ 4096
+  pub few : length pivots ≤ max_pivots
 
 -- no pivot has this value
 abbrev pub IsNewValue : ℤ → List (ℤ × ℕ) → Type 0

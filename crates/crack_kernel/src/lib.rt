@@ -12,6 +12,3 @@ pub mod row;
 pub use crack::{crack_piece, crack_three, crack_two};
 pub use pivots::{MAX_PIVOTS, Pivots};
 pub use row::Row;
-
-#[cfg(test)]
-mod tests;

@@ -20,13 +20,13 @@ pub struct Pivots<A: Allocator> {
 
 impl<A: Allocator> Model for Pivots<A> {
     ghost use Rattle.std.specs.Prelude.{◌≤◌, ◌-◌, length, vec_capacity, vec_len};
-    ghost use Rattle.crack_kernel.specs.PivotList.{PivotList, IsRising};
+    ghost use Rattle.crack_kernel.specs.PivotList.{PivotList, IsRising, max_pivots};
 
     ghost Value = { PivotList };
 
     ghost view = { λ p. record { list = p.list.items; spare = vec_capacity p.list - vec_len p.list } };
 
-    ghost invariant = { λ p. IsRising p.list.items × (length p.list.items ≤ 4096) };
+    ghost invariant = { λ p. IsRising p.list.items × (length p.list.items ≤ max_pivots) };
 }
 
 impl<A: Allocator> Pivots<A> {
@@ -42,7 +42,7 @@ impl<A: Allocator> Pivots<A> {
     /// How many pivots there are.
     pub fn len(&self) -> usize
         ensures len { result ≡ length self.now.list }
-        ensures few { result ≤ 4096 }
+        ensures few { result ≤ MAX_PIVOTS }
     {
         self.list.len()
     }
@@ -58,7 +58,7 @@ impl<A: Allocator> Pivots<A> {
     pub fn list(&self) -> &[(i64, usize)]
         ensures value { result.now ≡ self.now.list }
         ensures rising { IsRising self.now.list }
-        ensures few { length self.now.list ≤ 4096 }
+        ensures few { length self.now.list ≤ MAX_PIVOTS }
     {
         &self.list
     }
@@ -99,7 +99,7 @@ impl<A: Allocator> Pivots<A> {
     /// Adds a pivot at its place in the order. It takes no memory.
     pub fn add(&mut self, v: i64, place: usize)
         requires room { 0 < self.old.spare }
-        requires few { length self.old.list < 4096 }
+        requires few { length self.old.list < MAX_PIVOTS }
         requires new { IsNewValue v self.old.list }
         ensures list { IsPermutation ((v, place) ∷ self.old.list) self.new.list }
         ensures rising { IsRising self.new.list }

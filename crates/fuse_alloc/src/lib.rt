@@ -1,19 +1,20 @@
-//! An allocator that refuses one growth, so that a test can refuse each growth of a call in turn.
+//! An allocator that refuses one allocation, so that a test can refuse each allocation of a call in
+//! turn.
 #![tactic(auto)]
 
 use std::alloc::{AllocError, Allocator};
 use std::cell::Cell;
 
-/// Passes each call on to another allocator, but for the one growth that it was set to refuse. A
-/// `Vec` that grows makes one allocation.
+/// Passes each call on to another allocator, but for the one allocation that it was set to refuse.
+/// A `Vec` that grows makes one allocation.
 pub struct Fuse<B: Allocator> {
     inner: B,
-    /// The growths that are left up to the refused one; 0 where none is to be refused any more.
+    /// The allocations that are left up to the refused one; 0 where none is to be refused any more.
     left: Cell<u64>,
 }
 
 impl<B: Allocator> Fuse<B> {
-    /// Refuses the growth with this number, counted from 1, and no other; none where it is 0.
+    /// Refuses the allocation with this number, counted from 1, and no other; none where it is 0.
     pub fn new(inner: B, number: u64) -> Self {
         Fuse {
             inner,
@@ -21,12 +22,12 @@ impl<B: Allocator> Fuse<B> {
         }
     }
 
-    /// Counts anew from here: refuses the growth with this number, and none where it is 0.
+    /// Counts anew from here: refuses the allocation with this number, and none where it is 0.
     pub fn arm(&self, number: u64) {
         self.left.set(number);
     }
 
-    /// Whether the growth that was to be refused is still to come.
+    /// Whether the allocation that was to be refused is still to come.
     pub fn is_armed(&self) -> bool {
         self.left.get() != 0
     }
@@ -38,7 +39,7 @@ impl<B: Allocator> Drop for Fuse<B> {
     }
 }
 
-/// Counts a growth, and says whether it is the one to be refused.
+/// Counts an allocation, and says whether it is the one to be refused.
 fn refuses(left: &Cell<u64>) -> bool {
     let growths = left.get();
     left.set(growths.saturating_sub(1));

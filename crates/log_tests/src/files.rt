@@ -12,7 +12,7 @@ use zset_core::OneOwner;
 /// ZADD k 1 a.
 const RECORD: &[u8] = b"*4\r\n$4\r\nZADD\r\n$1\r\nk\r\n$1\r\n1\r\n$1\r\na\r\n";
 
-/// The same, and the front of one more.
+/// The same, and a prefix of one more.
 const TORN: &[u8] = b"*4\r\n$4\r\nZADD\r\n$1\r\nk\r\n$1\r\n1\r\n$1\r\na\r\n*3";
 
 fn loaded(records: u64, whole: u64, torn: u64) -> Loaded {

@@ -1,7 +1,10 @@
-//! Tests of append files on a file system some of whose calls fail. This crate has nothing but tests.
+//! Tests of append files: records in memory, and files on a file system some of whose calls fail.
+//! This crate has nothing but tests.
 #![tactic(auto)]
 
 #[cfg(test)]
 mod failing;
 #[cfg(test)]
 mod files;
+#[cfg(test)]
+mod records;

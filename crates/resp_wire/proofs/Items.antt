@@ -1,4 +1,4 @@
--- An item that is read is one that is spelled, and one that is spelled is read.
+-- An item that is read was encoded so, and an encoding is read as its item.
 use Rattle.std.proofs.Common.{◌≡◌, ℕ, zero, suc, ◌<◌, ◌≤◌, false, List, [], ◌∷◌, ◌++◌, length, take, drop, All, Option, Some, None, Result, Ok, Err, refl, sym, ap, subst, ◌∙◌, inl, inr, append_assoc, length-append, arith}
 use Rattle.std.specs.Prelude.{nat_lt, ◌==◌}
 use Rattle.std.specs.List.{flat_map}
@@ -9,91 +9,91 @@ use Rattle.std.proofs.lemmas.List.Elements.{All-nil, All-cons, All-head, All-tai
 use Rattle.resp_wire.specs.declared.fault.ProtocolFault.TheVariants.{NotAnArray, BadNumber, TooManyArguments, TooLong, BadBulk}
 use Rattle.resp_wire.specs.declared.fault.Stop.{Stop}
 use Rattle.resp_wire.specs.declared.fault.Stop.TheVariants.{Short, Wrong}
-use Rattle.resp_wire.specs.Spelling.{line, argument, request, IsWord, IsRequest, Item, Ask, SkipZero, SkipMinus, spelled, IsItem}
-use Rattle.resp_wire.specs.Reading.{◌>>=◌, byte_at, line_end_at, number_at, body_at, word_at, words_at, count_at, head_at, behind_head, item_at}
-use Rattle.resp_wire.proofs.Tools.{bind_ok, ok_is, chosen, guard_ok, wanted_ok, byte_takes, byte_again, line_end_takes, line_end_again}
+use Rattle.resp_wire.specs.RequestEncoding.{line, argument, request, IsArgument, IsRequest, Item, Ask, SkipZero, SkipMinus, encoding_of, IsItem}
+use Rattle.resp_wire.specs.Parser.{◌>>=◌, byte_at, line_end_at, number_at, body_at, argument_at, arguments_at, count_at, head_at, behind_head, item_at}
+use Rattle.resp_wire.proofs.ParserLemmas.{bind_ok, ok_is, chosen, guard_ok, wanted_ok, byte_takes, byte_again, line_end_takes, line_end_again}
 use Rattle.resp_wire.proofs.Numbers.{digit_range, number_takes, number_again}
 
 -- ---- arguments
 
-pub body_takes : (n : ℕ) (bytes word rest : List ℕ) → body_at n bytes ≡ Ok (word, rest) → (bytes ≡ word ++ 13 ∷ 10 ∷ rest) × (length word ≡ n)
+pub body_takes : (n : ℕ) (bytes value rest : List ℕ) → body_at n bytes ≡ Ok (value, rest) → (bytes ≡ value ++ 13 ∷ 10 ∷ rest) × (length value ≡ n)
 unfolding body_at
-body_takes n bytes word rest e =
-    let g = guard_ok (nat_lt (length bytes) n) Short (line_end_at BadBulk (drop n bytes) >>= λ r. Ok (take n bytes, r)) (word, rest) e in
+body_takes n bytes value rest e =
+    let g = guard_ok (nat_lt (length bytes) n) Short (line_end_at BadBulk (drop n bytes) >>= λ r. Ok (take n bytes, r)) (value, rest) e in
     let long : n ≤ length bytes = ltb-false _ _ g.0 in
-    let b = bind_ok (line_end_at BadBulk (drop n bytes)) (λ r. Ok (take n bytes, r)) (word, rest) g.1 in
+    let b = bind_ok (line_end_at BadBulk (drop n bytes)) (λ r. Ok (take n bytes, r)) (value, rest) g.1 in
     let ends = line_end_takes BadBulk (drop n bytes) b.0 b.1 in
-    let same = ok_is (take n bytes, b.0) (word, rest) b.2 in
+    let same = ok_is (take n bytes, b.0) (value, rest) b.2 in
     let parts : bytes ≡ take n bytes ++ 13 ∷ 10 ∷ b.0 = sym (take-append-drop n bytes) ∙ ap (λ (t : List ℕ). take n bytes ++ t) ends in
     subst (λ (p : List ℕ × List ℕ). (bytes ≡ p.0 ++ 13 ∷ 10 ∷ p.1) × (length p.0 ≡ n)) same (parts, length-take-le n bytes long)
 
-pub body_again : (word rest : List ℕ) → body_at (length word) (word ++ 13 ∷ 10 ∷ rest) ≡ Ok (word, rest)
+pub body_again : (value rest : List ℕ) → body_at (length value) (value ++ 13 ∷ 10 ∷ rest) ≡ Ok (value, rest)
 unfolding body_at
-body_again word rest =
-    let long : nat_lt (length (word ++ 13 ∷ 10 ∷ rest)) (length word) ≡ false = le-ltb _ _ (omega (arith, length-append word (13 ∷ 10 ∷ rest))) in
-    rw (long, take_at word (13 ∷ 10 ∷ rest) (length word) refl, drop_at word (13 ∷ 10 ∷ rest) (length word) refl, line_end_again BadBulk rest) refl
+body_again value rest =
+    let long : nat_lt (length (value ++ 13 ∷ 10 ∷ rest)) (length value) ≡ false = le-ltb _ _ (omega (arith, length-append value (13 ∷ 10 ∷ rest))) in
+    rw (long, take_at value (13 ∷ 10 ∷ rest) (length value) refl, drop_at value (13 ∷ 10 ∷ rest) (length value) refl, line_end_again BadBulk rest) refl
 
-regroup_word : (a word rest : List ℕ) → a ++ (word ++ 13 ∷ 10 ∷ rest) ≡ (a ++ (word ++ 13 ∷ 10 ∷ [])) ++ rest
-regroup_word a word rest =
-    ap (λ (t : List ℕ). a ++ t) (sym (append_assoc word (13 ∷ 10 ∷ []) rest)) ∙ sym (append_assoc a (word ++ 13 ∷ 10 ∷ []) rest)
+regroup_argument : (a value rest : List ℕ) → a ++ (value ++ 13 ∷ 10 ∷ rest) ≡ (a ++ (value ++ 13 ∷ 10 ∷ [])) ++ rest
+regroup_argument a value rest =
+    ap (λ (t : List ℕ). a ++ t) (sym (append_assoc value (13 ∷ 10 ∷ []) rest)) ∙ sym (append_assoc a (value ++ 13 ∷ 10 ∷ []) rest)
 
-pub word_takes : (bytes word rest : List ℕ) → word_at bytes ≡ Ok (word, rest) → (bytes ≡ argument word ++ rest) × IsWord word
-unfolding word_at
-word_takes bytes word rest e =
-    let a = bind_ok (byte_at 36 BadBulk bytes) (λ r. (number_at 65536 TooLong r >>= λ n. body_at n.0 n.1)) (word, rest) e in
-    let n = bind_ok (number_at 65536 TooLong a.0) (λ m. body_at m.0 m.1) (word, rest) a.2 in
+pub argument_takes : (bytes value rest : List ℕ) → argument_at bytes ≡ Ok (value, rest) → (bytes ≡ argument value ++ rest) × IsArgument value
+unfolding argument_at
+argument_takes bytes value rest e =
+    let a = bind_ok (byte_at 36 BadBulk bytes) (λ r. (number_at 65536 TooLong r >>= λ n. body_at n.0 n.1)) (value, rest) e in
+    let n = bind_ok (number_at 65536 TooLong a.0) (λ m. body_at m.0 m.1) (value, rest) a.2 in
     let t = number_takes 65536 TooLong a.0 n.0.0 n.0.1 (omega arith) (omega arith) n.1 in
-    let b = body_takes n.0.0 n.0.1 word rest n.2 in
-    let front = byte_takes 36 BadBulk bytes a.0 a.1 in
-    let inner : a.0 ≡ line (length word) ++ (word ++ 13 ∷ 10 ∷ rest) = t.0 ∙ ap (λ (x : List ℕ). line n.0.0 ++ x) b.0 ∙ ap (λ (k : ℕ). line k ++ (word ++ 13 ∷ 10 ∷ rest)) (sym b.1) in
-    (front ∙ ap (λ (x : List ℕ). 36 ∷ x) (inner ∙ regroup_word (line (length word)) word rest), omega (arith, t.1, b.1))
+    let b = body_takes n.0.0 n.0.1 value rest n.2 in
+    let prefix = byte_takes 36 BadBulk bytes a.0 a.1 in
+    let inner : a.0 ≡ line (length value) ++ (value ++ 13 ∷ 10 ∷ rest) = t.0 ∙ ap (λ (x : List ℕ). line n.0.0 ++ x) b.0 ∙ ap (λ (k : ℕ). line k ++ (value ++ 13 ∷ 10 ∷ rest)) (sym b.1) in
+    (prefix ∙ ap (λ (x : List ℕ). 36 ∷ x) (inner ∙ regroup_argument (line (length value)) value rest), omega (arith, t.1, b.1))
 
-pub word_again : (word rest : List ℕ) → IsWord word → word_at (argument word ++ rest) ≡ Ok (word, rest)
-unfolding word_at
-word_again word rest fits =
-    let inner : number_at 65536 TooLong ((line (length word) ++ (word ++ 13 ∷ 10 ∷ [])) ++ rest) ≡ Ok (length word, word ++ 13 ∷ 10 ∷ rest) =
-    ap (number_at 65536 TooLong) (sym (regroup_word (line (length word)) word rest)) ∙ number_again 65536 TooLong (length word) (word ++ 13 ∷ 10 ∷ rest) (omega arith) fits in
-    rw (byte_again 36 BadBulk ((line (length word) ++ (word ++ 13 ∷ 10 ∷ [])) ++ rest), inner, body_again word rest) refl
+pub argument_again : (value rest : List ℕ) → IsArgument value → argument_at (argument value ++ rest) ≡ Ok (value, rest)
+unfolding argument_at
+argument_again value rest fits =
+    let inner : number_at 65536 TooLong ((line (length value) ++ (value ++ 13 ∷ 10 ∷ [])) ++ rest) ≡ Ok (length value, value ++ 13 ∷ 10 ∷ rest) =
+    ap (number_at 65536 TooLong) (sym (regroup_argument (line (length value)) value rest)) ∙ number_again 65536 TooLong (length value) (value ++ 13 ∷ 10 ∷ rest) (omega arith) fits in
+    rw (byte_again 36 BadBulk ((line (length value) ++ (value ++ 13 ∷ 10 ∷ [])) ++ rest), inner, body_again value rest) refl
 
-pub record AreWords (n : ℕ) (bytes : List ℕ) (words : List (List ℕ)) (rest : List ℕ) : Type 0 where
-  pub parts : bytes ≡ flat_map argument words ++ rest
-  pub count : length words ≡ n
-  pub each : All IsWord words
+pub record AreArguments (n : ℕ) (bytes : List ℕ) (arguments : List (List ℕ)) (rest : List ℕ) : Type 0 where
+  pub parts : bytes ≡ flat_map argument arguments ++ rest
+  pub count : length arguments ≡ n
+  pub each : All IsArgument arguments
 
-pub words_takes : (n : ℕ) (bytes : List ℕ) (words : List (List ℕ)) (rest : List ℕ) → words_at n bytes ≡ Ok (words, rest) → AreWords n bytes words rest
-unfolding words_at
-words_takes zero bytes words rest e =
-    subst (λ (p : List (List ℕ) × List ℕ). AreWords zero bytes p.0 p.1) (ok_is ([], bytes) (words, rest) e) (record { parts = refl; count = refl; each = All-nil IsWord })
-words_takes (suc n) bytes words rest e =
-    let a = bind_ok (word_at bytes) (λ f. (words_at n f.1 >>= λ o. Ok (f.0 ∷ o.0, o.1))) (words, rest) e in
-    let b = bind_ok (words_at n a.0.1) (λ o. Ok (a.0.0 ∷ o.0, o.1)) (words, rest) a.2 in
-    let first = word_takes bytes a.0.0 a.0.1 a.1 in
-    let others = words_takes n a.0.1 b.0.0 b.0.1 b.1 in
-    let all : AreWords (suc n) bytes (a.0.0 ∷ b.0.0) b.0.1 = record {
+pub arguments_takes : (n : ℕ) (bytes : List ℕ) (arguments : List (List ℕ)) (rest : List ℕ) → arguments_at n bytes ≡ Ok (arguments, rest) → AreArguments n bytes arguments rest
+unfolding arguments_at
+arguments_takes zero bytes arguments rest e =
+    subst (λ (p : List (List ℕ) × List ℕ). AreArguments zero bytes p.0 p.1) (ok_is ([], bytes) (arguments, rest) e) (record { parts = refl; count = refl; each = All-nil IsArgument })
+arguments_takes (suc n) bytes arguments rest e =
+    let a = bind_ok (argument_at bytes) (λ f. (arguments_at n f.1 >>= λ o. Ok (f.0 ∷ o.0, o.1))) (arguments, rest) e in
+    let b = bind_ok (arguments_at n a.0.1) (λ o. Ok (a.0.0 ∷ o.0, o.1)) (arguments, rest) a.2 in
+    let first = argument_takes bytes a.0.0 a.0.1 a.1 in
+    let others = arguments_takes n a.0.1 b.0.0 b.0.1 b.1 in
+    let all : AreArguments (suc n) bytes (a.0.0 ∷ b.0.0) b.0.1 = record {
       parts = first.0 ∙ ap (λ (t : List ℕ). argument a.0.0 ++ t) others.parts ∙ sym (append_assoc (argument a.0.0) (flat_map argument b.0.0) b.0.1);
       count = ap suc others.count;
-      each = All-cons IsWord a.0.0 b.0.0 first.1 others.each;
+      each = All-cons IsArgument a.0.0 b.0.0 first.1 others.each;
     } in
-    subst (λ (p : List (List ℕ) × List ℕ). AreWords (suc n) bytes p.0 p.1) (ok_is (a.0.0 ∷ b.0.0, b.0.1) (words, rest) b.2) all
+    subst (λ (p : List (List ℕ) × List ℕ). AreArguments (suc n) bytes p.0 p.1) (ok_is (a.0.0 ∷ b.0.0, b.0.1) (arguments, rest) b.2) all
 
-pub words_again : (words : List (List ℕ)) (rest : List ℕ) → All IsWord words → words_at (length words) (flat_map argument words ++ rest) ≡ Ok (words, rest)
-unfolding words_at
-words_again [] rest each = refl
-words_again (word ∷ words) rest each =
-    let first : word_at ((argument word ++ flat_map argument words) ++ rest) ≡ Ok (word, flat_map argument words ++ rest) =
-    ap word_at (append_assoc (argument word) (flat_map argument words) rest) ∙ word_again word (flat_map argument words ++ rest) (All-head IsWord word words each) in
-    rw (first, words_again words rest (All-tail IsWord word words each)) refl
+pub arguments_again : (arguments : List (List ℕ)) (rest : List ℕ) → All IsArgument arguments → arguments_at (length arguments) (flat_map argument arguments ++ rest) ≡ Ok (arguments, rest)
+unfolding arguments_at
+arguments_again [] rest each = refl
+arguments_again (value ∷ arguments) rest each =
+    let first : argument_at ((argument value ++ flat_map argument arguments) ++ rest) ≡ Ok (value, flat_map argument arguments ++ rest) =
+    ap argument_at (append_assoc (argument value) (flat_map argument arguments) rest) ∙ argument_again value (flat_map argument arguments ++ rest) (All-head IsArgument value arguments each) in
+    rw (first, arguments_again arguments rest (All-tail IsArgument value arguments each)) refl
 
--- some words are there, and the next one stops
-pub words_stop : (words : List (List ℕ)) (n : ℕ) (rest : List ℕ) (stop : Stop) → All IsWord words → length words < n → word_at rest ≡ Err stop → words_at n (flat_map argument words ++ rest) ≡ Err stop
-unfolding words_at
-words_stop [] zero rest stop each lt e = absurd (omega arith)
-words_stop [] (suc n) rest stop each lt e = rw e refl
-words_stop (word ∷ words) zero rest stop each lt e = absurd (omega arith)
-words_stop (word ∷ words) (suc n) rest stop each lt e =
-    let first : word_at ((argument word ++ flat_map argument words) ++ rest) ≡ Ok (word, flat_map argument words ++ rest) =
-    ap word_at (append_assoc (argument word) (flat_map argument words) rest) ∙ word_again word (flat_map argument words ++ rest) (All-head IsWord word words each) in
-    rw (first, words_stop words n rest stop (All-tail IsWord word words each) (omega arith) e) refl
+-- some arguments are there, and the next one stops
+pub arguments_stop : (arguments : List (List ℕ)) (n : ℕ) (rest : List ℕ) (stop : Stop) → All IsArgument arguments → length arguments < n → argument_at rest ≡ Err stop → arguments_at n (flat_map argument arguments ++ rest) ≡ Err stop
+unfolding arguments_at
+arguments_stop [] zero rest stop each lt e = absurd (omega arith)
+arguments_stop [] (suc n) rest stop each lt e = rw e refl
+arguments_stop (value ∷ arguments) zero rest stop each lt e = absurd (omega arith)
+arguments_stop (value ∷ arguments) (suc n) rest stop each lt e =
+    let first : argument_at ((argument value ++ flat_map argument arguments) ++ rest) ≡ Ok (value, flat_map argument arguments ++ rest) =
+    ap argument_at (append_assoc (argument value) (flat_map argument arguments) rest) ∙ argument_again value (flat_map argument arguments ++ rest) (All-head IsArgument value arguments each) in
+    rw (first, arguments_stop arguments n rest stop (All-tail IsArgument value arguments each) (omega arith) e) refl
 
 -- ---- heads
 
@@ -146,39 +146,39 @@ head_again n rest le =
 
 -- ---- items
 
-pub item_takes : (bytes : List ℕ) (item : Item) (rest : List ℕ) → item_at bytes ≡ Ok (item, rest) → (bytes ≡ spelled item ++ rest) × IsItem item
+pub item_takes : (bytes : List ℕ) (item : Item) (rest : List ℕ) → item_at bytes ≡ Ok (item, rest) → (bytes ≡ encoding_of item ++ rest) × IsItem item
 unfolding item_at behind_head
 item_takes bytes item rest e =
     let a = bind_ok (head_at bytes) (λ h. behind_head h.0 h.1) (item, rest) e in
     let h = head_takes bytes a.0.0 a.0.1 a.1 in
     go a.0.0 a.0.1 h a.2
   where
-    go : (head : Option ℕ) (behind : List ℕ) → (bytes ≡ head_text head ++ behind) × IsHead head → behind_head head behind ≡ Ok (item, rest) → (bytes ≡ spelled item ++ rest) × IsItem item
-    go None behind h r = subst (λ (p : Item × List ℕ). (bytes ≡ spelled p.0 ++ p.1) × IsItem p.0) (ok_is (SkipMinus, behind) (item, rest) r) (h.0, tt)
-    go (Some zero) behind h r = subst (λ (p : Item × List ℕ). (bytes ≡ spelled p.0 ++ p.1) × IsItem p.0) (ok_is (SkipZero, behind) (item, rest) r) (h.0, tt)
+    go : (head : Option ℕ) (behind : List ℕ) → (bytes ≡ head_text head ++ behind) × IsHead head → behind_head head behind ≡ Ok (item, rest) → (bytes ≡ encoding_of item ++ rest) × IsItem item
+    go None behind h r = subst (λ (p : Item × List ℕ). (bytes ≡ encoding_of p.0 ++ p.1) × IsItem p.0) (ok_is (SkipMinus, behind) (item, rest) r) (h.0, tt)
+    go (Some zero) behind h r = subst (λ (p : Item × List ℕ). (bytes ≡ encoding_of p.0 ++ p.1) × IsItem p.0) (ok_is (SkipZero, behind) (item, rest) r) (h.0, tt)
     go (Some (suc n)) behind h r =
-        let w = bind_ok (words_at (suc n) behind) (λ words. Ok (Ask words.0, words.1)) (item, rest) r in
-        let t = words_takes (suc n) behind w.0.0 w.0.1 w.1 in
+        let w = bind_ok (arguments_at (suc n) behind) (λ arguments. Ok (Ask arguments.0, arguments.1)) (item, rest) r in
+        let t = arguments_takes (suc n) behind w.0.0 w.0.1 w.1 in
         let text : bytes ≡ request w.0.0 ++ w.0.1 = h.0 ∙ ap (λ (x : List ℕ). 42 ∷ (line (suc n) ++ x)) t.parts ∙ ap (λ (x : List ℕ). 42 ∷ x) (sym (append_assoc (line (suc n)) (flat_map argument w.0.0) w.0.1)) ∙ ap (λ (k : ℕ). 42 ∷ ((line k ++ flat_map argument w.0.0) ++ w.0.1)) (sym t.count) in
         let is : IsRequest w.0.0 = record { some = omega (arith, t.count); few = omega (arith, t.count, h.1); each = t.each } in
-        subst (λ (p : Item × List ℕ). (bytes ≡ spelled p.0 ++ p.1) × IsItem p.0) (ok_is (Ask w.0.0, w.0.1) (item, rest) w.2) (text, is)
+        subst (λ (p : Item × List ℕ). (bytes ≡ encoding_of p.0 ++ p.1) × IsItem p.0) (ok_is (Ask w.0.0, w.0.1) (item, rest) w.2) (text, is)
 
--- a request of which some words are there
-pub begun_reads : (n : ℕ) (words : List (List ℕ)) (rest : List ℕ) (read : Result (List (List ℕ) × List ℕ) Stop) → 0 < n → n ≤ 1027 → words_at n (flat_map argument words ++ rest) ≡ read
-    → item_at ((42 ∷ (line n ++ flat_map argument words)) ++ rest) ≡ (read >>= λ w. Ok (Ask w.0, w.1))
+-- a request of which some arguments are there
+pub begun_reads : (n : ℕ) (arguments : List (List ℕ)) (rest : List ℕ) (read : Result (List (List ℕ) × List ℕ) Stop) → 0 < n → n ≤ 1027 → arguments_at n (flat_map argument arguments ++ rest) ≡ read
+    → item_at ((42 ∷ (line n ++ flat_map argument arguments)) ++ rest) ≡ (read >>= λ w. Ok (Ask w.0, w.1))
 unfolding item_at behind_head
-begun_reads zero words rest read pos le e = absurd (omega arith)
-begun_reads (suc n) words rest read pos le e =
-    let head : head_at (42 ∷ ((line (suc n) ++ flat_map argument words) ++ rest)) ≡ Ok (Some (suc n), flat_map argument words ++ rest) =
-    ap (λ (t : List ℕ). head_at (42 ∷ t)) (append_assoc (line (suc n)) (flat_map argument words) rest) ∙ head_again (suc n) (flat_map argument words ++ rest) le in
+begun_reads zero arguments rest read pos le e = absurd (omega arith)
+begun_reads (suc n) arguments rest read pos le e =
+    let head : head_at (42 ∷ ((line (suc n) ++ flat_map argument arguments) ++ rest)) ≡ Ok (Some (suc n), flat_map argument arguments ++ rest) =
+    ap (λ (t : List ℕ). head_at (42 ∷ t)) (append_assoc (line (suc n)) (flat_map argument arguments) rest) ∙ head_again (suc n) (flat_map argument arguments ++ rest) le in
     rw (head, e) refl
 
 skip_minus : (rest : List ℕ) → item_at (42 ∷ 45 ∷ 49 ∷ 13 ∷ 10 ∷ rest) ≡ Ok (SkipMinus, rest)
 unfolding item_at behind_head head_at count_at byte_at line_end_at
 skip_minus rest = refl
 
-pub item_again : (item : Item) (rest : List ℕ) → IsItem item → item_at (spelled item ++ rest) ≡ Ok (item, rest)
+pub item_again : (item : Item) (rest : List ℕ) → IsItem item → item_at (encoding_of item ++ rest) ≡ Ok (item, rest)
 unfolding item_at behind_head
-item_again (Ask words) rest is = begun_reads (length words) words rest (Ok (words, rest)) is.some is.few (words_again words rest is.each)
+item_again (Ask arguments) rest is = begun_reads (length arguments) arguments rest (Ok (arguments, rest)) is.some is.few (arguments_again arguments rest is.each)
 item_again SkipZero rest is = rw (head_again 0 rest (omega arith)) refl
 item_again SkipMinus rest is = skip_minus rest

@@ -1,9 +1,10 @@
-pub mod Tools
+pub mod ParserLemmas
 pub mod Numbers
 pub mod Items
-pub mod Grows
+pub mod Extension
 pub mod Streams
-pub mod Stepping
-pub mod Answering
-pub mod Ends
+pub mod StepLemmas
+pub mod NextLemmas
+pub mod Completion
 pub mod LawProofs
+pub mod CallerLemmas

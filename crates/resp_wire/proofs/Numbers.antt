@@ -1,4 +1,4 @@
--- A number that is read is one that is spelled, and one that is spelled is read.
+-- A number that is read was encoded so, and an encoding is read as its number.
 use Rattle.std.proofs.Common.{◌≡◌, ℕ, ◌+◌, ◌*◌, ◌-◌, ◌/◌, ◌%◌, ◌^◌, ◌<◌, ◌≤◌, true, false, cond, List, [], ◌∷◌, ◌++◌, Result, Ok, refl, sym, ap, ◌∙◌, inl, inr, append_assoc, arith}
 use Rattle.std.specs.Prelude.{decimal, nat_lt, ◌==◌}
 use Rattle.std.specs.Char.{is_ascii_digit}
@@ -8,9 +8,9 @@ use Rattle.resp_wire.specs.declared.fault.ProtocolFault.{ProtocolFault}
 use Rattle.resp_wire.specs.declared.fault.ProtocolFault.TheVariants.{BadNumber}
 use Rattle.resp_wire.specs.declared.fault.Stop.{Stop}
 use Rattle.resp_wire.specs.declared.fault.Stop.TheVariants.{Wrong}
-use Rattle.resp_wire.specs.Spelling.{line}
-use Rattle.resp_wire.specs.Reading.{line_end_at, digits_at, number_at}
-use Rattle.resp_wire.proofs.Tools.{bind_ok, ok_is, chosen, guard_ok, wanted_ok, line_end_takes, line_end_again}
+use Rattle.resp_wire.specs.RequestEncoding.{line}
+use Rattle.resp_wire.specs.Parser.{line_end_at, digits_at, number_at}
+use Rattle.resp_wire.proofs.ParserLemmas.{bind_ok, ok_is, chosen, guard_ok, wanted_ok, line_end_takes, line_end_again}
 
 pub digit_range : (b : ℕ) → is_ascii_digit b ≡ true → (48 ≤ b) × (b ≤ 57)
 digit_range b e = let p = and_parts _ _ e in (leb-true _ _ p.0, leb-true _ _ p.1)

@@ -5,22 +5,22 @@ use Rattle.std.proofs.lemmas.List.{append-nil, nil_from_length}
 use Rattle.resp_wire.specs.declared.fault.ProtocolFault.{ProtocolFault}
 use Rattle.resp_wire.specs.declared.fault.Stop.{Stop}
 use Rattle.resp_wire.specs.declared.fault.Stop.TheVariants.{Short, Wrong}
-use Rattle.resp_wire.specs.Spelling.{Item, Ask, SkipZero, SkipMinus, IsItem, spelled}
-use Rattle.resp_wire.specs.Reading.{item_at, head_at, byte_at}
-use Rattle.resp_wire.specs.Stream.{in_front, split_items, asked, items, requests, rest, fault, fault_of}
+use Rattle.resp_wire.specs.RequestEncoding.{Item, Ask, SkipZero, SkipMinus, IsItem, encoding_of}
+use Rattle.resp_wire.specs.Parser.{item_at, head_at, byte_at}
+use Rattle.resp_wire.specs.Stream.{prepend_item, split_items, asked, items, requests, rest, fault, fault_of}
 use Rattle.resp_wire.proofs.Items.{item_takes, item_again}
-use Rattle.resp_wire.proofs.Grows.{still_wrong}
+use Rattle.resp_wire.proofs.Extension.{still_wrong}
 
 -- an item has a byte
-spelled_some : (item : Item) → 0 < length (spelled item)
-spelled_some (Ask words) = omega arith
-spelled_some SkipZero = omega arith
-spelled_some SkipMinus = omega arith
+encoding_some : (item : Item) → 0 < length (encoding_of item)
+encoding_some (Ask arguments) = omega arith
+encoding_some SkipZero = omega arith
+encoding_some SkipMinus = omega arith
 
 pub rest_shorter : (bytes : List ℕ) (item : Item) (after : List ℕ) → item_at bytes ≡ Ok (item, after) → length after < length bytes
 rest_shorter bytes item after e =
     let t = item_takes bytes item after e in
-    omega (arith, spelled_some item, ap length t.0, length-append (spelled item) after)
+    omega (arith, encoding_some item, ap length t.0, length-append (encoding_of item) after)
 
 pub item_nil : item_at [] ≡ Err Short
 unfolding item_at head_at byte_at
@@ -32,17 +32,17 @@ unfolding split_items
 same_split zero zero bytes p q = refl
 same_split zero (suc m) bytes p q =
     let none : bytes ≡ [] = nil_from_length bytes (omega arith) in
-    subst (λ (b : List ℕ). ([], b) ≡ in_front (split_items m) b (item_at b)) (sym none) (rw item_nil refl)
+    subst (λ (b : List ℕ). ([], b) ≡ prepend_item (split_items m) b (item_at b)) (sym none) (rw item_nil refl)
 same_split (suc n) zero bytes p q =
     let none : bytes ≡ [] = nil_from_length bytes (omega arith) in
-    subst (λ (b : List ℕ). in_front (split_items n) b (item_at b) ≡ ([], b)) (sym none) (rw item_nil refl)
+    subst (λ (b : List ℕ). prepend_item (split_items n) b (item_at b) ≡ ([], b)) (sym none) (rw item_nil refl)
 same_split (suc n) (suc m) bytes p q = go (λ after lt. same_split n m after (omega arith) (omega arith)) (item_at bytes) refl
   where
-    go : ((after : List ℕ) → length after < length bytes → split_items n after ≡ split_items m after) → (r : Result (Item × List ℕ) Stop) → item_at bytes ≡ r → in_front (split_items n) bytes r ≡ in_front (split_items m) bytes r
+    go : ((after : List ℕ) → length after < length bytes → split_items n after ≡ split_items m after) → (r : Result (Item × List ℕ) Stop) → item_at bytes ≡ r → prepend_item (split_items n) bytes r ≡ prepend_item (split_items m) bytes r
     go ih (Ok first) e = ap (λ (s : List Item × List ℕ). (first.0 ∷ s.0, s.1)) (ih first.1 (rest_shorter bytes first.0 first.1 e))
     go ih (Err stop) e = refl
 
-split_is : (n : ℕ) (bytes : List ℕ) → length bytes ≤ n → split_items (suc n) bytes ≡ in_front (split_items n) bytes (item_at bytes)
+split_is : (n : ℕ) (bytes : List ℕ) → length bytes ≤ n → split_items (suc n) bytes ≡ prepend_item (split_items n) bytes (item_at bytes)
 unfolding split_items
 split_is n bytes le = refl
 
@@ -53,29 +53,29 @@ split bytes = split_items (length bytes) bytes
 pub split_item : (bytes : List ℕ) (item : Item) (after : List ℕ) → item_at bytes ≡ Ok (item, after) → split bytes ≡ (item ∷ (split after).0, (split after).1)
 split_item bytes item after e =
     let shorter = rest_shorter bytes item after e in
-    let turn : split_items (suc (length bytes)) bytes ≡ in_front (split_items (length bytes)) bytes (Ok (item, after)) = split_is (length bytes) bytes (omega arith) ∙ ap (in_front (split_items (length bytes)) bytes) e in
+    let turn : split_items (suc (length bytes)) bytes ≡ prepend_item (split_items (length bytes)) bytes (Ok (item, after)) = split_is (length bytes) bytes (omega arith) ∙ ap (prepend_item (split_items (length bytes)) bytes) e in
     same_split (length bytes) (suc (length bytes)) bytes (omega arith) (omega arith) ∙ turn ∙ ap (λ (s : List Item × List ℕ). (item ∷ s.0, s.1)) (same_split (length bytes) (length after) after (omega arith) (omega arith))
 
 pub split_stop : (bytes : List ℕ) (stop : Stop) → item_at bytes ≡ Err stop → split bytes ≡ ([], bytes)
 split_stop bytes stop e =
-    same_split (length bytes) (suc (length bytes)) bytes (omega arith) (omega arith) ∙ split_is (length bytes) bytes (omega arith) ∙ ap (in_front (split_items (length bytes)) bytes) e
+    same_split (length bytes) (suc (length bytes)) bytes (omega arith) (omega arith) ∙ split_is (length bytes) bytes (omega arith) ∙ ap (prepend_item (split_items (length bytes)) bytes) e
 
 pub asked_append : (a b : List Item) → asked (a ++ b) ≡ asked a ++ asked b
 asked_append [] b = refl
-asked_append (Ask words ∷ a) b = ap (λ (t : List (List (List ℕ))). words ∷ t) (asked_append a b)
+asked_append (Ask arguments ∷ a) b = ap (λ (t : List (List (List ℕ))). arguments ∷ t) (asked_append a b)
 asked_append (SkipZero ∷ a) b = asked_append a b
 asked_append (SkipMinus ∷ a) b = asked_append a b
 
--- whole items in front
-pub split_front : (front : List Item) (bytes : List ℕ) → AllByRecursion IsItem front → split (flat_map spelled front ++ bytes) ≡ (front ++ (split bytes).0, (split bytes).1)
-split_front [] bytes each = refl
-split_front (item ∷ front) bytes each =
-    let one : item_at ((spelled item ++ flat_map spelled front) ++ bytes) ≡ Ok (item, flat_map spelled front ++ bytes) = ap item_at (append_assoc (spelled item) (flat_map spelled front) bytes) ∙ item_again item (flat_map spelled front ++ bytes) each.0 in
-    split_item ((spelled item ++ flat_map spelled front) ++ bytes) item (flat_map spelled front ++ bytes) one ∙ ap (λ (s : List Item × List ℕ). (item ∷ s.0, s.1)) (split_front front bytes each.1)
+-- whole items before a text
+pub split_prefix : (prefix : List Item) (bytes : List ℕ) → AllByRecursion IsItem prefix → split (flat_map encoding_of prefix ++ bytes) ≡ (prefix ++ (split bytes).0, (split bytes).1)
+split_prefix [] bytes each = refl
+split_prefix (item ∷ prefix) bytes each =
+    let one : item_at ((encoding_of item ++ flat_map encoding_of prefix) ++ bytes) ≡ Ok (item, flat_map encoding_of prefix ++ bytes) = ap item_at (append_assoc (encoding_of item) (flat_map encoding_of prefix) bytes) ∙ item_again item (flat_map encoding_of prefix ++ bytes) each.0 in
+    split_item ((encoding_of item ++ flat_map encoding_of prefix) ++ bytes) item (flat_map encoding_of prefix ++ bytes) one ∙ ap (λ (s : List Item × List ℕ). (item ∷ s.0, s.1)) (split_prefix prefix bytes each.1)
 
 -- a text is its items and its rest, and nothing in the rest is whole
 pub record IsSplit (bytes : List ℕ) (found : List Item × List ℕ) : Type 0 where
-  pub whole : bytes ≡ flat_map spelled found.0 ++ found.1
+  pub whole : bytes ≡ flat_map encoding_of found.0 ++ found.1
   pub each : AllByRecursion IsItem found.0
   pub stops : (stop : Stop) × (item_at found.1 ≡ Err stop)
 
@@ -85,7 +85,7 @@ split_one bytes ih (Ok first) e =
     let later = ih first.1 (rest_shorter bytes first.0 first.1 e) in
     let t = item_takes bytes first.0 first.1 e in
     rw (split_item bytes first.0 first.1 e) (record {
-      whole = t.0 ∙ ap (λ (x : List ℕ). spelled first.0 ++ x) later.whole ∙ sym (append_assoc (spelled first.0) (flat_map spelled (split first.1).0) (split first.1).1);
+      whole = t.0 ∙ ap (λ (x : List ℕ). encoding_of first.0 ++ x) later.whole ∙ sym (append_assoc (encoding_of first.0) (flat_map encoding_of (split first.1).0) (split first.1).1);
       each = (t.1, later.each);
       stops = later.stops;
     })
@@ -101,7 +101,7 @@ split_whole bytes = split_within (length bytes) bytes (omega arith)
 pub split_cut : (a b : List ℕ) → split (a ++ b) ≡ ((split a).0 ++ (split ((split a).1 ++ b)).0, (split ((split a).1 ++ b)).1)
 split_cut a b =
     let s = split_whole a in
-    ap split (ap (λ (x : List ℕ). x ++ b) s.whole ∙ append_assoc (flat_map spelled (split a).0) (split a).1 b) ∙ split_front (split a).0 ((split a).1 ++ b) s.each
+    ap split (ap (λ (x : List ℕ). x ++ b) s.whole ∙ append_assoc (flat_map encoding_of (split a).0) (split a).1 b) ∙ split_prefix (split a).0 ((split a).1 ++ b) s.each
 
 pub items_cut : (a b : List ℕ) → items (a ++ b) ≡ items a ++ items (rest a ++ b)
 unfolding items rest

@@ -1,10 +1,10 @@
-pub mod Spelling
-pub mod Reading
+pub mod RequestEncoding
+pub mod Parser
 pub mod Stream
 pub mod Response
-pub mod Faults
-pub mod Wire
+pub mod FaultTexts
+pub mod DecoderView
 pub mod Device
-pub mod Gives
-pub mod Steps
-pub mod Fields
+pub mod ParserAgreement
+pub mod DecoderStep
+pub mod DecoderFields

@@ -4,7 +4,7 @@ use Rattle.std.specs.List.{flat_map}
 use Rattle.std.specs.Fmt.{signed_decimal}
 use Rattle.resp_wire.specs.declared.reply.Reply.{Reply}
 use Rattle.resp_wire.specs.declared.reply.Reply.TheVariants.{Int, Bulk, Null, List as Listed, Simple, Fault}
-use Rattle.resp_wire.specs.Spelling.{line, argument}
+use Rattle.resp_wire.specs.RequestEncoding.{line, argument}
 
 -- a reply, whatever memory it stands in
 pub data Response : Type 0 where

@@ -1,26 +1,26 @@
--- A stream of bytes: its items from the front as far as they are whole, the rest behind them, and the
+-- A stream of bytes: its items from the start as far as they are whole, the rest behind them, and the
 -- fault of that rest. `longest` and `cut` in src/laws.rt say what these are without this recursion.
 use Rattle.std.specs.Prelude.{ℕ, zero, suc, List, [], ◌∷◌, length, Option, Some, None, Result, Ok, Err}
 use Rattle.resp_wire.specs.declared.fault.ProtocolFault.{ProtocolFault}
 use Rattle.resp_wire.specs.declared.fault.Stop.{Stop}
 use Rattle.resp_wire.specs.declared.fault.Stop.TheVariants.{Short, Wrong}
-use Rattle.resp_wire.specs.Spelling.{Item, Ask, SkipZero, SkipMinus}
-use Rattle.resp_wire.specs.Reading.{item_at}
+use Rattle.resp_wire.specs.RequestEncoding.{Item, Ask, SkipZero, SkipMinus}
+use Rattle.resp_wire.specs.Parser.{item_at}
 
--- an item, in front of what more gives behind it
-abbrev pub in_front : (List ℕ → List Item × List ℕ) → List ℕ → Result (Item × List ℕ) Stop → List Item × List ℕ
-in_front more bytes (Ok first) = (first.0 ∷ (more first.1).0, (more first.1).1)
-in_front more bytes (Err stop) = ([], bytes)
+-- an item, before what more gives behind it
+abbrev pub prepend_item : (List ℕ → List Item × List ℕ) → List ℕ → Result (Item × List ℕ) Stop → List Item × List ℕ
+prepend_item more bytes (Ok first) = (first.0 ∷ (more first.1).0, (more first.1).1)
+prepend_item more bytes (Err stop) = ([], bytes)
 
 -- the first n items, or as many as are whole, and what is left
 unfoldable pub split_items : ℕ → List ℕ → List Item × List ℕ
 split_items zero bytes = ([], bytes)
-split_items (suc n) bytes = in_front (split_items n) bytes (item_at bytes)
+split_items (suc n) bytes = prepend_item (split_items n) bytes (item_at bytes)
 
 -- the requests among items
 abbrev pub asked : List Item → List (List (List ℕ))
 asked [] = []
-asked (Ask words ∷ items) = words ∷ asked items
+asked (Ask arguments ∷ items) = arguments ∷ asked items
 asked (SkipZero ∷ items) = asked items
 asked (SkipMinus ∷ items) = asked items
 

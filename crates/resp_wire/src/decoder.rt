@@ -2,7 +2,7 @@
 
 ghost use Rattle.std.specs.Prelude.{◌≡◌, ℕ, ◌+◌, ◌-◌, ◌≤◌, ◌<◌, ◌^◌, [], ◌++◌, length, drop, None, Err, IfNone, IfSome, OnOk, OnErr, OnSome, IsOk};
 ghost use Rattle.resp_wire.specs.declared.fault.WireFault.TheVariants.{Protocol};
-ghost use Rattle.resp_wire.specs.Wire.{Nexts};
+ghost use Rattle.resp_wire.specs.DecoderView.{Nexts};
 
 use crate::bytes::{Bytes, BytesList};
 use crate::fault::{ProtocolFault, Stop, WireFault};
@@ -50,7 +50,7 @@ pub struct Decoder<A: Allocator> {
     /// The number of arguments of the request that has begun, 0 where none has, and those that are
     /// read.
     count: usize,
-    words: Vec<Bytes<A>, A>,
+    arguments: Vec<Bytes<A>, A>,
     /// The length of the text of that request, as far as it is read.
     begun: usize,
     taken: u64,
@@ -58,11 +58,11 @@ pub struct Decoder<A: Allocator> {
 }
 
 impl<A: Allocator> Model for Decoder<A> {
-    ghost use Rattle.resp_wire.specs.Wire.{Wire};
+    ghost use Rattle.resp_wire.specs.DecoderView.{DecoderView};
 
-    ghost Value = { Wire };
+    ghost Value = { DecoderView };
 
-    ghost use Rattle.resp_wire.specs.Fields.{wire_of, IsSound};
+    ghost use Rattle.resp_wire.specs.DecoderFields.{wire_of, IsSound};
 
     ghost view = { wire_of };
 
@@ -70,7 +70,7 @@ impl<A: Allocator> Model for Decoder<A> {
 }
 
 impl<A: Allocator + Copy> Decoder<A> {
-    /// A decoder at the front of a stream.
+    /// A decoder at the start of a stream.
     pub fn new(alloc: A) -> Self
         ensures { result ≡ record { held = []; taken = 0; fault = None } }
     {
@@ -79,7 +79,7 @@ impl<A: Allocator + Copy> Decoder<A> {
             bytes: Vec::new(alloc),
             start: 0,
             count: 0,
-            words: Vec::new(alloc),
+            arguments: Vec::new(alloc),
             begun: 0,
             taken: 0,
             fault: None,
@@ -100,7 +100,7 @@ impl<A: Allocator + Copy> Decoder<A> {
         self.taken
     }
 
-    /// Takes the next piece of the stream. Where memory runs out nothing of it is kept. After a
+    /// Takes the next piece of the stream. On Err, the decoder is unchanged. After a
     /// fault of the protocol no piece is kept, and the answer is Ok.
     pub fn feed(&mut self, piece: &[u8]) -> Result<(), AllocError>
         requires { self.old.taken + length self.old.held + length piece.now < 2 ^ 64 }
@@ -122,7 +122,7 @@ impl<A: Allocator + Copy> Decoder<A> {
     }
 
     /// The next request. None asks for more bytes. A fault of the protocol is answered for good;
-    /// after NoMemory the decoder is as before.
+    /// after NoMemory the decoder is unchanged.
     pub fn next(&mut self) -> Result<Option<Request<A>>, WireFault>
         ensures failed { IfSome self.old.fault
             (λ f. (result ≡ Err (Protocol f)) × (self.new ≡ self.old)) }
@@ -134,7 +134,7 @@ impl<A: Allocator + Copy> Decoder<A> {
             return Err(WireFault::Protocol(fault));
         }
         let unread = behind(&self.bytes, self.start);
-        let step = steps::advance(self.alloc, &mut self.words, self.count, unread);
+        let step = steps::advance(self.alloc, &mut self.arguments, self.count, unread);
         match step.end {
             End::Memory => Err(WireFault::NoMemory),
             End::Whole => {
@@ -142,8 +142,8 @@ impl<A: Allocator + Copy> Decoder<A> {
                 self.start += step.used;
                 self.begun = 0;
                 self.count = 0;
-                let words = mem::replace(&mut self.words, Vec::new(self.alloc));
-                Ok(Some(Request::of(BytesList::new(words))))
+                let arguments = mem::replace(&mut self.arguments, Vec::new(self.alloc));
+                Ok(Some(Request::of(BytesList::new(arguments))))
             }
             End::Stopped(stop) => {
                 self.taken += step.skipped as u64;

@@ -3,11 +3,11 @@
 //! A device counts how often it was called and how often a call failed. Memory also tells its bytes,
 //! which no failing call takes or gives; a file or a socket cannot tell them.
 
-ghost use Rattle.std.specs.Prelude.{◌≡◌, ◌↔◌, ℕ, ◌<◌, ◌≤◌, List, Option, None, Ok, IfOk, IsErrAnd, IsTrue, length};
+ghost use Rattle.std.specs.Prelude.{◌≡◌, ◌↔◌, ℕ, ◌<◌, ◌≤◌, List, Option, None, Ok, IfOk, IsErrAnd, IsTrue, MatchResult, length, take};
 ghost use Rattle.std.specs.IoError.{error_kind};
 ghost use Rattle.std.specs.declared.io.ErrorKind.TheVariants.{Interrupted};
 ghost use Rattle.std.specs.Io.KnownBytes.{append_known, prepend_known, IsAtEnd};
-ghost use Rattle.resp_wire.specs.Device.{moved, risen, failures_after, flushed_after};
+ghost use Rattle.resp_wire.specs.Device.{Rose, moved, saturating_succ, failures_after, flushed_after};
 
 use std::error::Error;
 use std::fmt;
@@ -36,13 +36,13 @@ pub trait ByteSource {
     /// The number of calls that failed, counted in the same way.
     ghost failures: { Self → ℕ };
 
-    /// Reads into the front of the buffer, and gives the number of bytes. 0 for a buffer that is
+    /// Reads into a prefix of the buffer, and gives the number of bytes. 0 for a buffer that is
     /// not empty says that the end is reached.
     fn read(&mut self, buffer: &mut [u8]) -> Result<usize, Failed>
         ensures count { IfOk result (λ n. n ≤ length buffer.old) }
         ensures told { told self.old ≡ prepend_known (moved result buffer.new) (told self.new) }
         ensures end { result ≡ Ok 0 → 0 < length buffer.old → IsAtEnd (told self.new) }
-        ensures calls { calls self.new ≡ risen (calls self.old) }
+        ensures calls { calls self.new ≡ saturating_succ (calls self.old) }
         ensures failures { failures self.new ≡ failures_after (failures self.old) result };
 }
 
@@ -60,22 +60,55 @@ pub trait ByteDrain {
     /// The number of calls that failed, counted in the same way.
     ghost failures: { Self → ℕ };
 
-    /// Takes bytes from the front of a piece, of one that is not empty at least one, and gives
-    /// their number.
+    /// Takes a prefix of a piece, of one that is not empty at least one byte, and gives its
+    /// length.
     fn write(&mut self, piece: &[u8]) -> Result<usize, Failed>
         ensures count { IfOk result (λ n. n ≤ length piece.now) }
         ensures some { IfOk result (λ n. 0 < length piece.now → 0 < n) }
         ensures told { told self.new ≡ append_known (told self.old) (moved result piece.now) }
         ensures flushed { flushed self.new ≡ flushed self.old }
-        ensures calls { calls self.new ≡ risen (calls self.old) }
+        ensures calls { calls self.new ≡ saturating_succ (calls self.old) }
         ensures failures { failures self.new ≡ failures_after (failures self.old) result };
 
     /// Sends on what the device holds back.
     fn flush(&mut self) -> Result<(), Failed>
         ensures told { told self.new ≡ told self.old }
         ensures flushed { flushed self.new ≡ flushed_after (flushed self.old) (told self.old) result }
-        ensures calls { calls self.new ≡ risen (calls self.old) }
+        ensures calls { calls self.new ≡ saturating_succ (calls self.old) }
         ensures failures { failures self.new ≡ failures_after (failures self.old) result };
+}
+
+/// The bytes that the program reads at once, from a client or a file.
+pub const READ_BUFFER: usize = 16_384;
+
+/// The most bytes that may be read at once.
+pub const MAX_READ_BUFFER: usize = 65_536;
+
+/// The most reads of one source.
+pub const MAX_READS: u64 = 1 << 40;
+
+/// Writes all of a piece.
+///
+/// # Errors
+///
+/// The drain failed: how many bytes of the piece it took before.
+pub fn write_all<D: ByteDrain>(drain: &mut D, piece: &[u8]) -> Result<(), usize>
+    ensures told { MatchResult result
+        (λ _. D.told drain.new ≡ append_known (D.told drain.old) piece.now)
+        (λ n. (n ≤ length piece.now)
+        × (D.told drain.new ≡ append_known (D.told drain.old) (take n piece.now))) }
+    ensures flushed { D.flushed drain.new ≡ D.flushed drain.old }
+    ensures failures { MatchResult result (λ _. D.failures drain.new ≡ D.failures drain.old)
+        (λ _. Rose (D.failures drain.old) (D.failures drain.new)) }
+{
+    let mut taken = 0;
+    while taken < piece.len() {
+        match drain.write(&piece[taken..]) {
+            Ok(n) => taken += n,
+            Err(_) => return Err(taken),
+        }
+    }
+    Ok(())
 }
 
 /// How often a call that a signal interrupted is made before it counts as failed.
@@ -103,7 +136,7 @@ fn read_uninterrupted<R: Read>(reader: &mut R, buffer: &mut [u8]) -> IoResult<us
     reader.read(buffer)
 }
 
-/// Writes from the front of the piece, again where a signal interrupted it, a hundred times at most.
+/// Writes a prefix of the piece, again where a signal interrupted it, [`ATTEMPTS`] times at most.
 pub fn write_uninterrupted<W: Write>(writer: &mut W, piece: &[u8]) -> IoResult<usize>
     ensures { IfOk result (λ n. n ≤ length piece.now) }
 {
@@ -212,7 +245,7 @@ impl<W: Write> Writing<W> {
 
     fn fail(&mut self) -> Failed
         ensures calls { self.new.calls ≡ self.old.calls }
-        ensures failures { self.new.failures ≡ risen self.old.failures }
+        ensures failures { self.new.failures ≡ saturating_succ self.old.failures }
     {
         self.failures = self.failures.saturating_add(1);
         Failed

@@ -1,29 +1,31 @@
 //! Why bytes are no request.
 
 ghost use Rattle.std.specs.Prelude.{◌≡◌};
-ghost use Rattle.resp_wire.specs.Faults.{number_of, text_of};
+ghost use Rattle.resp_wire.specs.FaultTexts.{number_of, text_of};
 ghost use Rattle.resp_wire.specs.declared.fault.Failure.TheVariants as failures;
 
 use std::alloc::AllocError;
+use std::error::Error as StdError;
+use std::fmt;
 use thiserror::Error;
 
 /// A byte that no request may have at its place.
-#[derive(Clone, Copy, Debug, PartialEq, Eq, Error)]
+#[derive(Clone, Copy, Debug, PartialEq, Eq)]
 pub enum ProtocolFault {
-    #[error("a request begins with no *")]
+    /// A request begins with no `*`.
     NotAnArray,
-    #[error("a count or a length is no number, has a sign or a leading zero, or its line ends wrongly")]
+    /// A count or a length is no number, has a sign or a leading zero, or its line ends wrongly.
     BadNumber,
-    #[error("a request has more than 1,027 arguments")]
+    /// A request has more than 1,027 arguments.
     TooManyArguments,
-    #[error("an argument has more than 65,536 bytes")]
+    /// An argument has more than 65,536 bytes.
     TooLong,
-    #[error("an argument begins with no $, or is longer than its length")]
+    /// An argument begins with no `$`, or is longer than its length.
     BadBulk,
 }
 
 impl ProtocolFault {
-    /// The fault's number, 2 to 6, by which the program names it. 1 is want of memory.
+    /// The fault's number, 2 to 6, by which the program names it. 1 is out of memory.
     pub fn number(&self) -> u8
         ensures { result ≡ number_of self.now }
     {
@@ -50,6 +52,14 @@ impl ProtocolFault {
     }
 }
 
+impl fmt::Display for ProtocolFault {
+    fn fmt<W: fmt::Write>(&self, f: &mut fmt::Formatter<W>) -> fmt::Result {
+        f.write_str(self.text())
+    }
+}
+
+impl StdError for ProtocolFault {}
+
 /// Why a decoder has no next request.
 #[derive(Clone, Copy, Debug, PartialEq, Eq, Error)]
 pub enum WireFault {
@@ -57,7 +67,7 @@ pub enum WireFault {
     #[error("out of memory")]
     NoMemory,
     /// The decoder answers this for good.
-    #[error("protocol fault: {0}")]
+    #[error("{0}")]
     Protocol(ProtocolFault),
 }
 

@@ -10,9 +10,9 @@ mod bytes;
 mod decoder;
 mod device;
 mod fault;
-mod laws;
+pub mod laws;
 mod memory;
-mod reading;
+mod parser;
 mod reply;
 mod request;
 mod steps;
@@ -21,10 +21,11 @@ mod writing;
 pub use bytes::{Bytes, BytesList};
 pub use decoder::Decoder;
 pub use device::{
-    ATTEMPTS, ByteDrain, ByteSource, Failed, Reading, Writing, is_interrupted, write_uninterrupted,
+    ATTEMPTS, ByteDrain, ByteSource, Failed, MAX_READ_BUFFER, MAX_READS, READ_BUFFER, Reading,
+    Writing, is_interrupted, write_all, write_uninterrupted,
 };
 pub use fault::{ProtocolFault, WireFault};
-pub use laws::{cut, faults, longest, one_spelling, reading_is_spelling};
+pub use laws::{cut, encoding_round_trip, faults, longest, one_encoding};
 pub use memory::{MemoryDrain, MemorySource};
 pub use reply::Reply;
 pub use request::Request;

@@ -2,7 +2,7 @@
 
 ghost use Rattle.std.specs.Prelude.{◌≡◌, ℕ, ◌<◌, ◌≤◌, [], Some, Ok, IfOk, IsOk, length, min, take};
 ghost use Rattle.std.specs.Io.KnownBytes.{append_known, prepend_known, IsAtEnd};
-ghost use Rattle.resp_wire.specs.Device.{moved, risen, failures_after};
+ghost use Rattle.resp_wire.specs.Device.{moved, saturating_succ, failures_after};
 
 use crate::device::{ByteDrain, ByteSource, Failed};
 use std::alloc::Allocator;
@@ -47,13 +47,13 @@ impl<'a> ByteSource for MemorySource<'a> {
         ensures told { Some self.old.rest.now
             ≡ prepend_known (moved result buffer.new) (Some self.new.rest.now) }
         ensures end { result ≡ Ok 0 → 0 < length buffer.old → IsAtEnd (Some self.new.rest.now) }
-        ensures calls { self.new.calls ≡ risen self.old.calls }
+        ensures calls { self.new.calls ≡ saturating_succ self.old.calls }
         ensures failures { 0 ≡ failures_after 0 result }
     {
         self.calls = self.calls.saturating_add(1);
         let n = self.chunk.min(self.rest.len()).min(buffer.len());
-        let (front, rest) = self.rest.split_at(n);
-        buffer[..n].copy_from_slice(front);
+        let (prefix, rest) = self.rest.split_at(n);
+        buffer[..n].copy_from_slice(prefix);
         self.rest = rest;
         Ok(n)
     }
@@ -124,7 +124,7 @@ impl<A: Allocator> ByteDrain for MemoryDrain<A> {
             ≡ append_known (Some self.old.bytes.items) (moved result piece.now) }
         ensures flushed { Some (take self.new.flushed self.new.bytes.items)
             ≡ Some (take self.old.flushed self.old.bytes.items) }
-        ensures calls { self.new.calls ≡ risen self.old.calls }
+        ensures calls { self.new.calls ≡ saturating_succ self.old.calls }
         ensures failures { self.new.failures ≡ failures_after self.old.failures result }
     {
         self.calls = self.calls.saturating_add(1);
@@ -143,7 +143,7 @@ impl<A: Allocator> ByteDrain for MemoryDrain<A> {
         ensures told { Some self.new.bytes.items ≡ Some self.old.bytes.items }
         ensures flushed { Some (take self.new.flushed self.new.bytes.items)
             ≡ Some self.old.bytes.items }
-        ensures calls { self.new.calls ≡ risen self.old.calls }
+        ensures calls { self.new.calls ≡ saturating_succ self.old.calls }
         ensures failures { self.new.failures ≡ self.old.failures }
     {
         self.calls = self.calls.saturating_add(1);

@@ -1,7 +1,7 @@
 //! Requests.
 
 ghost use Rattle.std.specs.Prelude.{◌≡◌, ◌↔◌, All, IsTrue, SomeIff};
-ghost use Rattle.resp_wire.specs.Spelling.{IsRequest, IsWord};
+ghost use Rattle.resp_wire.specs.RequestEncoding.{IsRequest, IsArgument};
 
 use crate::bytes::{Bytes, BytesList};
 use std::alloc::Allocator;
@@ -18,50 +18,53 @@ pub const MAX_LENGTH: usize = 65536;
 #[derive(Drop)]
 #[derive_where(Debug)]
 pub struct Request<A: Allocator> {
-    words: BytesList<A>,
+    arguments: BytesList<A>,
 }
 
 impl<A: Allocator> Model for Request<A> {
     ghost use Rattle.std.specs.Prelude.{ℕ, List};
-    ghost use Rattle.resp_wire.specs.Spelling.{IsRequest};
+    ghost use Rattle.resp_wire.specs.RequestEncoding.{IsRequest};
 
     ghost Value = { List (List ℕ) };
 
-    ghost view = { λ r. r.words };
+    ghost view = { λ r. r.arguments };
 
-    ghost invariant = { λ r. IsRequest r.words };
+    ghost invariant = { λ r. IsRequest r.arguments };
 }
 
 impl<A: Allocator> Request<A> {
-    /// The request of these words. None where there are no words, more than 1,027, or a word of
-    /// more than 65,536 bytes.
-    pub fn new(words: BytesList<A>) -> Option<Self>
-        ensures { SomeIff result (IsRequest words) words }
+    /// The request of these arguments. None where there are no arguments, more than 1,027, or one
+    /// of more than 65,536 bytes.
+    pub fn new(arguments: BytesList<A>) -> Option<Self>
+        ensures { SomeIff result (IsRequest arguments) arguments }
     {
-        if words.is_empty() || MAX_ARGUMENTS < words.len() || !are_words(words.as_slice()) {
+        if arguments.is_empty()
+            || MAX_ARGUMENTS < arguments.len()
+            || !are_arguments(arguments.as_slice())
+        {
             return None;
         }
-        Some(Request { words })
+        Some(Request { arguments })
     }
 
-    pub(crate) fn of(words: BytesList<A>) -> Self
-        requires { IsRequest words }
-        ensures { result ≡ words }
+    pub(crate) fn of(arguments: BytesList<A>) -> Self
+        requires { IsRequest arguments }
+        ensures { result ≡ arguments }
     {
-        Request { words }
+        Request { arguments }
     }
 
-    /// The words, of which there is at least one.
+    /// The arguments, of which there is at least one.
     pub fn words(&self) -> &[Bytes<A>]
         ensures words { result.now ≡ self.now }
         ensures within { IsRequest self.now }
     {
-        self.words.as_slice()
+        self.arguments.as_slice()
     }
 }
 
-fn are_words<A: Allocator>(words: &[Bytes<A>]) -> bool
-    ensures { IsTrue result ↔ All IsWord words.now }
+fn are_arguments<A: Allocator>(arguments: &[Bytes<A>]) -> bool
+    ensures { IsTrue result ↔ All IsArgument arguments.now }
 {
-    words.iter().all(|word| word.len() <= MAX_LENGTH)
+    arguments.iter().all(|value| value.len() <= MAX_LENGTH)
 }

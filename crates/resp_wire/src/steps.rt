@@ -5,19 +5,20 @@
 
 ghost use Rattle.std.specs.Prelude.{◌≡◌, ℕ, ◌≤◌, ◌<◌, ◌++◌, length, take, All, Some, IfOk, OnOk};
 ghost use Rattle.std.specs.List.{flat_map};
-ghost use Rattle.resp_wire.specs.Gives.{Gives};
-ghost use Rattle.resp_wire.specs.Spelling.{IsWord, argument};
-ghost use Rattle.resp_wire.specs.Reading.{head_at};
-ghost use Rattle.resp_wire.specs.Steps.{SkipsTo, WordStops, Went, Steps};
+ghost use Rattle.resp_wire.specs.ParserAgreement.{Gives};
+ghost use Rattle.resp_wire.specs.RequestEncoding.{IsArgument, argument};
+ghost use Rattle.resp_wire.specs.Parser.{head_at};
+ghost use Rattle.resp_wire.specs.DecoderStep.{SkipsTo, ArgumentStops, Went, Steps};
 
 use crate::bytes::Bytes;
 use crate::fault::{Failure, Stop};
-use crate::reading;
+use crate::parser;
+use crate::request::MAX_ARGUMENTS;
 use std::alloc::Allocator;
 
 /// What stands behind the skips.
 #[derive(Drop)]
-pub struct Front<'a> {
+pub struct AfterSkips<'a> {
     /// The bytes behind the skips.
     rest: &'a [u8],
     /// The number of arguments of a request and the bytes behind its first line, or why there is
@@ -26,7 +27,7 @@ pub struct Front<'a> {
 }
 
 /// Goes past the skips.
-fn past_skips(bytes: &[u8]) -> Front<'_>
+fn past_skips(bytes: &[u8]) -> AfterSkips<'_>
     ensures skips { SkipsTo bytes.now result.rest.now }
     ensures head { Gives (λ found. (Some found.0, found.1.now)) result.head
         (head_at result.rest.now) }
@@ -34,16 +35,16 @@ fn past_skips(bytes: &[u8]) -> Front<'_>
 {
     let mut rest = bytes;
     'skips: loop {
-        match reading::head(rest) {
+        match parser::head(rest) {
             Err(stop) => {
-                return Front {
+                return AfterSkips {
                     rest,
                     head: Err(stop),
                 };
             }
             Ok((head, behind)) => match head {
                 Some(count) if count > 0 => {
-                    return Front {
+                    return AfterSkips {
                         rest,
                         head: Ok((count, behind)),
                     };
@@ -57,25 +58,25 @@ fn past_skips(bytes: &[u8]) -> Front<'_>
 /// Reads arguments until there are `count` of them, and gives the bytes behind.
 fn fill<'a, A: Allocator + Copy>(
     alloc: A,
-    words: &mut Vec<Bytes<A>, A>,
+    arguments: &mut Vec<Bytes<A>, A>,
     count: usize,
     bytes: &'a [u8],
 ) -> (&'a [u8], Result<(), Failure>)
-    requires { length words.old.items ≤ count }
-    ensures text { flat_map argument words.new.items ++ result.0.now
-        ≡ flat_map argument words.old.items ++ bytes.now }
-    ensures each { All IsWord words.old.items → All IsWord words.new.items }
-    ensures full { OnOk result.1 (length words.new.items ≡ count) }
-    ensures stop { WordStops result.1 result.0.now (length words.new.items) count }
+    requires { length arguments.old.items ≤ count }
+    ensures text { flat_map argument arguments.new.items ++ result.0.now
+        ≡ flat_map argument arguments.old.items ++ bytes.now }
+    ensures each { All IsArgument arguments.old.items → All IsArgument arguments.new.items }
+    ensures full { OnOk result.1 (length arguments.new.items ≡ count) }
+    ensures stop { ArgumentStops result.1 result.0.now (length arguments.new.items) count }
     ensures shorter { length result.0.now ≤ length bytes.now }
-    ensures kept { take (length words.old.items) words.new.items ≡ words.old.items }
-    ensures few { length words.new.items ≤ count }
+    ensures kept { take (length arguments.old.items) arguments.new.items ≡ arguments.old.items }
+    ensures few { length arguments.new.items ≤ count }
 {
     let mut rest = bytes;
-    'words: while words.len() < count {
-        match reading::argument(alloc, rest) {
+    'arguments: while arguments.len() < count {
+        match parser::argument(alloc, rest) {
             Err(failure) => return (rest, Err(failure)),
-            Ok((word, behind)) => match words.push(word) {
+            Ok((value, behind)) => match arguments.push(value) {
                 Err(_) => return (rest, Err(Failure::Memory)),
                 Ok(()) => rest = behind,
             },
@@ -92,27 +93,27 @@ pub enum End {
     Stopped(Stop),
 }
 
-/// Goes on with a request of `count` arguments. Where memory runs out the arguments are as before.
+/// Goes on with a request of `count` arguments. Out of memory: the arguments are unchanged.
 fn go_on<'a, A: Allocator + Copy>(
     alloc: A,
-    words: &mut Vec<Bytes<A>, A>,
+    arguments: &mut Vec<Bytes<A>, A>,
     count: usize,
     bytes: &'a [u8],
 ) -> (&'a [u8], End)
     requires some { 0 < count }
-    requires within { count ≤ 1027 }
-    requires few { length words.old.items ≤ count }
-    requires each { All IsWord words.old.items }
-    ensures { Went count words.old.items bytes.now result.1 words.new.items result.0.now }
+    requires within { count ≤ MAX_ARGUMENTS }
+    requires few { length arguments.old.items ≤ count }
+    requires each { All IsArgument arguments.old.items }
+    ensures { Went count arguments.old.items bytes.now result.1 arguments.new.items result.0.now }
 {
-    let had = words.len();
-    let (rest, filled) = fill(alloc, words, count, bytes);
+    let had = arguments.len();
+    let (rest, filled) = fill(alloc, arguments, count, bytes);
     match filled {
         Ok(()) => (rest, End::Whole),
         Err(failure) => match failure {
             Failure::Stop(stop) => (rest, End::Stopped(stop)),
             Failure::Memory => {
-                words.truncate(had);
+                arguments.truncate(had);
                 (bytes, End::Memory)
             }
         },
@@ -135,17 +136,17 @@ pub struct Step {
 /// `count` is 0.
 pub fn advance<A: Allocator + Copy>(
     alloc: A,
-    words: &mut Vec<Bytes<A>, A>,
+    arguments: &mut Vec<Bytes<A>, A>,
     count: usize,
     bytes: &[u8],
 ) -> Step
-    requires within { count ≤ 1027 }
-    requires few { length words.old.items ≤ count }
-    requires each { All IsWord words.old.items }
-    ensures { Steps count words.old.items bytes.now result words.new.items }
+    requires within { count ≤ MAX_ARGUMENTS }
+    requires few { length arguments.old.items ≤ count }
+    requires each { All IsArgument arguments.old.items }
+    ensures { Steps count arguments.old.items bytes.now result arguments.new.items }
 {
     if count > 0 {
-        let (rest, end) = go_on(alloc, words, count, bytes);
+        let (rest, end) = go_on(alloc, arguments, count, bytes);
         return Step {
             skipped: 0,
             used: bytes.len() - rest.len(),
@@ -153,9 +154,9 @@ pub fn advance<A: Allocator + Copy>(
             end,
         };
     }
-    let front = past_skips(bytes);
-    let skipped = bytes.len() - front.rest.len();
-    match front.head {
+    let after = past_skips(bytes);
+    let skipped = bytes.len() - after.rest.len();
+    match after.head {
         Err(stop) => Step {
             skipped,
             used: skipped,
@@ -163,7 +164,7 @@ pub fn advance<A: Allocator + Copy>(
             end: End::Stopped(stop),
         },
         Ok((count, body)) => {
-            let (rest, end) = go_on(alloc, words, count, body);
+            let (rest, end) = go_on(alloc, arguments, count, body);
             Step {
                 skipped,
                 used: bytes.len() - rest.len(),

@@ -2,7 +2,7 @@
 
 ghost use Rattle.std.specs.Prelude.{◌≡◌, ◌≤◌, [], ◌++◌, ◌∷◌, length, take, OnOk, OnErr};
 ghost use Rattle.std.specs.List.{flat_map};
-ghost use Rattle.resp_wire.specs.Spelling.{line, argument, request};
+ghost use Rattle.resp_wire.specs.RequestEncoding.{line, argument, request};
 ghost use Rattle.resp_wire.specs.Response.{response_of, encoded};
 
 use crate::bytes::Bytes;
@@ -74,7 +74,7 @@ fn put_reply<A: Allocator>(reply: &Reply<A>, out: &mut Vec<u8, A>) -> Result<(),
     }
 }
 
-/// Writes a request at the end of the bytes. Where memory runs out they are as before.
+/// Writes a request at the end of the bytes. On Err, they are unchanged.
 pub fn write_request<A: Allocator>(
     wanted: &Request<A>,
     out: &mut Vec<u8, A>,
@@ -90,7 +90,7 @@ pub fn write_request<A: Allocator>(
     written
 }
 
-/// Writes a reply at the end of the bytes. Where memory runs out they are as before.
+/// Writes a reply at the end of the bytes. On Err, they are unchanged.
 pub fn write_reply<A: Allocator>(reply: &Reply<A>, out: &mut Vec<u8, A>) -> Result<(), AllocError>
     ensures ok { OnOk result (out.new.items ≡ out.old.items ++ encoded (response_of reply.now)) }
     ensures err { OnErr result (out.new.items ≡ out.old.items) }

@@ -8,7 +8,7 @@ use Rattle.std.proofs.lemmas.List.Folds.{list_any_at}
 use Rattle.std.proofs.lemmas.Slice.Eq.{bytes_eq-Decides}
 use Rattle.std.proofs.lemmas.List.Sums.{sum_by_push, sum_by-cons, sum_by-swap_remove, get_or-le-sum_by}
 use Rattle.std.proofs.lemmas.List.Sorted.{sum_by-IsPermutation}
-use Rattle.crack_kernel.specs.Bags.{Test, IsSubBag}
+use Rattle.crack_kernel.specs.RowBag.{Test, IsSubBag}
 
 pub count_push : (p : Test) (xs : List (ℤ × List ℕ)) (x : ℤ × List ℕ) → count_by p (xs ++ x ∷ []) ≡ count_by p xs + cond (p x) 1 0
 count_push p xs x = sum_by_push (λ y. cond (p y) 1 0) xs x

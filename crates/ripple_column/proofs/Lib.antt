@@ -1,7 +1,7 @@
 pub mod Hole
 pub mod Counts
 pub mod Values
-pub mod Cracked
+pub mod CrackSteps
 pub mod Merged
 pub mod Selection
 pub mod Windows
@@ -10,5 +10,6 @@ pub mod Gaps
 pub mod Tails
 pub mod Taken
 pub mod Marking
-pub mod HeldRows
+pub mod CallerLemmas
 pub mod Fours
+pub mod Frames

@@ -1,10 +1,10 @@
 -- Marks that cover the scores of a list.
-use Rattle.std.proofs.Common.{◌≡◌, ℕ, ℤ, Bool, true, false, not, List, [], ◌∷◌, ◌++◌, length, get_or, sym, ◌∙◌, ap, refl, arith, Contains, All}
+use Rattle.std.proofs.Common.{◌≡◌, ℕ, ℤ, Bool, true, false, not, List, [], ◌∷◌, ◌++◌, length, get_or, sym, ◌∙◌, ap, refl, arith, Contains, All, IsPermutation}
 use Rattle.std.specs.List.{AllWithin}
 use Rattle.std.proofs.lemmas.Bool.{false≢true}
-use Rattle.crack_kernel.specs.Bags.{IsSubBag}
-use Rattle.ripple_column.specs.Marks.{is_marked, Covers}
-use Rattle.ripple_column.proofs.Counts.{count_none, none_counted, count_push, count_zero}
+use Rattle.crack_kernel.specs.RowBag.{IsSubBag}
+use Rattle.ripple_column.specs.ScoreMarks.{is_marked, Covers}
+use Rattle.ripple_column.proofs.Counts.{count_none, none_counted, count_push, count_zero, count_moved}
 
 -- a list of rows that are all marked
 pub covers_each : (marks : List Bool) (rows : List (ℤ × List ℕ)) → AllWithin (λ r. is_marked marks r.0 ≡ true) rows 0 (length rows) → Covers marks rows
@@ -30,6 +30,10 @@ covers_pushed marks rows x is none =
 
 pub covers_less : (marks : List Bool) (old new : List (ℤ × List ℕ)) → IsSubBag new old → Covers marks old → Covers marks new
 covers_less marks old new less none = omega (arith, less (λ r. not (is_marked marks r.0)), none)
+
+-- the same rows in another order
+pub covers_moved : (marks : List Bool) (old new : List (ℤ × List ℕ)) → IsPermutation old new → Covers marks old → Covers marks new
+covers_moved marks old new moved none = count_moved (λ r. not (is_marked marks r.0)) old new moved ∙ none
 
 -- a row whose score is not marked is not there
 pub covers_missing : (marks : List Bool) (rows : List (ℤ × List ℕ)) (x : ℤ × List ℕ) → is_marked marks x.0 ≡ false → Covers marks rows → ¬ Contains rows x

@@ -11,12 +11,12 @@ use Rattle.score_bounds.specs.declared.bounds.Cut.TheVariants.{Start, At, End}
 use Rattle.score_bounds.specs.declared.bounds.Range.{Range}
 use Rattle.score_bounds.specs.Bounds.{is_in, is_below}
 use Rattle.score_bounds.specs.Scores.{greatest}
-use Rattle.crack_kernel.specs.Bags.{Test}
+use Rattle.crack_kernel.specs.RowBag.{Test}
 use Rattle.crack_kernel.specs.Parts.{IsBelow, IsFrom, IsParted}
 use Rattle.crack_kernel.specs.PivotList.{IsNewValue, IsRising, ObeysPivots}
 use Rattle.ripple_column.specs.Content.{ColumnState, IsScored, has_score_in, NoneIn}
-use Rattle.ripple_column.specs.Cuts.{is_before, values, cut_values, new_values, StandsAt}
-use Rattle.ripple_column.specs.Answers.{low_cut, high_cut, pivots_with_cuts, IsSettled, IsAnswer, HoldsRange, AddsCuts}
+use Rattle.ripple_column.specs.CutPivots.{is_before, values, cut_values, new_values, StandsAt}
+use Rattle.ripple_column.specs.RangeAnswer.{low_cut, high_cut, pivots_with_cuts, IsSettled, IsAnswer, HoldsRange, AddsCuts}
 use Rattle.ripple_column.proofs.Counts.{count_none, count_alike, count_and_le}
 
 -- the rows before a place are below a cut, and the others are not

@@ -2,7 +2,7 @@
 use Rattle.std.proofs.Common.{◌≡◌, ℕ, true, not, ◌&&◌, ◌+◌, ◌≤◌, ℤ, List, length, get_or, take, drop, count_by, sym, ◌∙◌, ap, arith, IsPermutation}
 use Rattle.std.specs.List.{AllWithin}
 use Rattle.std.proofs.lemmas.List.{length-drop, get_or-drop, take-append-drop}
-use Rattle.crack_kernel.specs.Bags.{Test, IsSubBag}
+use Rattle.crack_kernel.specs.RowBag.{Test, IsSubBag}
 use Rattle.ripple_column.proofs.Counts.{and_not, count_moved, count_none, count_all, count_split}
 use Rattle.ripple_column.proofs.Blanks.{count_append}
 

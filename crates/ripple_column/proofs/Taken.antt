@@ -1,9 +1,9 @@
 -- Rows that are taken from the end of a list.
 use Rattle.std.proofs.Common.{◌≡◌, ℕ, ℤ, true, ◌+◌, ◌≤◌, List, length, take, ◌∙◌, arith, IsPermutation}
 use Rattle.std.proofs.lemmas.List.Sorted.{length_permutation}
-use Rattle.crack_kernel.specs.Bags.{IsSubBag}
+use Rattle.crack_kernel.specs.RowBag.{IsSubBag}
 use Rattle.ripple_column.specs.Content.{KeepsContent}
-use Rattle.ripple_column.specs.Gaps.{TakenFrom}
+use Rattle.ripple_column.specs.BlankGap.{TakenFrom}
 use Rattle.ripple_column.proofs.Counts.{count_moved, count_all}
 use Rattle.ripple_column.proofs.Blanks.{take-less}
 

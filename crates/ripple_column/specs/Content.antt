@@ -3,7 +3,7 @@ use Rattle.std.specs.Prelude.{◌≡◌, ◌<◌, ◌≤ℤ◌, ◌+◌, ◌-◌
 use Rattle.score_bounds.specs.declared.bounds.Range.{Range}
 use Rattle.score_bounds.specs.Bounds.{is_in}
 use Rattle.score_bounds.specs.Scores.{greatest}
-use Rattle.crack_kernel.specs.Bags.{Test}
+use Rattle.crack_kernel.specs.RowBag.{Test}
 
 -- a row's score is in the range
 abbrev pub has_score_in : Range → Test
@@ -63,6 +63,10 @@ HasRow c row = (p : Test) → p row ≡ true → 0 < content_count p c
 pub record Pends (row : ℤ × List ℕ) (old new other_old other_new : List (ℤ × List ℕ)) : Type 0 where
   pub added : ¬ Contains other_old row → IsPermutation (row ∷ old) new × (other_new ≡ other_old)
   pub withdrawn : Contains other_old row → IsPermutation other_old (row ∷ other_new) × (new ≡ old)
+
+-- the greatest number of rows in each list of pending rows (MAX_PENDING in code)
+abbrev pub max_pending : ℕ
+max_pending = 2048
 
 -- how many rows the longer of the two lists of pending rows has
 abbrev pub most_pending : ColumnState → ℕ

@@ -1,7 +1,8 @@
-pub mod Pieces
+pub mod RowPlace
 pub mod Content
-pub mod Cuts
-pub mod Sound
-pub mod Answers
-pub mod Gaps
-pub mod Marks
+pub mod CutPivots
+pub mod ColumnInvariant
+pub mod RangeAnswer
+pub mod BlankGap
+pub mod Merge
+pub mod ScoreMarks

@@ -1,19 +1,18 @@
 //! The column.
 
 ghost use Rattle.std.specs.Prelude.{◌≡◌, ◌+◌, ◌<◌, ◌≤◌, ℕ, [], ◌∷◌, true, false, length, count_by, slice_range, IfOk, IfSome, OnOk, OnErr};
-ghost use Rattle.crack_kernel.specs.Bags.{IsSubBag, Test};
+ghost use Rattle.crack_kernel.specs.RowBag.{IsSubBag, Test};
 ghost use Rattle.crack_kernel.specs.PivotList.{ObeysPivots};
-ghost use Rattle.ripple_column.specs.Answers.{AddsCuts, HoldsRange, IsAnswer, StandsStill, low_cut, high_cut, pivots_with_cuts};
+ghost use Rattle.ripple_column.specs.RangeAnswer.{AddsCuts, HoldsRange, IsAnswer, StandsStill, low_cut, high_cut, pivots_with_cuts};
 ghost use Rattle.ripple_column.specs.Content.{HasRow, IsUnchanged, NoneIn, Pends, SameContent, SameOutside, content_count, most_pending};
-ghost use Rattle.ripple_column.specs.Cuts.{is_before, values};
+ghost use Rattle.ripple_column.specs.CutPivots.{is_before, values};
 
-use crate::cuts::is_before;
-use crate::marks::ScoreMarks;
-use crate::merge::merge_all;
-use crate::pending::{MAX_PENDING, pend, reserve_write};
-use crate::rows::Rows;
+use crate::cracked::Cracked;
+use crate::cracking::is_before;
+use crate::merge::{merge_all, reserve_write};
+use crate::pending::{MAX_PENDING, MAX_RESERVED, Pending};
 use crate::select::{select_between, settled_places};
-use crack_kernel::{Pivots, Row};
+use crack_kernel::{MAX_PIVOTS, Row};
 use score_bounds::Range;
 use std::alloc::{AllocError, Allocator};
 use std::marker::Model;
@@ -24,12 +23,8 @@ use std::marker::Model;
 /// but for those that wait to be deleted. Between neighbouring pivots the rows stand in no order.
 #[derive(Drop)]
 pub struct Column<A: Allocator> {
-    rows: Rows<A>,
-    pivots: Pivots<A>,
-    insertions: Vec<Row<A>, A>,
-    insertion_marks: ScoreMarks<A>,
-    deletions: Vec<Row<A>, A>,
-    deletion_marks: ScoreMarks<A>,
+    cracked: Cracked<A>,
+    pending: Pending<A>,
 }
 
 impl<A: Allocator> Model for Column<A> {
@@ -37,11 +32,11 @@ impl<A: Allocator> Model for Column<A> {
 
     ghost Value = { ColumnState };
 
-    ghost use Rattle.ripple_column.specs.Sound.{state, IsSound, IsCovered};
+    ghost use Rattle.ripple_column.specs.ColumnInvariant.{state, ColumnInvariant};
 
     ghost view = { state };
 
-    ghost invariant = { λ c. IsSound (state c) × IsCovered c };
+    ghost invariant = { λ c. ColumnInvariant (state c) };
 }
 
 impl<A: Allocator + Copy> Column<A> {
@@ -53,12 +48,8 @@ impl<A: Allocator + Copy> Column<A> {
         ensures deletions { result.deletions ≡ [] }
     {
         Column {
-            rows: Rows::new(alloc),
-            pivots: Pivots::new(alloc),
-            insertions: Vec::new(alloc),
-            insertion_marks: ScoreMarks::new(alloc),
-            deletions: Vec::new(alloc),
-            deletion_marks: ScoreMarks::new(alloc),
+            cracked: Cracked::new(alloc),
+            pending: Pending::new(alloc),
         }
     }
 
@@ -66,7 +57,7 @@ impl<A: Allocator + Copy> Column<A> {
     pub fn len(&self) -> usize
         ensures { result ≡ length self.now.rows }
     {
-        self.rows.len()
+        self.cracked.rows.len()
     }
 
     /// How many insertions and how many deletions wait: at most 2,048 of each. The rows that wait to
@@ -78,7 +69,7 @@ impl<A: Allocator + Copy> Column<A> {
         ensures few_deletions { length self.now.deletions ≤ MAX_PENDING }
         ensures part { IsSubBag self.now.deletions self.now.rows }
     {
-        (self.insertions.len(), self.deletions.len())
+        (self.pending.insertions.len(), self.pending.deletions.len())
     }
 
     /// The pivots in order, each a value and a place.
@@ -86,7 +77,7 @@ impl<A: Allocator + Copy> Column<A> {
         ensures pivots { result.now ≡ self.now.pivots }
         ensures law { ObeysPivots self.now.pivots self.now.rows }
     {
-        self.pivots.list()
+        self.cracked.pivots.list()
     }
 
     /// The rows from the place `from` on and before the place `to`.
@@ -95,30 +86,22 @@ impl<A: Allocator + Copy> Column<A> {
         requires within { to ≤ length self.now.rows }
         ensures { result.now ≡ slice_range self.now.rows from to }
     {
-        &self.rows.list()[from..to]
+        &self.cracked.rows.list()[from..to]
     }
 
     /// Makes room for `n` more pending insertions and `n` more pending deletions. Where either
-    /// list would pass 2,048 rows, all that waits is merged first. Refused, it leaves the content.
+    /// list would pass 2,048 rows, all that waits is merged first. On Err, the content is unchanged.
     pub fn reserve_write(&mut self, n: usize) -> Result<(), AllocError>
-        requires { n ≤ 1027 }
+        requires { n ≤ MAX_RESERVED }
         ensures content { SameContent self.old self.new }
         ensures values { values self.new.pivots ≡ values self.old.pivots }
         ensures room_insertions { OnOk result (n ≤ self.new.insert_spare) }
         ensures room_deletions { OnOk result (n ≤ self.new.delete_spare) }
-        ensures unchanged { most_pending self.old + n ≤ 2048 → IsUnchanged self.old self.new }
-        ensures merged_insertions { OnOk result (2048 < most_pending self.old + n → self.new.insertions ≡ []) }
-        ensures merged_deletions { OnOk result (2048 < most_pending self.old + n → self.new.deletions ≡ []) }
+        ensures unchanged { most_pending self.old + n ≤ MAX_PENDING → IsUnchanged self.old self.new }
+        ensures merged_insertions { OnOk result (MAX_PENDING < most_pending self.old + n → self.new.insertions ≡ []) }
+        ensures merged_deletions { OnOk result (MAX_PENDING < most_pending self.old + n → self.new.deletions ≡ []) }
     {
-        reserve_write(
-            &mut self.rows,
-            &mut self.pivots,
-            &mut self.deletions,
-            &mut self.deletion_marks,
-            &mut self.insertions,
-            &mut self.insertion_marks,
-            n,
-        )
+        reserve_write(&mut self.cracked, &mut self.pending, n)
     }
 
     /// Adds `row` to the content: it waits as an insertion, or withdraws a deletion of it that
@@ -132,13 +115,9 @@ impl<A: Allocator + Copy> Column<A> {
         ensures spare { self.old.insert_spare ≤ self.new.insert_spare + 1 }
         ensures spare_deletions { self.old.delete_spare ≤ self.new.delete_spare }
     {
-        pend(
-            &mut self.insertions,
-            &mut self.insertion_marks,
-            &mut self.deletions,
-            &self.deletion_marks,
-            row,
-        );
+        self.pending
+            .insertions
+            .pend(row, &mut self.pending.deletions);
     }
 
     /// Takes `row` out of the content: it waits as a deletion, or withdraws an insertion of it
@@ -153,16 +132,12 @@ impl<A: Allocator + Copy> Column<A> {
         ensures spare { self.old.delete_spare ≤ self.new.delete_spare + 1 }
         ensures spare_insertions { self.old.insert_spare ≤ self.new.insert_spare }
     {
-        pend(
-            &mut self.deletions,
-            &mut self.deletion_marks,
-            &mut self.insertions,
-            &self.insertion_marks,
-            row,
-        );
+        self.pending
+            .deletions
+            .pend(row, &mut self.pending.insertions);
     }
 
-    /// Merges all that waits. Refused, it leaves the column as it was.
+    /// Merges all that waits. On Err, the column is unchanged.
     pub fn merge_all(&mut self) -> Result<(), AllocError>
         ensures content { SameContent self.old self.new }
         ensures values { values self.new.pivots ≡ values self.old.pivots }
@@ -170,19 +145,14 @@ impl<A: Allocator + Copy> Column<A> {
         ensures deletions { OnOk result (self.new.deletions ≡ []) }
         ensures refused { OnErr result (IsUnchanged self.old self.new) }
     {
-        merge_all(
-            &mut self.rows,
-            &mut self.pivots,
-            &mut self.deletions,
-            &mut self.insertions,
-        )
+        merge_all(&mut self.cracked, &mut self.pending)
     }
 
     /// Where the rows with scores in the range stand: from the first place on and before the
     /// second. What waits in the range is merged, and the cuts of the range become pivots; where
     /// there would be more than 4,096 of them, the others are dropped. A range whose first cut is
-    /// not below its second holds no row, and is answered by (0, 0). Refused, it leaves the
-    /// column as it was.
+    /// not below its second holds no row, and is answered by (0, 0). On Err, the
+    /// column is unchanged.
     pub fn select(&mut self, range: &Range) -> Result<(usize, usize), AllocError>
         ensures content { SameContent self.old self.new }
         ensures answer { IfOk result (λ answer. IsAnswer self.new range.now answer) }
@@ -196,20 +166,12 @@ impl<A: Allocator + Copy> Column<A> {
             → AddsCuts range.now self.old.pivots self.new.pivots) }
 
         // With nothing to merge and no pivot dropped, a row moves only within a piece that is cracked.
-        ensures still { OnOk result (pivots_with_cuts range.now self.old.pivots ≤ 4096
+        ensures still { OnOk result (pivots_with_cuts range.now self.old.pivots ≤ MAX_PIVOTS
             → NoneIn range.now self.old.insertions → NoneIn range.now self.old.deletions
             → StandsStill range.now self.old self.new) }
     {
         let (first, second) = range.cuts();
-        select_between(
-            &mut self.rows,
-            &mut self.pivots,
-            &mut self.deletions,
-            &mut self.insertions,
-            range,
-            &first,
-            &second,
-        )
+        select_between(&mut self.cracked, &mut self.pending, range, &first, &second)
     }
 
     /// The answer of `select`, where the column is ready for it: nothing waits in the range, and
@@ -220,19 +182,11 @@ impl<A: Allocator + Copy> Column<A> {
         ensures rows { IfSome result (λ answer. HoldsRange self.now range.now answer) }
         ensures exact { (answer : ℕ × ℕ) → IsAnswer self.now range.now answer → result ≡ Some answer }
     {
-        let len = self.rows.len();
+        let cracked = &self.cracked;
         let (first, second) = range.cuts();
         if !is_before(&first, &second) {
             return Some((0, 0));
         }
-        settled_places(
-            len,
-            &self.pivots,
-            &self.deletions,
-            &self.insertions,
-            range,
-            &first,
-            &second,
-        )
+        settled_places(cracked, &self.pending, range, &first, &second)
     }
 }

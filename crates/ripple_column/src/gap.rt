@@ -6,20 +6,23 @@
 
 ghost use Rattle.std.specs.Prelude.{◌≡◌, ◌+◌, ◌-◌, ◌*◌, ◌<◌, ◌≤◌, ◌<ℤ◌, ◌≤ℤ◌, ◌++◌, ℕ, ℤ, pos, List, length, take, replicate, count_by, slice_index_or, IfSome, IsTrue, IsPermutation, vec_len, vec_capacity};
 ghost use Rattle.std.specs.List.{AllWithin, HoldsAt};
-ghost use Rattle.crack_kernel.specs.Bags.{Test};
+ghost use Rattle.crack_kernel.specs.RowBag.{Test};
 ghost use Rattle.crack_kernel.specs.PivotList.{ObeysPivots, RisesPast};
-ghost use Rattle.ripple_column.specs.Cuts.{values};
-ghost use Rattle.ripple_column.specs.Gaps.{AllParted, ChangedPlaces, HasGap, StandFrom, TakenFrom, blank};
+ghost use Rattle.ripple_column.specs.BlankGap.{AllParted, ChangedPlaces, HasGap, HasGapAt, StandFrom, TakenFrom, blank};
+ghost use Rattle.ripple_column.specs.Merge.{KeepsFrame};
 
-use crate::filter::ScoreFilter;
+use crate::bloom_filter::ScoreFilter;
+use crate::pending::PendingList;
 use crate::ripple::{place_or, start_below};
 use crate::rows::Rows;
 use crack_kernel::{Pivots, Row};
 use std::alloc::Allocator;
 
-/// A gap of blank rows: from the place `low` on and before the place `high`.
+/// A gap of blank rows: from the place `low` on and before the place `high`, above rows of the piece
+/// of the index `piece`.
 #[derive(Clone, Copy)]
 pub struct Gap {
+    pub piece: usize,
     pub low: usize,
     pub high: usize,
 }
@@ -30,6 +33,13 @@ pub struct Gap {
 pub enum Direction {
     Up,
     Down,
+}
+
+/// The rows of a list from an index on, where scores fall, or where the gap goes down, rise.
+#[derive(Clone, Copy)]
+pub struct Tail {
+    pub from: usize,
+    pub direction: Direction,
 }
 
 /// The row that fills a gap. It takes no memory.
@@ -71,86 +81,88 @@ fn change_places<A: Allocator>(rows: &mut Rows<A>, low: usize, mid: usize, high:
     }
 }
 
-/// Opens a gap above the piece of the index `top`: `width` blank rows wide behind the last piece, and
-/// empty elsewhere.
+/// Opens a gap above the piece of the index `piece`: `width` blank rows wide behind the last piece,
+/// and empty elsewhere.
 pub fn open_gap<A: Allocator + Copy>(
     rows: &mut Rows<A>,
     pivots: &Pivots<A>,
-    top: usize,
+    piece: usize,
     width: usize,
 ) -> Gap
     requires law { ObeysPivots pivots.now.list rows.old.items }
-    requires top { top ≤ length pivots.now.list }
+    requires piece { piece ≤ length pivots.now.list }
     requires room { vec_len rows.old + width ≤ vec_capacity rows.old }
-    ensures gap { HasGap pivots.now.list rows.new.items top result.low result.high }
+    ensures gap { HasGapAt pivots.now.list rows.new.items result }
     ensures rows { rows.new.items ≡ rows.old.items ++ replicate (result.high - result.low) blank }
     ensures capacity { vec_capacity rows.new ≡ vec_capacity rows.old }
 {
-    let low = place_or(pivots.list(), top, rows.len());
-    if top < pivots.len() {
-        return Gap { low, high: low };
+    let low = place_or(pivots.list(), piece, rows.len());
+    if piece < pivots.len() {
+        return Gap {
+            piece,
+            low,
+            high: low,
+        };
     }
     push_blanks(rows, width);
     Gap {
+        piece,
         low,
         high: low + width,
     }
 }
 
-/// Carries the gap down to the start of its piece, which has the index `i`.
-pub fn sink_gap<A: Allocator>(rows: &mut Rows<A>, pivots: &Pivots<A>, i: usize, gap: Gap) -> Gap
-    requires gap { HasGap pivots.now.list rows.old.items i gap.low gap.high }
-    ensures gap { HasGap pivots.now.list rows.new.items i result.low result.high }
-    ensures start { 0 < i → (slice_index_or pivots.now.list (i - 1) (pos 0, 0)).1 ≡ result.low }
+/// Carries the gap down to the start of its piece.
+pub fn sink_gap<A: Allocator>(rows: &mut Rows<A>, pivots: &Pivots<A>, gap: Gap) -> Gap
+    requires gap { HasGapAt pivots.now.list rows.old.items gap }
+    ensures gap { HasGapAt pivots.now.list rows.new.items result }
+    ensures start { 0 < result.piece → (slice_index_or pivots.now.list (result.piece - 1) (pos 0, 0)).1 ≡ result.low }
     ensures width { result.high - result.low ≡ gap.high - gap.low }
     ensures rows { IsPermutation rows.old.items rows.new.items }
     ensures capacity { vec_capacity rows.new ≡ vec_capacity rows.old }
 {
-    let start = start_below(pivots.list(), i);
+    let start = start_below(pivots.list(), gap.piece);
     change_places(rows, start, gap.low, gap.high);
     Gap {
+        piece: gap.piece,
         low: start,
         high: start + (gap.high - gap.low),
     }
 }
 
-/// Carries the gap over the piece above it, which ends at the pivot of the index `i`, and answers
-/// where it begins.
-pub fn lift_gap<A: Allocator>(
-    rows: &mut Rows<A>,
-    pivots: &mut Pivots<A>,
-    i: usize,
-    low: usize,
-    high: usize,
-) -> usize
-    requires gap { HasGap pivots.old.list rows.old.items i low high }
-    requires piece { i < length pivots.old.list }
-    ensures gap { HasGap pivots.new.list rows.new.items (i + 1) result (result + (high - low)) }
-    ensures pivot { (slice_index_or pivots.new.list i (pos 0, 0)).1 ≡ result }
+/// Carries the gap over the piece above it, which ends at the pivot of the gap's index.
+pub fn lift_gap<A: Allocator>(rows: &mut Rows<A>, pivots: &mut Pivots<A>, gap: Gap) -> Gap
+    requires gap { HasGapAt pivots.old.list rows.old.items gap }
+    requires piece { gap.piece < length pivots.old.list }
+    ensures gap { HasGapAt pivots.new.list rows.new.items result }
+    ensures piece { result.piece ≡ gap.piece + 1 }
+    ensures width { result.high - result.low ≡ gap.high - gap.low }
     ensures rows { IsPermutation rows.old.items rows.new.items }
-    ensures values { values pivots.new.list ≡ values pivots.old.list }
-    ensures spare { pivots.new.spare ≡ pivots.old.spare }
-    ensures capacity { vec_capacity rows.new ≡ vec_capacity rows.old }
+    ensures frame { KeepsFrame rows.old pivots.old rows.new pivots.new }
 {
-    let end = pivots.list()[i].1;
-    change_places(rows, low, high, end);
-    let place = low + (end - high);
-    pivots.set_place(i, place);
-    place
+    let end = pivots.list()[gap.piece].1;
+    change_places(rows, gap.low, gap.high, end);
+    let place = gap.low + (end - gap.high);
+    pivots.set_place(gap.piece, place);
+    Gap {
+        piece: gap.piece + 1,
+        low: place,
+        high: place + (gap.high - gap.low),
+    }
 }
 
 /// Carries the gap over the last piece, and cuts it off.
-pub fn close_gap<A: Allocator>(rows: &mut Rows<A>, low: usize, high: usize)
-    requires order { low ≤ high }
-    requires within { high ≤ length rows.old.items }
-    ensures law { (ps : List (ℤ × ℕ)) → HasGap ps rows.old.items (length ps) low high → AllParted ps rows.new.items }
-    ensures content { AllWithin (λ r. r ≡ blank) rows.old.items low high → (p : Test) → count_by p rows.old.items
-        ≡ count_by p rows.new.items + count_by p (replicate (high - low) blank) }
+pub fn close_gap<A: Allocator>(rows: &mut Rows<A>, gap: Gap)
+    requires order { gap.low ≤ gap.high }
+    requires within { gap.high ≤ length rows.old.items }
+    ensures law { (ps : List (ℤ × ℕ)) → HasGap ps rows.old.items (length ps) gap.low gap.high → AllParted ps rows.new.items }
+    ensures content { AllWithin (λ r. r ≡ blank) rows.old.items gap.low gap.high → (p : Test) → count_by p rows.old.items
+        ≡ count_by p rows.new.items + count_by p (replicate (gap.high - gap.low) blank) }
     ensures capacity { vec_capacity rows.new ≡ vec_capacity rows.old }
 {
     let end = rows.len();
-    change_places(rows, low, high, end);
-    rows.truncate(low + (end - high));
+    change_places(rows, gap.low, gap.high, end);
+    rows.truncate(gap.low + (end - gap.high));
 }
 
 /// Whether the score `v` is not below the pivot at the start of the piece of the index `i`, if it
@@ -185,27 +197,22 @@ pub fn is_in_piece<A: Allocator>(pivots: &Pivots<A>, i: usize, v: i64) -> bool
     from_start && below_end
 }
 
-/// Where a row like `row` stands in the list from the index `from` on, where scores fall or rise.
-/// How it looks is left open.
-fn find_waiting<A: Allocator>(
-    list: &[Row<A>],
-    from: usize,
-    direction: Direction,
-    row: &Row<A>,
-) -> Option<usize>
-    requires { from ≤ length list.now }
-    ensures low { IfSome result (λ i. from ≤ i) }
-    ensures within { IfSome result (λ i. i < length list.now) }
-    ensures here { IfSome result (λ i. HoldsAt (λ r. r ≡ row.now) list.now i) }
+/// Where a row like `row` stands in the tail of the list. How it looks is left open.
+fn find_waiting<A: Allocator>(list: &PendingList<A>, tail: Tail, row: &Row<A>) -> Option<usize>
+    requires { tail.from ≤ length list.now.items }
+    ensures low { IfSome result (λ i. tail.from ≤ i) }
+    ensures within { IfSome result (λ i. i < length list.now.items) }
+    ensures here { IfSome result (λ i. HoldsAt (λ r. r ≡ row.now) list.now.items i) }
 {
     let score = row.score();
-    let tail = &list[from..];
-    let before = match direction {
-        Direction::Up => tail.partition_point(|waiting| waiting.score() > score),
-        Direction::Down => tail.partition_point(|waiting| waiting.score() < score),
+    let rows = list.list();
+    let last = &rows[tail.from..];
+    let before = match tail.direction {
+        Direction::Up => last.partition_point(|waiting| waiting.score() > score),
+        Direction::Down => last.partition_point(|waiting| waiting.score() < score),
     };
-    for i in from + before..list.len() {
-        let waiting = &list[i];
+    for i in tail.from + before..rows.len() {
+        let waiting = &rows[i];
         if waiting.score() != score {
             return None;
         }
@@ -216,31 +223,29 @@ fn find_waiting<A: Allocator>(
     None
 }
 
-/// Takes the row at the place `at` above the gap out of the column, if it waits as a deletion from
-/// the index `from` on: a blank row takes its place and joins the gap, whose end is answered.
+/// Takes the row at the place `at` above the gap out of the column, if it waits in the tail
+/// of the deletions: a blank row takes its place and joins the gap, whose end is answered.
 fn take_out_at<A: Allocator + Copy>(
     rows: &mut Rows<A>,
     high: usize,
     at: usize,
-    deletions: &mut Vec<Row<A>, A>,
-    from: usize,
-    direction: Direction,
+    deletions: &mut PendingList<A>,
+    tail: Tail,
 ) -> usize
     requires above { high ≤ at }
     requires within { at < length rows.old.items }
-    requires from { from ≤ length deletions.old.items }
+    requires from { tail.from ≤ length deletions.old.items }
     ensures gap { (ps : List (ℤ × ℕ)) (i low : ℕ) → HasGap ps rows.old.items i low high → StandFrom ps i (at + 1)
         → HasGap ps rows.new.items i low result }
     ensures low { high ≤ result }
     ensures high { result ≤ at + 1 }
     ensures content { (p : Test) → count_by p rows.new.items + count_by p deletions.old.items ≡ count_by p rows.old.items
         + count_by p deletions.new.items + count_by p (replicate (result - high) blank) }
-    ensures taken { TakenFrom from deletions.old.items deletions.new.items }
+    ensures taken { TakenFrom tail.from deletions.old.items deletions.new.items }
     ensures len { length rows.new.items ≡ length rows.old.items }
     ensures capacity { vec_capacity rows.new ≡ vec_capacity rows.old }
-    ensures capacity_deletions { vec_capacity deletions.new ≡ vec_capacity deletions.old }
 {
-    match find_waiting(deletions, from, direction, &rows.list()[at]) {
+    match find_waiting(deletions, tail, &rows.list()[at]) {
         Some(found) => {
             let _gone = deletions.remove(found);
             let blank = blank_row(rows.allocator());
@@ -252,72 +257,66 @@ fn take_out_at<A: Allocator + Copy>(
     }
 }
 
-/// Takes rows that wait as deletions from the index `from` on out of the piece above the gap, which
-/// ends at `end`, and answers where the gap ends then. Blank rows take their places.
+/// Takes rows that wait in the tail of the deletions out of the piece above the gap, which ends at
+/// `end`, and answers where the gap ends then. Blank rows take their places.
 ///
 /// The filter has the scores of these deletions, so that few rows are looked up.
 pub fn take_out<A: Allocator + Copy>(
     rows: &mut Rows<A>,
     high: usize,
     end: usize,
-    deletions: &mut Vec<Row<A>, A>,
-    from: usize,
-    direction: Direction,
+    deletions: &mut PendingList<A>,
+    tail: Tail,
     filter: &ScoreFilter,
 ) -> usize
     requires above { high ≤ end }
     requires within { end ≤ length rows.old.items }
-    requires from { from ≤ length deletions.old.items }
+    requires from { tail.from ≤ length deletions.old.items }
     ensures gap { (ps : List (ℤ × ℕ)) (i low : ℕ) → HasGap ps rows.old.items i low high → StandFrom ps i end
         → HasGap ps rows.new.items i low result }
     ensures low { high ≤ result }
     ensures high { result ≤ end }
     ensures content { (p : Test) → count_by p rows.new.items + count_by p deletions.old.items ≡ count_by p rows.old.items
         + count_by p deletions.new.items + count_by p (replicate (result - high) blank) }
-    ensures taken { TakenFrom from deletions.old.items deletions.new.items }
+    ensures taken { TakenFrom tail.from deletions.old.items deletions.new.items }
     ensures len { length rows.new.items ≡ length rows.old.items }
     ensures capacity { vec_capacity rows.new ≡ vec_capacity rows.old }
-    ensures capacity_deletions { vec_capacity deletions.new ≡ vec_capacity deletions.old }
 {
-    if deletions.len() == from {
+    if deletions.len() == tail.from {
         return high;
     }
     let mut top = high;
     let mut at = rows.next_within(high, end, filter);
-    while at < end && deletions.len() > from {
-        top = take_out_at(rows, top, at, deletions, from, direction);
+    while at < end && deletions.len() > tail.from {
+        top = take_out_at(rows, top, at, deletions, tail);
         at = rows.next_within(at + 1, end, filter);
     }
     top
 }
 
 /// Puts rows that wait as insertions into the gap, from the last one on and down to the index
-/// `from`, while they belong to the piece of the index `i` below it, and answers where the gap
-/// begins then.
+/// `from`, while they belong to the piece below it, and answers where the gap begins then.
 pub fn fill_gap<A: Allocator>(
     rows: &mut Rows<A>,
     pivots: &Pivots<A>,
-    i: usize,
-    low: usize,
-    high: usize,
-    insertions: &mut Vec<Row<A>, A>,
+    gap: Gap,
+    insertions: &mut PendingList<A>,
     from: usize,
 ) -> usize
-    requires gap { HasGap pivots.now.list rows.old.items i low high }
+    requires gap { HasGapAt pivots.now.list rows.old.items gap }
     requires from { from ≤ length insertions.old.items }
-    ensures gap { HasGap pivots.now.list rows.new.items i result high }
-    ensures low { low ≤ result }
+    ensures gap { HasGap pivots.now.list rows.new.items gap.piece result gap.high }
+    ensures low { gap.low ≤ result }
     ensures content { (p : Test) → count_by p rows.new.items + count_by p insertions.new.items
-        + count_by p (replicate (result - low) blank) ≡ count_by p rows.old.items + count_by p insertions.old.items }
+        + count_by p (replicate (result - gap.low) blank) ≡ count_by p rows.old.items + count_by p insertions.old.items }
     ensures taken { TakenFrom from insertions.old.items insertions.new.items }
     ensures len { length rows.new.items ≡ length rows.old.items }
     ensures capacity { vec_capacity rows.new ≡ vec_capacity rows.old }
-    ensures capacity_insertions { vec_capacity insertions.new ≡ vec_capacity insertions.old }
 {
-    let mut bottom = low;
-    while bottom < high && insertions.len() > from {
-        let next = &insertions[insertions.len() - 1];
-        if !is_in_piece(pivots, i, next.score()) {
+    let mut bottom = gap.low;
+    while bottom < gap.high && insertions.len() > from {
+        let next = &insertions.list()[insertions.len() - 1];
+        if !is_in_piece(pivots, gap.piece, next.score()) {
             break;
         }
         match insertions.pop() {

@@ -6,21 +6,22 @@
 //! most one row a piece.
 #![tactic(auto)]
 
-mod batch;
+mod bloom_filter;
+mod bulk_merge;
 mod column;
-mod cuts;
-mod filter;
+mod cracked;
+mod cracking;
 mod gap;
-mod marks;
 mod merge;
-mod passes;
+mod merge_pass;
 mod pending;
 mod ripple;
 mod rows;
+mod score_marks;
 mod select;
 
 pub use column::Column;
-pub use pending::MAX_PENDING;
+pub use pending::{MAX_PENDING, MAX_RESERVED};
 
 #[cfg(test)]
 mod merge_tests;

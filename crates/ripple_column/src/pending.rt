@@ -1,22 +1,246 @@
 //! The rows that wait.
 
-ghost use Rattle.std.specs.Prelude.{◌≡◌, ◌+◌, ◌<◌, ◌≤◌, ◌≤ℤ◌, false, [], min, max, length, Contains, MatchOption, OnOk, vec_len, vec_capacity};
-ghost use Rattle.std.specs.List.{AllWithin, HoldsAt};
+ghost use Rattle.std.specs.Prelude.{◌≡◌, ◌+◌, ◌-◌, ◌<◌, ◌≤◌, ◌≢◌, ◌≤ℤ◌, ◌++◌, ◌∷◌, ◌↔◌, ◌&&◌, not, true, false, ℕ, ℤ, List, [], Some, IsSome, length, take, Contains, MatchOption, OnOk, IsFalse, count_by, slice_index_or, option_to_list, IsPermutation, vec_len, vec_capacity};
+ghost use Rattle.std.specs.List.{AllWithin, HoldsAt, list_any, remove, swap_remove};
 ghost use Rattle.score_bounds.specs.Scores.{greatest};
-ghost use Rattle.crack_kernel.specs.Bags.{IsSubBag};
-ghost use Rattle.crack_kernel.specs.PivotList.{ObeysPivots};
-ghost use Rattle.ripple_column.specs.Content.{KeepsContent, Pends};
-ghost use Rattle.ripple_column.specs.Cuts.{values};
-ghost use Rattle.ripple_column.specs.Marks.{Covers};
+ghost use Rattle.crack_kernel.specs.RowBag.{Test};
+ghost use Rattle.ripple_column.specs.Content.{has_score_in, NoneIn, Pends};
 
-use crate::marks::{ScoreMarks, renew};
-use crate::merge::merge_all;
-use crate::rows::Rows;
-use crack_kernel::{Pivots, Row};
+use crate::score_marks::ScoreMarks;
+use crack_kernel::Row;
+use score_bounds::Range;
 use std::alloc::{AllocError, Allocator};
+use std::marker::Model;
 
 /// The greatest number of rows in each of the two lists of rows that wait.
 pub const MAX_PENDING: usize = 2048;
+
+/// The greatest number of insertions, and of deletions, for which room is made at once.
+pub const MAX_RESERVED: usize = 1027;
+
+/// From how many rows on a list gets marks. Fewer rows are as quickly looked through.
+const MARKED_FROM: usize = 64;
+
+/// Rows that wait, in no order, beside marks of their scores, so that mostly no row is looked at
+/// where the one that is looked for does not wait.
+///
+/// Contracts see the rows alone, as a `Vec`.
+#[derive(Drop)]
+pub struct PendingList<A: Allocator> {
+    rows: Vec<Row<A>, A>,
+    marks: ScoreMarks<A>,
+}
+
+impl<A: Allocator> Model for PendingList<A> {
+    ghost use Rattle.std.specs.Prelude.{ℤ, ℕ, List};
+    ghost use Rattle.std.specs.declared.vec.Vec.{Vec as VecValue};
+    ghost use Rattle.ripple_column.specs.ScoreMarks.{Covers};
+
+    ghost Value = { VecValue (ℤ × List ℕ) A };
+
+    ghost view = { λ l. l.rows };
+
+    ghost invariant = { λ l. Covers l.marks.marks.items l.rows.items };
+}
+
+impl<A: Allocator + Copy> PendingList<A> {
+    /// No rows. It takes no memory.
+    pub fn new(alloc: A) -> Self
+        ensures { result.items ≡ [] }
+    {
+        PendingList {
+            rows: Vec::new(alloc),
+            marks: ScoreMarks::new(alloc),
+        }
+    }
+}
+
+impl<A: Allocator> PendingList<A> {
+    /// How many rows wait.
+    pub fn len(&self) -> usize
+        ensures { result ≡ length self.now.items }
+    {
+        self.rows.len()
+    }
+
+    /// The rows.
+    pub fn list(&self) -> &[Row<A>]
+        ensures { result.now ≡ self.now.items }
+    {
+        &self.rows
+    }
+
+    /// Whether a row with a score in the range waits.
+    pub fn has_within(&self, range: &Range) -> bool
+        ensures { result ≡ list_any (has_score_in range.now) self.now.items }
+    {
+        self.rows.iter().any(|row| is_within(row, range))
+    }
+
+    /// How many rows have scores in the range.
+    pub fn count_within(&self, range: &Range) -> usize
+        ensures { result ≡ count_by (has_score_in range.now) self.now.items }
+    {
+        self.rows
+            .iter()
+            .filter(|row| is_within(*row, range))
+            .count()
+    }
+
+    /// The index at which `row` waits, if it does.
+    pub fn find(&self, row: &Row<A>) -> Option<usize>
+        ensures found { MatchOption result (¬ Contains self.now.items row.now) (λ i. HoldsAt (λ r. r
+            ≡ row.now) self.now.items i × (i < length self.now.items)) }
+        ensures score { row.now.0 ≤ℤ greatest }
+    {
+        if self.marks.may_have(row.score()) {
+            position_of(&self.rows, row)
+        } else {
+            None
+        }
+    }
+
+    /// Makes room for `n` more rows. A list that has become long gets its marks, and those of an
+    /// empty one are wiped.
+    pub fn reserve(&mut self, n: usize) -> Result<(), AllocError>
+        ensures items { self.new.items ≡ self.old.items }
+        ensures len { vec_len self.new ≡ vec_len self.old }
+        ensures room { OnOk result (vec_len self.new + n ≤ vec_capacity self.new) }
+    {
+        if self.rows.is_empty() {
+            self.marks.wipe();
+        } else if self.rows.len() >= MARKED_FROM && self.marks.is_empty() {
+            self.marks.mark_rows(&self.rows)?;
+        }
+        self.rows.reserve(n)
+    }
+
+    /// Puts a row behind the last one. It takes no memory.
+    pub fn push_reserved(&mut self, row: Row<A>)
+        requires { vec_len self.old < vec_capacity self.old }
+        ensures items { self.new.items ≡ self.old.items ++ row ∷ [] }
+        ensures len { vec_len self.new ≡ vec_len self.old + 1 }
+        ensures capacity { vec_capacity self.new ≡ vec_capacity self.old }
+    {
+        self.marks.mark(&row);
+        self.rows.push_reserved(row);
+    }
+
+    /// Takes out the row at an index, and puts the last one there.
+    pub fn swap_remove(&mut self, index: usize) -> Row<A>
+        requires { index < vec_len self.old }
+        ensures value { result ≡ slice_index_or self.old.items index result }
+        ensures items { self.new.items ≡ swap_remove self.old.items index result }
+        ensures len { vec_len self.new + 1 ≡ vec_len self.old }
+        ensures capacity { vec_capacity self.new ≡ vec_capacity self.old }
+        ensures others { (k : ℕ) (d : ℤ × List ℕ) → k ≢ index → k + 1 < vec_len self.old
+            → slice_index_or self.new.items k d ≡ slice_index_or self.old.items k d }
+    {
+        self.rows.swap_remove(index)
+    }
+
+    /// Takes out the row at an index. The rows behind it move up.
+    pub fn remove(&mut self, index: usize) -> Row<A>
+        requires { index < vec_len self.old }
+        ensures value { result ≡ slice_index_or self.old.items index result }
+        ensures items { self.new.items ≡ remove self.old.items index }
+        ensures len { vec_len self.new + 1 ≡ vec_len self.old }
+        ensures capacity { vec_capacity self.new ≡ vec_capacity self.old }
+        ensures before { take index self.new.items ≡ take index self.old.items }
+    {
+        self.rows.remove(index)
+    }
+
+    /// Takes out the last row.
+    pub fn pop(&mut self) -> Option<Row<A>>
+        ensures items { self.old.items ≡ self.new.items ++ option_to_list result }
+        ensures variant { IsSome result ↔ (0 < vec_len self.old) }
+        ensures len { vec_len self.new + length (option_to_list result) ≡ vec_len self.old }
+        ensures capacity { vec_capacity self.new ≡ vec_capacity self.old }
+        ensures value { (d : ℤ × List ℕ) → 0 < vec_len self.old → result
+            ≡ Some (slice_index_or self.old.items (vec_len self.old - 1) d) }
+    {
+        self.rows.pop()
+    }
+
+    /// Puts the rows with scores in the range last, by falling scores, and answers how many others
+    /// there are.
+    pub fn line_up(&mut self, range: &Range) -> usize
+        ensures rows { IsPermutation self.old.items self.new.items }
+        ensures others { result ≤ length self.new.items }
+        ensures arriving { length self.new.items ≤ result + count_by (has_score_in range.now) self.old.items }
+        ensures outside { (p : Test) → count_by (λ r. p r && not (has_score_in range.now r)) (take result self.new.items)
+            ≡ count_by (λ r. p r && not (has_score_in range.now r)) self.old.items }
+        ensures capacity { vec_capacity self.new ≡ vec_capacity self.old }
+    {
+        line_up(&mut self.rows, range)
+    }
+
+    /// Turns the order of the rows from the index `from` on round.
+    pub fn reverse_from(&mut self, from: usize)
+        requires { from ≤ length self.old.items }
+        ensures rows { IsPermutation self.old.items self.new.items }
+        ensures before { take from self.new.items ≡ take from self.old.items }
+        ensures capacity { vec_capacity self.new ≡ vec_capacity self.old }
+    {
+        reverse_tail(&mut self.rows, from);
+    }
+
+    /// Puts `row` into the list, unless it waits in the other list, whose effect it would undo: then
+    /// it is withdrawn there.
+    pub fn pend(&mut self, row: Row<A>, other: &mut PendingList<A>)
+        requires room { vec_len self.old < vec_capacity self.old }
+        ensures pends { Pends row self.old.items self.new.items other.old.items other.new.items }
+        ensures score { row.0 ≤ℤ greatest }
+        ensures len { vec_len self.new ≤ vec_len self.old + 1 }
+        ensures len_other { vec_len other.new ≤ vec_len other.old }
+        ensures capacity { vec_capacity self.new ≡ vec_capacity self.old }
+        ensures capacity_other { vec_capacity other.new ≡ vec_capacity other.old }
+    {
+        match other.find(&row) {
+            Some(i) => {
+                let _withdrawn = other.swap_remove(i);
+            }
+            None => self.push_reserved(row),
+        }
+    }
+}
+
+/// Whether the row's score is in the range.
+pub fn is_within<A: Allocator>(row: &Row<A>, range: &Range) -> bool
+    ensures { result ≡ has_score_in range.now row.now }
+{
+    range.contains(row.score())
+}
+
+/// The rows that wait to be taken out, and those that wait to be put in.
+#[derive(Drop)]
+pub struct Pending<A: Allocator> {
+    pub deletions: PendingList<A>,
+    pub insertions: PendingList<A>,
+}
+
+impl<A: Allocator + Copy> Pending<A> {
+    /// No rows. It takes no memory.
+    pub fn new(alloc: A) -> Self
+        ensures deletions { result.deletions.items ≡ [] }
+        ensures insertions { result.insertions.items ≡ [] }
+    {
+        Pending {
+            deletions: PendingList::new(alloc),
+            insertions: PendingList::new(alloc),
+        }
+    }
+}
+
+impl<A: Allocator> Pending<A> {
+    /// Whether a row with a score in the range waits.
+    pub fn has_within(&self, range: &Range) -> bool
+        ensures { IsFalse result ↔ (NoneIn range.now self.now.deletions.items × NoneIn range.now self.now.insertions.items) }
+    {
+        self.deletions.has_within(range) || self.insertions.has_within(range)
+    }
+}
 
 /// Whether a row has the score.
 fn has_score<A: Allocator>(row: &Row<A>, score: i64) -> bool
@@ -70,101 +294,80 @@ pub fn position_of<A: Allocator>(rows: &[Row<A>], row: &Row<A>) -> Option<usize>
     None
 }
 
-/// The index at which `row` stands in a list of which the scores are marked, if it is there.
-fn find_marked<A: Allocator>(rows: &[Row<A>], marks: &ScoreMarks<A>, row: &Row<A>) -> Option<usize>
-    requires { Covers marks.now.marks.items rows.now }
-    ensures found { MatchOption result (¬ Contains rows.now row.now) (λ i. HoldsAt (λ r. r
-        ≡ row.now) rows.now i × (i < length rows.now)) }
-    ensures score { row.now.0 ≤ℤ greatest }
-{
-    if marks.may_have(row.score()) {
-        position_of(rows, row)
-    } else {
-        None
-    }
-}
-
-/// Puts `row` into a list of rows that wait, unless it waits in the other list, whose effect it
-/// would undo: then it is withdrawn there.
-pub fn pend<A: Allocator>(
-    list: &mut Vec<Row<A>, A>,
-    marks: &mut ScoreMarks<A>,
-    other: &mut Vec<Row<A>, A>,
-    other_marks: &ScoreMarks<A>,
-    row: Row<A>,
-)
-    requires room { vec_len list.old < vec_capacity list.old }
-    requires covers { Covers marks.old.marks.items list.old.items }
-    requires covers_other { Covers other_marks.now.marks.items other.old.items }
-    ensures covers { Covers marks.new.marks.items list.new.items }
-    ensures covers_other { Covers other_marks.now.marks.items other.new.items }
-    ensures pends { Pends row list.old.items list.new.items other.old.items other.new.items }
-    ensures score { row.0 ≤ℤ greatest }
-    ensures len { vec_len list.new ≤ vec_len list.old + 1 }
-    ensures len_other { vec_len other.new ≤ vec_len other.old }
+/// Puts the rows with scores in the range last, and answers how many others there are.
+fn partition_within<A: Allocator>(list: &mut Vec<Row<A>, A>, range: &Range) -> usize
+    ensures rows { IsPermutation list.old.items list.new.items }
+    ensures others { result ≤ length list.new.items }
+    ensures within { AllWithin (λ r. has_score_in range.now r ≡ true) list.new.items result (length list.new.items) }
     ensures capacity { vec_capacity list.new ≡ vec_capacity list.old }
-    ensures capacity_other { vec_capacity other.new ≡ vec_capacity other.old }
 {
-    match find_marked(other, other_marks, &row) {
-        Some(i) => {
-            let _withdrawn = other.swap_remove(i);
-        }
-        None => {
-            marks.mark(&row);
-            list.push_reserved(row);
+    let mut others = 0;
+    for i in 0..list.len() {
+        let inside = is_within(&list[i], range);
+        list.swap(i, others);
+        if !inside {
+            others += 1;
         }
     }
+    others
 }
 
-/// Makes room for `n` more rows in each of the two lists of rows that wait. Where one would grow
-/// past 2,048 rows, all that waits is merged first. Refused, it leaves the content.
-pub fn reserve_write<A: Allocator + Copy>(
-    rows: &mut Rows<A>,
-    pivots: &mut Pivots<A>,
-    deletions: &mut Vec<Row<A>, A>,
-    deletion_marks: &mut ScoreMarks<A>,
-    insertions: &mut Vec<Row<A>, A>,
-    insertion_marks: &mut ScoreMarks<A>,
-    n: usize,
-) -> Result<(), AllocError>
-    requires n { n ≤ 1027 }
-    requires law { ObeysPivots pivots.old.list rows.old.items }
-    requires part { IsSubBag deletions.old.items rows.old.items }
-    requires covers_deletions { Covers deletion_marks.old.marks.items deletions.old.items }
-    requires covers_insertions { Covers insertion_marks.old.marks.items insertions.old.items }
-    requires few_deletions { length deletions.old.items ≤ 2048 }
-    requires few_insertions { length insertions.old.items ≤ 2048 }
-    ensures law { ObeysPivots pivots.new.list rows.new.items }
-    ensures part { IsSubBag deletions.new.items rows.new.items }
-    ensures content { KeepsContent rows.old.items insertions.old.items deletions.old.items rows.new.items
-        insertions.new.items deletions.new.items }
-    ensures less_deletions { IsSubBag deletions.new.items deletions.old.items }
-    ensures less_insertions { IsSubBag insertions.new.items insertions.old.items }
-    ensures values { values pivots.new.list ≡ values pivots.old.list }
-    ensures covers_deletions { Covers deletion_marks.new.marks.items deletions.new.items }
-    ensures covers_insertions { Covers insertion_marks.new.marks.items insertions.new.items }
-    ensures room_deletions { OnOk result (vec_len deletions.new + n ≤ min (vec_capacity deletions.new) 2048) }
-    ensures room_insertions { OnOk result (vec_len insertions.new + n ≤ min (vec_capacity insertions.new) 2048) }
-
-    // All is merged exactly where one of the lists would grow too long.
-    ensures merged_deletions { OnOk result (2048 < max (length deletions.old.items) (length insertions.old.items) + n
-        → deletions.new.items ≡ []) }
-    ensures merged_insertions { OnOk result (2048 < max (length deletions.old.items) (length insertions.old.items) + n
-        → insertions.new.items ≡ []) }
-    ensures still_rows { max (length deletions.old.items) (length insertions.old.items) + n ≤ 2048
-        → rows.new.items ≡ rows.old.items }
-    ensures still_pivots { max (length deletions.old.items) (length insertions.old.items) + n ≤ 2048
-        → pivots.new.list ≡ pivots.old.list }
-    ensures still_deletions { max (length deletions.old.items) (length insertions.old.items) + n ≤ 2048
-        → deletions.new.items ≡ deletions.old.items }
-    ensures still_insertions { max (length deletions.old.items) (length insertions.old.items) + n ≤ 2048
-        → insertions.new.items ≡ insertions.old.items }
+/// Sorts rows by falling scores.
+fn sort_falling<A: Allocator>(rows: &mut [Row<A>])
+    ensures { IsPermutation rows.old rows.new }
 {
-    if deletions.len().max(insertions.len()) + n > MAX_PENDING {
-        merge_all(rows, pivots, deletions, insertions)?;
-    }
-    renew(insertions, insertion_marks)?;
-    renew(deletions, deletion_marks)?;
-    insertions.reserve(n)?;
-    deletions.reserve(n)
+    rows.sort_unstable_by(|x, y| y.score().cmp(&x.score()));
+}
+
+/// Sorts the rows from the index `from` on by falling scores.
+fn sort_from<A: Allocator>(rows: &mut [Row<A>], from: usize)
+    requires { from ≤ length rows.old }
+    ensures rows { IsPermutation rows.old rows.new }
+    ensures before { take from rows.new ≡ take from rows.old }
+{
+    sort_falling(&mut rows[from..]);
+}
+
+/// Sorts the rows of a list from the index `from` on by falling scores.
+fn sort_tail<A: Allocator>(list: &mut Vec<Row<A>, A>, from: usize)
+    requires { from ≤ length list.old.items }
+    ensures rows { IsPermutation list.old.items list.new.items }
+    ensures before { take from list.new.items ≡ take from list.old.items }
+    ensures capacity { vec_capacity list.new ≡ vec_capacity list.old }
+{
+    sort_from(list, from);
+}
+
+/// Turns the order of the rows from the index `from` on round.
+fn reverse_from<A: Allocator>(rows: &mut [Row<A>], from: usize)
+    requires { from ≤ length rows.old }
+    ensures rows { IsPermutation rows.old rows.new }
+    ensures before { take from rows.new ≡ take from rows.old }
+{
+    rows[from..].reverse();
+}
+
+/// Turns the order of the rows of a list from the index `from` on round.
+fn reverse_tail<A: Allocator>(list: &mut Vec<Row<A>, A>, from: usize)
+    requires { from ≤ length list.old.items }
+    ensures rows { IsPermutation list.old.items list.new.items }
+    ensures before { take from list.new.items ≡ take from list.old.items }
+    ensures capacity { vec_capacity list.new ≡ vec_capacity list.old }
+{
+    reverse_from(list, from);
+}
+
+/// Puts the rows with scores in the range last, by falling scores, and answers how many others
+/// there are.
+fn line_up<A: Allocator>(list: &mut Vec<Row<A>, A>, range: &Range) -> usize
+    ensures rows { IsPermutation list.old.items list.new.items }
+    ensures others { result ≤ length list.new.items }
+    ensures arriving { length list.new.items ≤ result + count_by (has_score_in range.now) list.old.items }
+    ensures outside { (p : Test) → count_by (λ r. p r && not (has_score_in range.now r)) (take result list.new.items)
+        ≡ count_by (λ r. p r && not (has_score_in range.now r)) list.old.items }
+    ensures capacity { vec_capacity list.new ≡ vec_capacity list.old }
+{
+    let others = partition_within(list, range);
+    sort_tail(list, others);
+    others
 }

@@ -7,8 +7,8 @@
 ghost use Rattle.std.specs.Prelude.{◌≡◌, ◌-◌, ◌<◌, ◌≤◌, ◌==◌, ◌++◌, ◌∷◌, [], pos, if◌then◌else◌, length, Contains, IsPermutation, slice_index_or, vec_len, vec_capacity};
 ghost use Rattle.std.specs.List.{HoldsAt};
 ghost use Rattle.crack_kernel.specs.PivotList.{ObeysPivots};
-ghost use Rattle.ripple_column.specs.Pieces.{StandsWithin};
-ghost use Rattle.ripple_column.specs.Cuts.{values};
+ghost use Rattle.ripple_column.specs.RowPlace.{StandsWithin};
+ghost use Rattle.ripple_column.specs.Merge.{KeepsFrame};
 
 use crate::rows::Rows;
 use crack_kernel::{Pivots, Row};
@@ -20,9 +20,7 @@ pub fn ripple_insert<A: Allocator>(rows: &mut Rows<A>, pivots: &mut Pivots<A>, r
     requires room { vec_len rows.old < vec_capacity rows.old }
     ensures rows { IsPermutation (rows.old.items ++ row ∷ []) rows.new.items }
     ensures law { ObeysPivots pivots.new.list rows.new.items }
-    ensures values { values pivots.new.list ≡ values pivots.old.list }
-    ensures spare { pivots.new.spare ≡ pivots.old.spare }
-    ensures capacity { vec_capacity rows.new ≡ vec_capacity rows.old }
+    ensures frame { KeepsFrame rows.old pivots.old rows.new pivots.new }
 {
     let first = pivots.count_upto(row.score());
     let mut hole = rows.len();
@@ -50,9 +48,7 @@ pub fn ripple_remove<A: Allocator>(
     ensures gone { result ≡ row.now }
     ensures rows { IsPermutation rows.old.items (rows.new.items ++ row.now ∷ []) }
     ensures law { ObeysPivots pivots.new.list rows.new.items }
-    ensures values { values pivots.new.list ≡ values pivots.old.list }
-    ensures spare { pivots.new.spare ≡ pivots.old.spare }
-    ensures capacity { vec_capacity rows.new ≡ vec_capacity rows.old }
+    ensures frame { KeepsFrame rows.old pivots.old rows.new pivots.new }
 {
     let list = pivots.list();
     let first = pivots.count_upto(row.score());

@@ -4,7 +4,7 @@ ghost use Rattle.std.specs.Prelude.{◌≡◌, ◌+◌, ◌-◌, ◌<◌, ◌≤
 ghost use Rattle.std.specs.List.{AllWithin, SwappedAt, swap};
 ghost use Rattle.crack_kernel.specs.Parts.{ChangesWithin, IsBelow, IsFrom};
 
-use crate::filter::{ScoreFilter, fingerprint_of};
+use crate::bloom_filter::{ScoreFilter, fingerprint_of};
 use crack_kernel::{Row, crack_piece};
 use std::alloc::{AllocError, Allocator};
 use std::marker::Model;
@@ -45,7 +45,7 @@ impl<A: Allocator> Rows<A> {
         &self.rows
     }
 
-    /// Makes room for `additional` more rows and their fingerprints. Refused, it leaves the rows.
+    /// Makes room for `additional` more rows and their fingerprints. On Err, the rows are unchanged.
     pub fn reserve(&mut self, additional: usize) -> Result<(), AllocError>
         ensures items { self.new.items ≡ self.old.items }
         ensures len { vec_len self.new ≡ vec_len self.old }

@@ -1,5 +1,5 @@
 ghost use Rattle.std.specs.Prelude.{◌≡◌, ◌+◌, ◌∷◌, [], count_by, OnOk};
-ghost use Rattle.crack_kernel.specs.Bags.{Test};
+ghost use Rattle.crack_kernel.specs.RowBag.{Test};
 ghost use Rattle.ripple_column.specs.Content.{HasRow, SameContent, content_count};
 
 use super::*;

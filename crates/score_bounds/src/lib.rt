@@ -11,6 +11,3 @@ mod texts;
 
 pub use bounds::{Bound, Cut, Range};
 pub use texts::{read_integer, read_score, write_score};
-
-#[cfg(test)]
-mod tests;

@@ -1,5 +1,3 @@
-pub mod Told
-pub mod Talks
-pub mod Held
-pub mod Nexts
-pub mod Underway
+pub mod ExchangeLemmas
+pub mod HeldRequests
+pub mod ServeProgress

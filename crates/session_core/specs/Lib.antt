@@ -1,5 +1,5 @@
-pub mod Talk
-pub mod Session
-pub mod Sending
-pub mod Serving
-pub mod Owners
+pub mod Exchange
+pub mod SessionEnd
+pub mod SendOutcome
+pub mod ServeSteps
+pub mod OwnerAnswers

@@ -2,10 +2,10 @@
 
 ghost use Rattle.std.specs.Prelude.{Result, ⊤};
 ghost use Rattle.resp_wire.specs.Response.{Response, response_of};
-ghost use Rattle.zset_core.specs.Meaning.{Asked};
+ghost use Rattle.zset_core.specs.CommandMeaning.{Asked};
 ghost use Rattle.zset_core.specs.declared.refusal.Refusal.{Refusal as RefusalValue};
-ghost use Rattle.session_core.specs.Owners.{IsIdle, OwnerAnswers, LoggedAnswers};
-ghost use Rattle.session_core.specs.Talk.{answer_of, Turn};
+ghost use Rattle.session_core.specs.OwnerAnswers.{IsIdle, OwnerAnswers, LoggedAnswers};
+ghost use Rattle.session_core.specs.Exchange.{answer_of, Exchange};
 
 use append_log::{LogSink, LoggedOwner};
 use resp_wire::{Reply, Request};
@@ -64,7 +64,7 @@ pub fn respond<R, A: Allocator + Copy, E: Exec<R, A>>(
 ) -> Reply<A>
     requires { E.settled exec.old }
     ensures settled { E.settled exec.new }
-    ensures turn { Turn E.allows exec.old request (response_of result) exec.new }
+    ensures exchange { Exchange E.allows exec.old request (response_of result) exec.new }
 {
     match Command::read(alloc, request) {
         Err(refusal) => Reply::Fault(refusal.text()),

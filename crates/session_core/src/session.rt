@@ -1,18 +1,20 @@
 //! A session, from its first byte to its end.
 
-ghost use Rattle.std.specs.Prelude.{◌≡◌, ℕ, ◌+◌, ◌-◌, ◌≤◌, ◌<◌, ◌^◌, ◌++◌, length, min, None, Err, IfErr, OnOk, OnSome, MatchResult};
+ghost use Rattle.std.specs.Prelude.{◌≡◌, ℕ, ◌+◌, ◌-◌, ◌≤◌, ◌<◌, ◌^◌, [], ◌++◌, length, min, None, Err, IfErr, OnOk, OnSome, MatchResult};
 ghost use Rattle.resp_wire.specs.Stream.{requests, fault};
 ghost use Rattle.std.specs.Io.KnownBytes.{IsAtEnd};
-ghost use Rattle.resp_wire.specs.Device.{Rose, risen};
-ghost use Rattle.session_core.specs.Session.{Served};
-ghost use Rattle.session_core.specs.Sending.{DrainFailed, SourceFailed, SentOn};
+ghost use Rattle.resp_wire.specs.Device.{Rose, saturating_succ};
+ghost use Rattle.session_core.specs.SessionEnd.{Served};
+ghost use Rattle.session_core.specs.SendOutcome.{DrainFailed, SourceFailed, SentOn};
 ghost use Rattle.session_core.specs.declared.fault.SessionFault.TheVariants.{WriteFault, TooManyReads};
-ghost use Rattle.session_core.specs.Serving.{IsSmall, AnsweredOne, HaltedOne, Answered, Halted, Round, fed};
+ghost use Rattle.session_core.specs.ServeSteps.{IsSmall, IsBetweenReads, StaysSmall, AnsweredOne, HaltedOne, Answered, Halted, Round, fed};
 
 use crate::exec::{Exec, respond};
 use crate::fault::{Ended, SessionFault};
 use crate::replies::{send, tell_fault};
-use resp_wire::{ByteDrain, ByteSource, Decoder, Request, WireFault, cut, longest};
+use resp_wire::{
+    ByteDrain, ByteSource, Decoder, MAX_READ_BUFFER, MAX_READS, Request, WireFault, laws,
+};
 use std::alloc::Allocator;
 
 /// How far a session came.
@@ -22,81 +24,6 @@ pub struct Progress {
     pub requests: u64,
     /// The bytes of replies that are out.
     pub out: u128,
-}
-
-/// Runs a request, and sends its reply.
-fn answer<R, A: Allocator + Copy, D: ByteDrain, E: Exec<R, A>>(
-    rt: &R,
-    alloc: A,
-    request: Request<A>,
-    drain: &mut D,
-    text: &mut Vec<u8, A>,
-    exec: &mut E,
-    progress: &mut Progress,
-) -> Result<(), SessionFault>
-    requires settled { E.settled exec.old }
-    requires few { progress.old.requests < 2 ^ 60 }
-    requires room { progress.old.out < 2 ^ 127 }
-    ensures settled { E.settled exec.new }
-    ensures answered { OnOk result
-        (AnsweredOne E.allows exec.old request progress.old (D.told drain.old) exec.new progress.new
-        (D.told drain.new)) }
-    ensures grown { OnOk result (progress.new.out < progress.old.out + 2 ^ 64) }
-    ensures halted { IfErr result
-        (λ end. HaltedOne E.allows exec.old request progress.old.out (D.told drain.old) end exec.new
-        (D.told drain.new)) }
-    ensures failures { MatchResult result (λ _. D.failures drain.new ≡ D.failures drain.old)
-        (λ end. DrainFailed end (D.failures drain.old) (D.failures drain.new)) }
-    ensures sent_on { IfErr result (λ end. SentOn end (D.told drain.new) (D.flushed drain.new)) }
-{
-    let reply = respond(rt, alloc, exec, request);
-    send(drain, text, &mut progress.out, &reply)?;
-    progress.requests += 1;
-    Ok(())
-}
-
-/// Runs the requests that the decoder holds, each after the reply before it was written whole.
-fn answer_held<R, A: Allocator + Copy, D: ByteDrain, E: Exec<R, A>>(
-    rt: &R,
-    alloc: A,
-    decoder: &mut Decoder<A>,
-    drain: &mut D,
-    text: &mut Vec<u8, A>,
-    exec: &mut E,
-    progress: &mut Progress,
-) -> Result<(), SessionFault>
-    requires settled { E.settled exec.old }
-    requires unfaulted { decoder.old.fault ≡ None }
-    requires small { IsSmall decoder.old progress.old }
-    ensures settled { E.settled exec.new }
-    ensures small { OnOk result (IsSmall decoder.new progress.new) }
-    ensures answered { OnOk result
-        (Answered E.allows exec.old decoder.old progress.old (D.told drain.old) exec.new decoder.new
-        progress.new (D.told drain.new)) }
-    ensures halted { IfErr result
-        (λ end. Halted E.allows exec.old (requests decoder.old.held) (fault decoder.old.held)
-        progress.old.out (D.told drain.old) end exec.new (D.told drain.new)) }
-    ensures failures { MatchResult result (λ _. D.failures drain.new ≡ D.failures drain.old)
-        (λ end. DrainFailed end (D.failures drain.old) (D.failures drain.new)) }
-    ensures sent_on { IfErr result (λ end. SentOn end (D.told drain.new) (D.flushed drain.new)) }
-{
-    'requests: loop {
-        match decoder.next() {
-            Err(wire_fault) => {
-                return Err(match wire_fault {
-                    WireFault::NoMemory => SessionFault::NoMemory,
-                    WireFault::Protocol(fault) => tell_fault(drain, text, &mut progress.out, fault),
-                });
-            }
-            Ok(next) => match next {
-                None => {
-                    longest();
-                    return Ok(());
-                }
-                Some(request) => answer(rt, alloc, request, drain, text, exec, progress)?,
-            },
-        }
-    }
 }
 
 /// What a session keeps between its reads.
@@ -109,42 +36,178 @@ struct Session<A: Allocator> {
     progress: Progress,
 }
 
-/// Takes the next piece of the input, and answers all requests that are whole then.
-fn take_piece<R, A: Allocator + Copy, D: ByteDrain, E: Exec<R, A>>(
-    rt: &R,
-    session: &mut Session<A>,
-    piece: &[u8],
-    drain: &mut D,
-    exec: &mut E,
-) -> Result<(), SessionFault>
-    requires settled { E.settled exec.old }
-    requires unfaulted { session.old.decoder.fault ≡ None }
-    requires small { IsSmall (fed session.old.decoder piece.now) session.old.progress }
-    ensures settled { E.settled exec.new }
-    ensures small { OnOk result (IsSmall session.new.decoder session.new.progress) }
-    ensures answered { OnOk result
-        (Answered E.allows exec.old (fed session.old.decoder piece.now) session.old.progress
-        (D.told drain.old) exec.new session.new.decoder session.new.progress (D.told drain.new)) }
-    ensures halted { IfErr result
-        (λ end. Halted E.allows exec.old (requests (session.old.decoder.held ++ piece.now))
-        (fault (session.old.decoder.held ++ piece.now)) session.old.progress.out (D.told drain.old)
-        end exec.new (D.told drain.new)) }
-    ensures failures { MatchResult result (λ _. D.failures drain.new ≡ D.failures drain.old)
-        (λ end. DrainFailed end (D.failures drain.old) (D.failures drain.new)) }
-    ensures sent_on { IfErr result (λ end. SentOn end (D.told drain.new) (D.flushed drain.new)) }
-{
-    if session.decoder.feed(piece).is_err() {
-        return Err(SessionFault::NoMemory);
+impl<A: Allocator + Copy> Session<A> {
+    /// A session before its first read. It takes no memory.
+    fn new(alloc: A) -> Self
+        ensures decoder { result.decoder ≡ record { held = []; taken = 0; fault = None } }
+        ensures progress { result.progress ≡ record { requests = 0; out = 0 } }
+    {
+        Session {
+            alloc,
+            decoder: Decoder::new(alloc),
+            text: Vec::new(alloc),
+            progress: Progress {
+                requests: 0,
+                out: 0,
+            },
+        }
     }
-    answer_held(
-        rt,
-        session.alloc,
-        &mut session.decoder,
-        drain,
-        &mut session.text,
-        exec,
-        &mut session.progress,
-    )
+
+    /// Runs a request, and sends its reply.
+    fn answer<R, D: ByteDrain, E: Exec<R, A>>(
+        &mut self,
+        rt: &R,
+        request: Request<A>,
+        drain: &mut D,
+        exec: &mut E,
+    ) -> Result<(), SessionFault>
+        requires settled { E.settled exec.old }
+        requires few { self.old.progress.requests < 2 ^ 60 }
+        requires room { self.old.progress.out < 2 ^ 127 }
+        ensures settled { E.settled exec.new }
+        ensures decoder { self.new.decoder ≡ self.old.decoder }
+        ensures answered { OnOk result
+            (AnsweredOne E.allows exec.old request self.old.progress (D.told drain.old) exec.new
+            self.new.progress (D.told drain.new)) }
+        ensures grown { OnOk result (self.new.progress.out < self.old.progress.out + 2 ^ 64) }
+        ensures halted { IfErr result
+            (λ end. HaltedOne E.allows exec.old request self.old.progress.out (D.told drain.old) end
+            exec.new (D.told drain.new)) }
+        ensures failures { MatchResult result (λ _. D.failures drain.new ≡ D.failures drain.old)
+            (λ end. DrainFailed end (D.failures drain.old) (D.failures drain.new)) }
+        ensures sent_on { IfErr result
+            (λ end. SentOn end (D.told drain.new) (D.flushed drain.new)) }
+    {
+        let reply = respond(rt, self.alloc, exec, request);
+        send(drain, &mut self.text, &mut self.progress.out, &reply)?;
+        self.progress.requests += 1;
+        Ok(())
+    }
+
+    /// Runs the requests that the decoder holds, each after the reply before it was written whole.
+    fn answer_held<R, D: ByteDrain, E: Exec<R, A>>(
+        &mut self,
+        rt: &R,
+        drain: &mut D,
+        exec: &mut E,
+    ) -> Result<(), SessionFault>
+        requires settled { E.settled exec.old }
+        requires ready { IsBetweenReads self.old.decoder self.old.progress }
+        ensures settled { E.settled exec.new }
+        ensures small { OnOk result (IsSmall self.new.decoder self.new.progress) }
+        ensures answered { OnOk result
+            (Answered E.allows exec.old self.old.decoder self.old.progress (D.told drain.old)
+            exec.new self.new.decoder self.new.progress (D.told drain.new)) }
+        ensures halted { IfErr result
+            (λ end. Halted E.allows exec.old (requests self.old.decoder.held)
+            (fault self.old.decoder.held) self.old.progress.out (D.told drain.old) end exec.new
+            (D.told drain.new)) }
+        ensures failures { MatchResult result (λ _. D.failures drain.new ≡ D.failures drain.old)
+            (λ end. DrainFailed end (D.failures drain.old) (D.failures drain.new)) }
+        ensures sent_on { IfErr result
+            (λ end. SentOn end (D.told drain.new) (D.flushed drain.new)) }
+    {
+        'requests: loop {
+            match self.decoder.next() {
+                Err(wire_fault) => {
+                    return Err(match wire_fault {
+                        WireFault::NoMemory => SessionFault::NoMemory,
+                        WireFault::Protocol(fault) => {
+                            tell_fault(drain, &mut self.text, &mut self.progress.out, fault)
+                        }
+                    });
+                }
+                Ok(next) => match next {
+                    None => {
+                        // The rest behind the last whole request is no longer than what was held.
+                        laws::longest();
+                        return Ok(());
+                    }
+                    Some(request) => self.answer(rt, request, drain, exec)?,
+                },
+            }
+        }
+    }
+
+    /// Takes the next piece of the input, and answers all requests that are whole then.
+    fn take_piece<R, D: ByteDrain, E: Exec<R, A>>(
+        &mut self,
+        rt: &R,
+        piece: &[u8],
+        drain: &mut D,
+        exec: &mut E,
+    ) -> Result<(), SessionFault>
+        requires settled { E.settled exec.old }
+        requires unfaulted { self.old.decoder.fault ≡ None }
+        requires small { IsSmall (fed self.old.decoder piece.now) self.old.progress }
+        ensures settled { E.settled exec.new }
+        ensures small { OnOk result (IsSmall self.new.decoder self.new.progress) }
+        ensures answered { OnOk result
+            (Answered E.allows exec.old (fed self.old.decoder piece.now) self.old.progress
+            (D.told drain.old) exec.new self.new.decoder self.new.progress (D.told drain.new)) }
+        ensures halted { IfErr result
+            (λ end. Halted E.allows exec.old (requests (self.old.decoder.held ++ piece.now))
+            (fault (self.old.decoder.held ++ piece.now)) self.old.progress.out (D.told drain.old)
+            end exec.new (D.told drain.new)) }
+        ensures failures { MatchResult result (λ _. D.failures drain.new ≡ D.failures drain.old)
+            (λ end. DrainFailed end (D.failures drain.old) (D.failures drain.new)) }
+        ensures sent_on { IfErr result
+            (λ end. SentOn end (D.told drain.new) (D.flushed drain.new)) }
+    {
+        if self.decoder.feed(piece).is_err() {
+            return Err(SessionFault::NoMemory);
+        }
+        self.answer_held(rt, drain, exec)
+    }
+
+    /// Reads once, and answers all requests that are whole then. None: the input may go on.
+    fn read_on<R, S: ByteSource, D: ByteDrain, E: Exec<R, A>>(
+        &mut self,
+        rt: &R,
+        source: &mut S,
+        buffer: &mut [u8],
+        drain: &mut D,
+        exec: &mut E,
+    ) -> Result<Option<Ended>, SessionFault>
+        requires settled { E.settled exec.old }
+        requires ready { IsBetweenReads self.old.decoder self.old.progress }
+        requires some { 1 ≤ length buffer.old }
+        requires room { self.old.decoder.taken + length self.old.decoder.held + length buffer.old
+            < 2 ^ 60 }
+        ensures settled { E.settled exec.new }
+        ensures small { OnOk result (StaysSmall self.old.decoder (length buffer.old)
+            self.new.decoder self.new.progress) }
+        ensures round { Round E.allows exec.old self.old.decoder self.old.progress
+            (S.told source.old) (D.told drain.old) result exec.new self.new.decoder
+            self.new.progress (S.told source.new) (D.told drain.new) }
+        ensures reads { S.calls source.new ≤ S.calls source.old + 1 }
+        ensures once { OnOk result (S.calls source.new ≡ saturating_succ (S.calls source.old)) }
+        ensures source_failures { MatchResult result
+            (λ _. S.failures source.new ≡ S.failures source.old)
+            (λ end. SourceFailed end (S.failures source.old) (S.failures source.new)) }
+        ensures drain_failures { MatchResult result
+            (λ _. D.failures drain.new ≡ D.failures drain.old)
+            (λ end. DrainFailed end (D.failures drain.old) (D.failures drain.new)) }
+        ensures sent_on { MatchResult result
+            (λ next. OnSome next (D.flushed drain.new ≡ D.told drain.new))
+            (λ end. SentOn end (D.told drain.new) (D.flushed drain.new)) }
+    {
+        flush(drain, &self.progress)?;
+        match source.read(buffer) {
+            Err(_) => Err(SessionFault::ReadFault),
+            Ok(0) => {
+                flush(drain, &self.progress)?;
+                Ok(Some(Ended {
+                    requests: self.progress.requests,
+                    rest: self.decoder.rest_len(),
+                }))
+            }
+            Ok(n) => {
+                self.take_piece(rt, &buffer[..n], drain, exec)?;
+                Ok(None)
+            }
+        }
+    }
 }
 
 /// Sends on what the drain holds back.
@@ -162,56 +225,6 @@ fn flush<D: ByteDrain>(drain: &mut D, progress: &Progress) -> Result<(), Session
     }
 }
 
-/// Reads once, and answers all requests that are whole then. None: the input may go on.
-fn read_on<R, A: Allocator + Copy, S: ByteSource, D: ByteDrain, E: Exec<R, A>>(
-    rt: &R,
-    session: &mut Session<A>,
-    source: &mut S,
-    buffer: &mut [u8],
-    drain: &mut D,
-    exec: &mut E,
-) -> Result<Option<Ended>, SessionFault>
-    requires settled { E.settled exec.old }
-    requires unfaulted { session.old.decoder.fault ≡ None }
-    requires some { 1 ≤ length buffer.old }
-    requires room { session.old.decoder.taken + length session.old.decoder.held + length buffer.old
-        < 2 ^ 60 }
-    requires small { IsSmall session.old.decoder session.old.progress }
-    ensures settled { E.settled exec.new }
-    ensures small { OnOk result (IsSmall session.new.decoder session.new.progress) }
-    ensures bytes { OnOk result (session.new.decoder.taken + length session.new.decoder.held
-        ≤ session.old.decoder.taken + length session.old.decoder.held + length buffer.old) }
-    ensures round { Round E.allows exec.old session.old.decoder session.old.progress
-        (S.told source.old) (D.told drain.old) result exec.new session.new.decoder
-        session.new.progress (S.told source.new) (D.told drain.new) }
-    ensures reads { S.calls source.new ≤ S.calls source.old + 1 }
-    ensures once { OnOk result (S.calls source.new ≡ risen (S.calls source.old)) }
-    ensures source_failures { MatchResult result
-        (λ _. S.failures source.new ≡ S.failures source.old)
-        (λ end. SourceFailed end (S.failures source.old) (S.failures source.new)) }
-    ensures drain_failures { MatchResult result (λ _. D.failures drain.new ≡ D.failures drain.old)
-        (λ end. DrainFailed end (D.failures drain.old) (D.failures drain.new)) }
-    ensures sent_on { MatchResult result
-        (λ next. OnSome next (D.flushed drain.new ≡ D.told drain.new))
-        (λ end. SentOn end (D.told drain.new) (D.flushed drain.new)) }
-{
-    flush(drain, &session.progress)?;
-    match source.read(buffer) {
-        Err(_) => Err(SessionFault::ReadFault),
-        Ok(0) => {
-            flush(drain, &session.progress)?;
-            Ok(Some(Ended {
-                requests: session.progress.requests,
-                rest: session.decoder.rest_len(),
-            }))
-        }
-        Ok(n) => {
-            take_piece(rt, session, &buffer[..n], drain, exec)?;
-            Ok(None)
-        }
-    }
-}
-
 /// Serves one connection until its input ends: requests are read from the source and run in turn,
 /// and their replies written to the drain. A reply is out whole before the next request is run; a
 /// refused command is answered by its error text. What the drain holds back is sent on before each
@@ -221,7 +234,7 @@ fn read_on<R, A: Allocator + Copy, S: ByteSource, D: ByteDrain, E: Exec<R, A>>(
 ///
 /// # Errors
 ///
-/// As [`SessionFault`] has them; what was run and written then stands in specs/Session.antt.
+/// As [`SessionFault`] has them; what was run and written then stands in specs/SessionEnd.antt.
 pub fn serve<R, A: Allocator + Copy, S: ByteSource, D: ByteDrain, E: Exec<R, A>>(
     rt: &R,
     alloc: A,
@@ -233,8 +246,8 @@ pub fn serve<R, A: Allocator + Copy, S: ByteSource, D: ByteDrain, E: Exec<R, A>>
 ) -> Result<Ended, SessionFault>
     requires settled { E.settled exec.old }
     requires some { 1 ≤ buffer }
-    requires buffer { buffer ≤ 65536 }
-    requires reads { max_reads ≤ 2 ^ 40 }
+    requires buffer { buffer ≤ MAX_READ_BUFFER }
+    requires reads { max_reads ≤ MAX_READS }
     ensures settled { E.settled exec.new }
     ensures served { Served E.allows exec.old (S.told source.old) (S.told source.new)
         (D.told drain.old) (D.told drain.new) result exec.new }
@@ -252,22 +265,14 @@ pub fn serve<R, A: Allocator + Copy, S: ByteSource, D: ByteDrain, E: Exec<R, A>>
         (λ end. SentOn end (D.told drain.new) (D.flushed drain.new)) }
 {
     // What a stream holds does not depend on the pieces that it comes in.
-    cut();
+    laws::cut();
     let mut piece = match vec![in alloc; 0; buffer] {
         Ok(piece) => piece,
         Err(_) => return Err(SessionFault::NoMemory),
     };
-    let mut session = Session {
-        alloc,
-        decoder: Decoder::new(alloc),
-        text: Vec::new(alloc),
-        progress: Progress {
-            requests: 0,
-            out: 0,
-        },
-    };
+    let mut session = Session::new(alloc);
     'reads: for _ in 0..max_reads {
-        if let Some(ended) = read_on(rt, &mut session, source, &mut piece, drain, exec)? {
+        if let Some(ended) = session.read_on(rt, source, &mut piece, drain, exec)? {
             return Ok(ended);
         }
     }

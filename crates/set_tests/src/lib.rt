@@ -1,12 +1,16 @@
-//! The tests of sets, over the public calls of `zset_core`. They stand apart from it, since a crate
-//! with tests is proved twice. This crate has nothing but tests.
+//! The tests of sets, of scores and of cracks, over public calls. They stand apart from the
+//! crates that they test, since a crate with tests is proved twice. This crate has nothing but tests.
 #![tactic(auto)]
 
 #[cfg(test)]
 mod columns;
 #[cfg(test)]
+mod cracks;
+#[cfg(test)]
 mod examples;
 #[cfg(test)]
 mod readings;
+#[cfg(test)]
+mod score_texts;
 #[cfg(test)]
 mod sizes;

@@ -1,9 +1,9 @@
-//! The commands, by worked talks. Each is served whole and byte by byte.
+//! The commands, by worked exchanges. Each is served whole and byte by byte.
 
-use crate::talking::{Talk, replies_so};
+use crate::exchange::{Exchanges, replies_so};
 use std::test::Fail;
 
-const LISTING: Talk<'static> = &[
+const LISTING: Exchanges<'static> = &[
     ("ZADD k 1 b 1 a 1 B", ":3~"),
     (
         "ZRANGEBYSCORE k -inf +inf WITHSCORES",
@@ -11,14 +11,14 @@ const LISTING: Talk<'static> = &[
     ),
 ];
 
-const TWICE_IN_ONE_COMMAND: Talk<'static> = &[
+const TWICE_IN_ONE_COMMAND: Exchanges<'static> = &[
     ("ZADD k CH 1 a 2 a", ":2~"),
     ("ZCARD k", ":1~"),
     ("ZSCORE k a", "$1~2~"),
     ("ZADD j 1 a 2 a", ":1~"),
 ];
 
-const ENDS_OF_THE_TYPE: Talk<'static> = &[
+const ENDS_OF_THE_TYPE: Exchanges<'static> = &[
     ("ZADD k 9223372036854775807 a", ":1~"),
     ("ZCOUNT k (9223372036854775807 +inf", ":0~"),
     ("ZCOUNT k (9223372036854775806 +inf", ":1~"),
@@ -26,7 +26,7 @@ const ENDS_OF_THE_TYPE: Talk<'static> = &[
     ("ZCOUNT k -inf (-9223372036854775808", ":0~"),
 ];
 
-const BOUNDS: Talk<'static> = &[
+const BOUNDS: Exchanges<'static> = &[
     ("ZADD k 5 a", ":1~"),
     ("ZCOUNT k 5 1", ":0~"),
     ("ZCOUNT k (5 (5", ":0~"),
@@ -38,7 +38,7 @@ const BOUNDS: Talk<'static> = &[
     ("ZCOUNT k 1.5 2", "-ERR 9 min or max is not a score bound~"),
 ];
 
-const REFUSALS: Talk<'static> = &[
+const REFUSALS: Exchanges<'static> = &[
     ("FOO", "-ERR 2 unknown command~"),
     ("ZADD k 1", "-ERR 3 wrong number of arguments~"),
     ("PING a b", "-ERR 3 wrong number of arguments~"),
@@ -65,7 +65,7 @@ const REFUSALS: Talk<'static> = &[
     ("ZCARD k", ":0~"),
 ];
 
-const SUMS: Talk<'static> = &[
+const SUMS: Exchanges<'static> = &[
     ("ZADD k 1 a", ":1~"),
     (
         "ZADD k INCR 9223372036854775807 a",
@@ -78,7 +78,7 @@ const SUMS: Talk<'static> = &[
     ("ZADD k XX CH 7 a 8 b", ":1~"),
 ];
 
-const ONE_STREAM: Talk<'static> = &[
+const ONE_STREAM: Exchanges<'static> = &[
     ("ZADD k 5 a", ":1~"),
     ("ZRANGEBYSCORE k 5 5", "*1~$1~a~"),
     ("ZADD k 1 b 1 a 1 B", ":2~"),
@@ -88,7 +88,7 @@ const ONE_STREAM: Talk<'static> = &[
     ),
 ];
 
-const LIMITS: Talk<'static> = &[
+const LIMITS: Exchanges<'static> = &[
     ("ZADD k 1 a 2 b 3 c 4 d", ":4~"),
     ("ZRANGEBYSCORE k -inf +inf LIMIT 1 2", "*2~$1~b~$1~c~"),
     ("ZRANGEBYSCORE k -inf +inf LIMIT 2 -1", "*2~$1~c~$1~d~"),
@@ -102,7 +102,7 @@ const LIMITS: Talk<'static> = &[
 ];
 
 // The last word of the request that adds 3 is the empty member.
-const REMOVALS: Talk<'static> = &[
+const REMOVALS: Exchanges<'static> = &[
     ("ZADD k 1 a 2 b", ":2~"),
     ("ZREM k a a x", ":1~"),
     ("ZADD k 3 ", ":1~"),
@@ -110,7 +110,7 @@ const REMOVALS: Talk<'static> = &[
     ("ZSCORE k a", "$-1~"),
 ];
 
-const PINGS: Talk<'static> = &[
+const PINGS: Exchanges<'static> = &[
     ("PING hi", "$2~hi~"),
     ("ping", "+PONG~"),
     ("zadd k -3 a", ":1~"),
@@ -119,8 +119,8 @@ const PINGS: Talk<'static> = &[
 ];
 
 #[test]
-fn talks_go_as_worked(rt: HostRuntime) -> Result<(), Fail> {
-    let talks = [
+fn exchanges_go_as_worked(rt: HostRuntime) -> Result<(), Fail> {
+    let sessions = [
         LISTING,
         TWICE_IN_ONE_COMMAND,
         ENDS_OF_THE_TYPE,
@@ -132,8 +132,8 @@ fn talks_go_as_worked(rt: HostRuntime) -> Result<(), Fail> {
         REMOVALS,
         PINGS,
     ];
-    for (number, talk) in talks.iter().enumerate() {
-        assert!(rt; replies_so(&rt, talk)?, "talk {number}");
+    for (number, exchanges) in sessions.iter().enumerate() {
+        assert!(rt; replies_so(&rt, exchanges)?, "session {number}");
     }
     Ok(())
 }

@@ -5,6 +5,8 @@
 #[cfg(test)]
 mod commands;
 #[cfg(test)]
+mod exchange;
+#[cfg(test)]
 mod flushing;
 #[cfg(test)]
 mod logging;
@@ -12,7 +14,5 @@ mod logging;
 mod memory;
 #[cfg(test)]
 mod sessions;
-#[cfg(test)]
-mod talking;
 #[cfg(test)]
 mod wire;

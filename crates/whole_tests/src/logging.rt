@@ -1,10 +1,10 @@
 //! Commands over a log, and records.
 
 ghost use Rattle.std.specs.Prelude.{◌≡◌, IsTrue, IfOk};
-ghost use Rattle.zset_core.specs.Meaning.{is_writing};
-ghost use Rattle.zset_core.specs.View.{IsReady};
+ghost use Rattle.zset_core.specs.CommandMeaning.{is_writing};
+ghost use Rattle.zset_core.specs.Views.{IsPreparedFor};
 
-use crate::talking::bytes_of;
+use crate::exchange::bytes_of;
 use append_log::{Log, LogSink, LoggedOwner, MemorySink, NoSink, Record, SinkFault};
 use resp_wire::{Bytes, BytesList, Request, write_reply};
 use std::alloc::Global;
@@ -63,7 +63,7 @@ fn play<L: Ledger, S: LogSink + Drop>(
     rt: &HostRuntime,
     blank: Blank,
     sink: S,
-    talk: &[&str],
+    commands: &[&str],
 ) -> Result<Played<S>, Fail>
     requires name { blank.name ≡ L.name }
     requires parts { blank.parts ≡ L.parts }
@@ -73,7 +73,7 @@ fn play<L: Ledger, S: LogSink + Drop>(
     let owner = OneOwner::new(alloc, RandomState::new(rt)?);
     let mut logged = LoggedOwner::new(alloc, owner, Log::<_, L>::new(blank, sink, 10));
     let mut replies = Vec::new(alloc);
-    for words in talk {
+    for words in commands {
         let command = command(alloc, words)?;
         if let Ok(reply) = logged.run(&command) {
             write_reply(&reply, &mut replies)?;
@@ -122,7 +122,7 @@ fn a_log_may_keep_nothing(rt: HostRuntime) -> Result<(), Fail> {
 /// An empty set that has prepared a command.
 fn prepared(rt: &HostRuntime, command: &Command<Global>) -> Result<ZSet<RandomState, Global>, Fail>
     requires { IsTrue (is_writing command.now.meaning) }
-    ensures { IfOk result (λ set. IsReady set.members command.now.meaning set.next) }
+    ensures { IfOk result (λ set. IsPreparedFor set.members command.now.meaning set.next) }
 {
     let mut set = ZSet::with_hasher(rt.alloc(), RandomState::new(rt)?);
     match set.prepare(command) {

@@ -1,6 +1,6 @@
-//! Each growth of a session refused in turn.
+//! Each allocation of a session refused in turn.
 
-use crate::talking::{bytes_of, write_words};
+use crate::exchange::{bytes_of, write_words};
 use fuse_alloc::Fuse;
 use resp_wire::{MemoryDrain, MemorySource};
 use session_core::{SessionFault, serve};
@@ -8,8 +8,8 @@ use std::hash::RandomState;
 use std::test::Fail;
 use zset_core::OneOwner;
 
-// One refused growth leaves one of these, or ends the session: the refused request is answered so,
-// and the requests behind it on the sets that then stand.
+// One refused allocation leaves one of these, or ends the session: the refused request is answered
+// so, and the requests behind it on the sets that then stand.
 const REPLIES: [&str; 4] = [
     ":1~*1~$1~a~$2~hi~",
     "-ERR 1 out of memory~*0~$2~hi~",
@@ -18,7 +18,7 @@ const REPLIES: [&str; 4] = [
 ];
 
 #[test]
-fn each_refused_growth_is_told(rt: HostRuntime) -> Result<(), Fail> {
+fn each_refused_allocation_is_told(rt: HostRuntime) -> Result<(), Fail> {
     let alloc = rt.alloc();
     let mut input = Vec::new(alloc);
     for words in ["ZADD k 5 a", "ZRANGEBYSCORE k 5 5", "PING hi"] {
@@ -28,8 +28,8 @@ fn each_refused_growth_is_told(rt: HostRuntime) -> Result<(), Fail> {
     let mut replied = false;
     let mut ended = false;
     let mut failed = false;
-    for growth in 1..1000u64 {
-        let fuse = Fuse::new(alloc, growth);
+    for allocation in 1..1000u64 {
+        let fuse = Fuse::new(alloc, allocation);
         let mut owner = OneOwner::new(&fuse, hasher);
         let mut source = MemorySource::new(&input, 65_536);
         let mut drain = MemoryDrain::new(&fuse, 65_536);
@@ -41,25 +41,25 @@ fn each_refused_growth_is_told(rt: HostRuntime) -> Result<(), Fail> {
                 for text in REPLIES.iter().skip(1) {
                     known = known || drain.bytes() == bytes_of(alloc, text)?.as_slice();
                 }
-                assert!(rt; known, "growth {growth}");
+                assert!(rt; known, "allocation {allocation}");
                 replied = replied || !fuse.is_armed();
             }
             Err(SessionFault::NoMemory) => {
                 assert!(rt;
                     !fuse.is_armed() && all.starts_with(drain.bytes()),
-                    "growth {growth}"
+                    "allocation {allocation}"
                 );
                 ended = true;
             }
             Err(SessionFault::WriteFault(out)) => {
                 assert!(rt;
                     !fuse.is_armed() && all.starts_with(drain.bytes()),
-                    "growth {growth}"
+                    "allocation {allocation}"
                 );
                 assert_eq!(rt; out, drain.bytes().len() as u128);
                 failed = true;
             }
-            Err(other) => assert!(rt; false, "growth {growth}: {other}"),
+            Err(other) => assert!(rt; false, "allocation {allocation}: {other}"),
         }
         if fuse.is_armed() {
             assert_eq!(rt; drain.bytes(), all.as_slice());

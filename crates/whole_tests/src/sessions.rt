@@ -1,6 +1,6 @@
 //! How sessions end.
 
-use crate::talking::{bytes_of, serve_bytes, serve_limited};
+use crate::exchange::{bytes_of, serve_bytes, serve_limited};
 use resp_wire::{ByteDrain, Failed, MemoryDrain, MemorySource, ProtocolFault};
 use session_core::{Ended, SessionFault, serve};
 use std::alloc::Global;

@@ -2,7 +2,10 @@
 
 ghost use Rattle.std.specs.Prelude.{◌≡◌, ◌+◌, length};
 
-use resp_wire::{Bytes, BytesList, Decoder, ProtocolFault, Request, WireFault};
+use resp_wire::{
+    Bytes, BytesList, Decoder, MAX_READ_BUFFER, MAX_READS, ProtocolFault, READ_BUFFER, Request,
+    WireFault,
+};
 use std::alloc::{AllocError, Global};
 use std::test::Fail;
 
@@ -77,4 +80,10 @@ fn requests_keep_their_limits(rt: HostRuntime) -> Result<(), Fail> {
     assert!(rt; request(alloc, 1, 65_536)?.is_some());
     assert!(rt; request(alloc, 1, 65_537)?.is_none());
     Ok(())
+}
+
+#[test]
+fn reads_have_their_sizes(rt: HostRuntime) {
+    assert!(rt; READ_BUFFER == 16_384 && MAX_READ_BUFFER == 65_536);
+    assert!(rt; MAX_READS == 1_099_511_627_776);
 }

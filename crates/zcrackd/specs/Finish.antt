@@ -1,14 +1,15 @@
 -- How the program ends: its exit status, and the lines on standard error.
 use Rattle.std.specs.Prelude.{◌≡◌, ℕ, ◌+◌, ◌-◌, ◌^◌, ◌≤◌, min, map, option_map, List, [], ◌∷◌, Option, None, Some, Result, Ok, Err, MatchResult}
-use Rattle.resp_wire.specs.Faults.{number_of}
-use Rattle.zset_core.specs.Meaning.{Asked}
+use Rattle.resp_wire.specs.FaultTexts.{number_of}
+use Rattle.zset_core.specs.CommandMeaning.{Asked}
 use Rattle.zset_core.specs.declared.refusal.Refusal.{Refusal}
 use Rattle.resp_wire.specs.Response.{Response}
 use Rattle.session_core.specs.declared.fault.Ended.{Ended}
 use Rattle.session_core.specs.declared.fault.SessionFault.{SessionFault}
 use Rattle.session_core.specs.declared.fault.SessionFault.TheVariants as ends
-use Rattle.session_core.specs.Session.{Served}
-use Rattle.session_core.specs.Sending.{SourceFailed, DrainFailed, SentOn}
+use Rattle.session_core.specs.SessionEnd.{Served}
+use Rattle.session_core.specs.SendOutcome.{SourceFailed, DrainFailed, SentOn}
+use Rattle.zcrackd.specs.Devices.{SourceState, DrainState}
 use Rattle.zcrackd.specs.declared.finish.Line.{Line}
 use Rattle.zcrackd.specs.declared.finish.Line.TheVariants as lines
 use Rattle.zcrackd.specs.declared.finish.Finish.{Finish}
@@ -32,7 +33,7 @@ line_without_held held line = line
 abbrev pub without_held : ℕ → Finish → Finish
 without_held held finish = record { status = finish.status; lines = map (option_map (line_without_held held)) finish.lines }
 
--- a session that ended so: status 0 at the end of the input, 4 for want of memory, else 1 with one line
+-- a session that ended so: status 0 at the end of the input, 4 out of memory, else 1 with one line
 abbrev pub finish_of : Result Ended SessionFault → Finish
 finish_of (Ok ended) = record { status = 0; lines = None ∷ None ∷ [] }
 finish_of (Err ends.NoMemory) = record { status = 4; lines = Some lines.OutOfMemory ∷ None ∷ [] }
@@ -46,14 +47,14 @@ abbrev pub most_reads : ℕ
 most_reads = 2 ^ 40
 
 -- a session was served, and the program ends by how it ended; a device's count of failures rose only where the
--- session ends by a fault of that device; `calls` counts the source's reads, which are told to be too many only
--- after the most of them, and `flushed` is what the drain has sent on
+-- session ends by a fault of that device; the source's reads are told to be too many only after the most of them
 pub record Finishes {S : Type 0} (allows : S → Asked → Result Response Refusal → S → Type 0) (start : S)
-    (source₀ source₁ drain₀ drain₁ flushed : Option (List ℕ)) (reads₀ reads₁ writes₀ writes₁ calls₀ calls₁ : ℕ) (finish : Finish) (here : S) : Type 0 where
+    (source₀ source₁ : SourceState) (drain₀ drain₁ : DrainState) (finish : Finish) (here : S) : Type 0 where
   pub result : Result Ended SessionFault
-  pub served : Served allows start source₀ source₁ drain₀ drain₁ result here
-  pub reads : MatchResult result (λ ended. reads₁ ≡ reads₀) (λ end. SourceFailed end reads₀ reads₁)
-  pub writes : MatchResult result (λ ended. writes₁ ≡ writes₀) (λ end. DrainFailed end writes₀ writes₁)
-  pub many : result ≡ Err ends.TooManyReads → min (calls₀ + most_reads) (2 ^ 64 - 1) ≤ calls₁
-  pub sent_on : MatchResult result (λ ended. flushed ≡ drain₁) (λ end. SentOn end drain₁ flushed)
+  pub served : Served allows start source₀.told source₁.told drain₀.told drain₁.told result here
+  pub source_failures : MatchResult result (λ ended. source₁.failures ≡ source₀.failures) (λ end. SourceFailed end source₀.failures source₁.failures)
+  pub drain_failures : MatchResult result (λ ended. drain₁.failures ≡ drain₀.failures) (λ end. DrainFailed end drain₀.failures drain₁.failures)
+  pub reads : source₁.calls ≤ source₀.calls + most_reads
+  pub many : result ≡ Err ends.TooManyReads → min (source₀.calls + most_reads) (2 ^ 64 - 1) ≤ source₁.calls
+  pub sent_on : MatchResult result (λ ended. drain₁.flushed ≡ drain₁.told) (λ end. SentOn end drain₁.told drain₁.flushed)
   pub finish_is : finish ≡ finish_of result

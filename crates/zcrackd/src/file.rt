@@ -3,7 +3,7 @@
 ghost use Rattle.std.specs.Prelude.{◌≡◌, None, IfOk, IfErr, OnOk};
 ghost use Rattle.std.specs.Io.KnownBytes.{append_known};
 ghost use Rattle.resp_wire.specs.Device.{Rose};
-ghost use Rattle.append_log.specs.Files.{Restores};
+ghost use Rattle.append_log.specs.FileOpening.{Restores};
 ghost use Rattle.zcrackd.specs.Files as files;
 ghost use Rattle.zcrackd.specs.Files.{FailsBy, Prints, Renews, Rewrites, ServesFile, ServesFrom};
 ghost use Rattle.zcrackd.specs.declared.finish.Line.TheVariants as lines;
@@ -14,7 +14,7 @@ use append_log::{
     FileSink, Loaded, LockFile, Log, LogSink, LoggedOwner, OpenFault, ReloadFault, RenewFault,
     RewriteFault, open_to_append, open_to_read, write_anew,
 };
-use resp_wire::{ByteDrain, ByteSource};
+use resp_wire::{ByteDrain, ByteSource, write_all};
 use std::alloc::Global;
 use std::fs::Files;
 use std::hash::{BuildHasher, RandomState};
@@ -99,26 +99,36 @@ where
     }
 }
 
-/// Serves the source to the drain from an owner whose changes go to the sink. The blank is of the
-/// ledger that counts its records: one part for the log, one for the owner.
+/// An append file that is open: the owner of the sets that its records replay to, and the sink to
+/// which their changes go.
+#[derive(Drop)]
+struct Opened<K> {
+    owner: OneOwner<RandomState, Global>,
+    sink: K,
+}
+
+/// Serves the source to the drain from an open file. The blank is of the ledger that counts its
+/// records: one part for the log, one for the owner.
 fn serve_logged<L: Ledger, R, K: LogSink + Drop, S: ByteSource, D: ByteDrain>(
     rt: &R,
     alloc: Global,
     blank: Blank,
-    owner: OneOwner<RandomState, Global>,
-    sink: K,
+    opened: Opened<K>,
     source: &mut S,
     drain: &mut D,
 ) -> Finish
     requires name { blank.name ≡ L.name }
     requires parts { blank.parts ≡ L.parts }
     requires two { blank.parts ≡ 2 }
-    requires idle { owner.next ≡ None }
-    ensures { ServesFrom owner.world (S.told source.old) (S.told source.new) (D.told drain.old)
-        (D.told drain.new) (D.flushed drain.new) (S.failures source.old) (S.failures source.new)
-        (D.failures drain.old) (D.failures drain.new) (S.calls source.old) (S.calls source.new)
+    requires idle { opened.owner.next ≡ None }
+    ensures { ServesFrom opened.owner.world
+        (record { told = S.told source.old; calls = S.calls source.old; failures = S.failures source.old })
+        (record { told = S.told source.new; calls = S.calls source.new; failures = S.failures source.new })
+        (record { told = D.told drain.old; flushed = D.flushed drain.old; failures = D.failures drain.old })
+        (record { told = D.told drain.new; flushed = D.flushed drain.new; failures = D.failures drain.new })
         result }
 {
+    let Opened { owner, sink } = opened;
     let log = Log::<_, L>::new(blank, sink, MAX_RECORDS);
     let mut logged = LoggedOwner::new(alloc, owner, log);
     stdio_run(rt, alloc, source, drain, &mut logged)
@@ -136,9 +146,11 @@ pub fn serve_file<R: Files, S: ByteSource, D: ByteDrain>(
 ) -> Finish
 where
     R::File: LockFile,
-    ensures { ServesFile (S.told source.old) (S.told source.new) (D.told drain.old)
-        (D.told drain.new) (D.flushed drain.new) (S.failures source.old) (S.failures source.new)
-        (D.failures drain.old) (D.failures drain.new) (S.calls source.old) (S.calls source.new)
+    ensures { ServesFile
+        (record { told = S.told source.old; calls = S.calls source.old; failures = S.failures source.old })
+        (record { told = S.told source.new; calls = S.calls source.new; failures = S.failures source.new })
+        (record { told = D.told drain.old; flushed = D.flushed drain.old; failures = D.failures drain.old })
+        (record { told = D.told drain.new; flushed = D.flushed drain.new; failures = D.failures drain.new })
         result }
 {
     let mut owner = OneOwner::new(alloc, hasher);
@@ -146,15 +158,8 @@ where
         Ok(opened) => opened,
         Err(line) => return file_fault(line),
     };
-    let finish = serve_logged::<Brand, _, _, _, _>(
-        rt,
-        alloc,
-        Blank::new(2),
-        owner,
-        sink,
-        source,
-        drain,
-    );
+    let opened = Opened { owner, sink };
+    let finish = serve_logged::<Brand, _, _, _, _>(rt, alloc, Blank::new(2), opened, source, drain);
     finish.after_notice(torn_notice(&loaded))
 }
 
@@ -164,20 +169,17 @@ fn print<D: ByteDrain>(drain: &mut D, text: &[u8]) -> Result<(), Line>
     ensures cause { IfErr result (λ line. (line ≡ lines.WriteFault)
         × Rose (D.failures drain.old) (D.failures drain.new)) }
 {
-    let mut taken = 0;
-    while taken < text.len() {
-        match drain.write(&text[taken..]) {
-            Ok(count) => taken += count,
-            Err(_) => return Err(Line::WriteFault),
-        }
+    if write_all(drain, text).is_err() {
+        return Err(Line::WriteFault);
     }
     drain.flush().map_err(|_| Line::WriteFault)
 }
 
 /// Prints the number of records, and gives it.
 fn print_records<D: ByteDrain>(alloc: Global, drain: &mut D, records: u64) -> Result<u64, Line>
-    ensures { Prints records result (D.told drain.old) (D.told drain.new) (D.failures drain.old)
-        (D.failures drain.new) }
+    ensures { Prints records result
+        (record { told = D.told drain.old; flushed = D.flushed drain.old; failures = D.failures drain.old })
+        (record { told = D.told drain.new; flushed = D.flushed drain.new; failures = D.failures drain.new }) }
 {
     let Ok(text) = format!(in alloc; "records {records}\n") else {
         return Err(Line::OutOfMemory);
@@ -199,8 +201,10 @@ fn renew<R: Files, D: ByteDrain>(
 where
     R::File: LockFile,
     requires { owner.now.next ≡ None }
-    ensures { Renews owner.now.world (D.told drain.old) (D.told drain.new)
-        (D.failures drain.old) (D.failures drain.new) result }
+    ensures { Renews owner.now.world
+        (record { told = D.told drain.old; flushed = D.flushed drain.old; failures = D.failures drain.old })
+        (record { told = D.told drain.new; flushed = D.flushed drain.new; failures = D.failures drain.new })
+        result }
 {
     match write_anew(rt, alloc, path, owner) {
         Ok(records) => match print_records(alloc, drain, records) {
@@ -211,7 +215,7 @@ where
     }
 }
 
-/// Writes the append file `new` with the records of the sets that the append file `old` leads to,
+/// Writes the append file `new` with the records of the sets that the append file `old` replays to,
 /// and prints their number. `old` is locked and read whole before anything is made of `new`, which
 /// must not be there, and is not written to.
 pub fn rewrite_run<R: Files, D: ByteDrain>(
@@ -224,8 +228,10 @@ pub fn rewrite_run<R: Files, D: ByteDrain>(
 ) -> Finish
 where
     R::File: LockFile,
-    ensures { Rewrites (D.told drain.old) (D.told drain.new) (D.failures drain.old)
-        (D.failures drain.new) result }
+    ensures { Rewrites
+        (record { told = D.told drain.old; flushed = D.flushed drain.old; failures = D.failures drain.old })
+        (record { told = D.told drain.new; flushed = D.flushed drain.new; failures = D.failures drain.new })
+        result }
 {
     let mut owner = OneOwner::new(alloc, hasher);
     // The old file stays locked until the new one is whole.

@@ -100,7 +100,7 @@ impl Finish {
         }
     }
 
-    /// The end for want of memory.
+    /// The end out of memory.
     pub fn out_of_memory() -> Self
         ensures { result ≡ record { status = 4; lines = Some lines.OutOfMemory ∷ None ∷ [] } }
     {

@@ -4,17 +4,11 @@ ghost use Rattle.std.specs.Prelude.{◌≡◌, ◌+◌, ◌≤◌};
 ghost use Rattle.zcrackd.specs.Finish.{finish_of, Finishes, most_reads};
 
 use crate::finish::{Finish, Line};
-use resp_wire::{ByteDrain, ByteSource};
+use resp_wire::{ByteDrain, ByteSource, MAX_READS, READ_BUFFER};
 use session_core::{Ended, Exec, SessionFault, serve};
 use std::alloc::Allocator;
 
-/// The bytes that are read at once.
-const BUFFER: usize = 16_384;
-
-/// The most reads of a session: as many as a session may have.
-const MAX_READS: u64 = 1 << 40;
-
-/// How the program ends after a session: with status 0 at the end of the input, 4 for want of
+/// How the program ends after a session: with status 0 at the end of the input, 4 out of
 /// memory, and else 1; a session that did not come to the end of its input has one line.
 fn after_session(session: Result<Ended, SessionFault>) -> Finish
     ensures { result ≡ finish_of session }
@@ -41,13 +35,15 @@ pub fn stdio_run<R, A: Allocator + Copy, S: ByteSource, D: ByteDrain, E: Exec<R,
 ) -> Finish
     requires { E.settled exec.old }
     ensures settled { E.settled exec.new }
-    ensures finishes { Finishes E.allows exec.old (S.told source.old) (S.told source.new)
-        (D.told drain.old) (D.told drain.new) (D.flushed drain.new) (S.failures source.old)
-        (S.failures source.new) (D.failures drain.old) (D.failures drain.new) (S.calls source.old)
-        (S.calls source.new) result exec.new }
+    ensures finishes { Finishes E.allows exec.old
+        (record { told = S.told source.old; calls = S.calls source.old; failures = S.failures source.old })
+        (record { told = S.told source.new; calls = S.calls source.new; failures = S.failures source.new })
+        (record { told = D.told drain.old; flushed = D.flushed drain.old; failures = D.failures drain.old })
+        (record { told = D.told drain.new; flushed = D.flushed drain.new; failures = D.failures drain.new })
+        result exec.new }
     ensures reads { S.calls source.new ≤ S.calls source.old + most_reads }
 {
-    after_session(serve(rt, alloc, source, drain, exec, BUFFER, MAX_READS))
+    after_session(serve(rt, alloc, source, drain, exec, READ_BUFFER, MAX_READS))
 }
 
 #[cfg(test)]

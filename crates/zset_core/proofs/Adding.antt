@@ -1,16 +1,16 @@
 -- What ZADD's words are read as.
-use Rattle.std.proofs.Common.{◌≡◌, ℕ, ◌+◌, ◌*◌, ◌%◌, ◌<◌, ◌≤◌, Bool, true, false, ◌&&◌, cond, List, [], ◌∷◌, length, drop, refl, sym, ap, subst, ◌∙◌, Option, Some, None, Ok, Err, ◌⊎◌, inl, inr, ℤ, arith, length-drop}
+use Rattle.std.proofs.Common.{◌≡◌, ℕ, ◌+◌, ◌*◌, ◌<◌, ◌≤◌, Bool, true, false, ◌&&◌, cond, List, [], ◌∷◌, length, drop, refl, sym, ap, subst, ◌∙◌, Option, Some, None, Ok, Err, ◌⊎◌, inl, inr, ℤ, arith, length-drop}
 use Rattle.std.specs.Prelude.{codes, is_none, option_map, option_and_then}
 use Rattle.std.specs.Option.{ok_or}
-use Rattle.std.proofs.lemmas.Bool.{cond-true, cond-false, eqb-true, eq-eqb, ne_eqb, and_from, and_right, and_left, not_from_true, not_from_false}
+use Rattle.std.proofs.lemmas.Bool.{cond-true, cond-false, eqb-true, and_from, and_right, and_left, not_from_true, not_from_false}
 use Rattle.std.proofs.lemmas.List.{drop-drop, get_or-drop}
 use Rattle.score_bounds.specs.Scores.{score_value}
-use Rattle.zset_core.specs.Meaning as meanings
-use Rattle.zset_core.specs.Form.{word_at, scored}
-use Rattle.zset_core.specs.Asking.{first_of, has_option, are_pairs, asked_flags, add_meaning, add_options, add_pairs, pairs_value, command_conditions, command_meaning}
-use Rattle.zset_core.specs.Reading.{AreAddParts, AreScores, given_value}
-use Rattle.zset_core.specs.declared.name.CommandName.TheVariants as names
-use Rattle.zset_core.specs.declared.pair.Flags.{Flags}
+use Rattle.zset_core.specs.CommandMeaning as meanings
+use Rattle.zset_core.specs.ParsedArguments.{word_at, scored}
+use Rattle.zset_core.specs.CommandGrammar.{first_of, has_option, are_pairs, asked_flags, add_meaning, add_options, add_pairs, pairs_value, command_conditions, command_meaning}
+use Rattle.zset_core.specs.Parsing.{AreAddParts, AreScores, given_value}
+use Rattle.zset_core.specs.declared.command.name.CommandName.TheVariants as names
+use Rattle.zset_core.specs.declared.set.pair_outcome.Flags.{Flags}
 use Rattle.zset_core.specs.declared.refusal.Refusal.{Refusal}
 use Rattle.zset_core.specs.declared.refusal.Refusal.TheVariants.{Syntax, NxAndXx, IncrPair, BadScore}
 use lib.Dec.{eqb}
@@ -27,10 +27,6 @@ third_of a b c d no_a no_b is_c = rw (no_a, no_b, is_c) refl
 
 fourth_of : (a b c d : Bool) → a ≡ false → b ≡ false → c ≡ false → d ≡ true → first_of (add_cases a b c d) ≡ Some BadScore
 fourth_of a b c d no_a no_b no_c is_d = rw (no_a, no_b, no_c, is_d) refl
-
-pub are_pairs-even : (pairs : List (List ℕ)) → 0 < length pairs → length pairs % 2 ≡ 0 → are_pairs pairs ≡ true
-are_pairs-even pairs some even =
-    and_from _ _ (not_from_false _ (ne_eqb (length pairs) 0 (λ none. omega (arith, none)))) (eq-eqb (length pairs % 2) 0 even)
 
 positive : (pairs : List (List ℕ)) → are_pairs pairs ≡ true → 0 < length pairs
 positive [] whole = absurd (let no : ⊥ = cc in no)

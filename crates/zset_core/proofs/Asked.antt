@@ -1,7 +1,7 @@
 -- What a request is read as, by the first refusal whose condition holds and by its meaning.
 use Rattle.std.proofs.Common.{◌≡◌, ℕ, List, refl, Some, None, Ok, Err}
-use Rattle.zset_core.specs.Meaning.{Meaning}
-use Rattle.zset_core.specs.Asking.{first_of, conditions, refusal_of, meaning, asked}
+use Rattle.zset_core.specs.CommandMeaning.{Meaning}
+use Rattle.zset_core.specs.CommandGrammar.{first_of, conditions, refusal_of, meaning, asked}
 use Rattle.zset_core.specs.declared.refusal.Refusal.{Refusal}
 
 pub asked-ok : (words : List (List ℕ)) (value : Meaning) → first_of (conditions words) ≡ None → meaning words ≡ Some value → asked words ≡ Ok value

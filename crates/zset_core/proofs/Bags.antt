@@ -11,11 +11,12 @@ use Rattle.std.specs.Cmp.Lexicographic.{bytes_decides}
 use Rattle.std.proofs.lemmas.Map.Text.{is_eq-slice_cmp}
 use Rattle.std.proofs.lemmas.List.{length-map}
 use Rattle.std.proofs.lemmas.List.Sums.{sum_by-cons}
-use Rattle.crack_kernel.specs.Bags.{Test}
-use Rattle.ripple_column.proofs.Counts.{count_all, count_push}
-use Rattle.zset_core.specs.Sets.{Members, Pair, bytes_cmp, pairs}
-use Rattle.zset_core.specs.Edited.{HasAtMost, IsFew, Notes, Turns}
-use Rattle.zset_core.specs.declared.edits.Edits.{Edits}
+use Rattle.crack_kernel.specs.RowBag.{Test}
+use Rattle.ripple_column.proofs.CallerLemmas.{count_all, count_push}
+use Rattle.zset_core.proofs.Tests.{first, second}
+use Rattle.zset_core.specs.SortedSet.{Members, Pair, bytes_cmp, pairs}
+use Rattle.zset_core.specs.Edits.{HasAtMost, IsFew, Notes, Turns, most_edits}
+use Rattle.zset_core.specs.declared.set.row_edits.Edits.{Edits}
 use Rattle.zset_core.proofs.Bridge.{total, exact}
 use Rattle.zset_core.proofs.Order.{swapped}
 use Rattle.zset_core.proofs.Gathering.{remove_absent}
@@ -30,14 +31,6 @@ count_had p k (Some s) = one p (s, k)
 
 count_cons : (p : Test) (x : Pair) (xs : List Pair) → count_by p (x ∷ xs) ≡ one p x + count_by p xs
 count_cons p x xs = sum_by-cons (λ z. cond (p z) 1 0) x xs
-
-first : (a b : Bool) → T (a && b) → T a
-first true b h = tt
-first false b h = h
-
-second : (a b : Bool) → T (a && b) → T b
-second true b h = h
-second false b h = absurd h
 
 less : (o : Ordering) → T (is_lt o) → o ≡ Less
 less Less h = refl
@@ -121,10 +114,6 @@ unfolding pairs
 count_pairs m = count_all (pairs m) ∙ length-map (fin.entries m) (λ (e : List ℕ × ℤ). (e.1, e.0)) ∙ sym (fin.len-entries m)
 
 module _ {A : Type 0} where
-  -- nothing noted
-  pub Notes-none : (m : Members) (e : Edits A) → Notes 0 m m e e
-  Notes-none m e = record { bags = λ p. omega arith; coming = omega arith; leaving = omega arith }
-
   pub Notes-more : (most more : ℕ) (old new : Members) (e f : Edits A) → most ≤ more → Notes most old new e f → Notes more old new e f
   Notes-more most more old new e f up n = record { bags = n.bags; coming = omega (arith, n.coming); leaving = omega (arith, n.leaving) }
 
@@ -188,7 +177,7 @@ module _ {A : Type 0} where
         leaving = omega (arith, nothing, all, count_pairs old, count_pairs new, count_all e.coming.items, count_all e.leaving.items);
       }
 
-  pub IsFew-noted : (most : ℕ) (old new : Members) (e f : Edits A) → e.coming.items ≡ [] → e.leaving.items ≡ [] → most ≤ 1027 → Notes most old new e f → IsFew f
+  pub IsFew-noted : (most : ℕ) (old new : Members) (e f : Edits A) → e.coming.items ≡ [] → e.leaving.items ≡ [] → most ≤ most_edits → Notes most old new e f → IsFew f
   IsFew-noted most old new e f none nothing few n = record { coming = omega (arith, n.coming, ap length none); leaving = omega (arith, n.leaving, ap length nothing) }
 
   -- nothing changes where nothing is noted

@@ -8,22 +8,22 @@ use Rattle.std.specs.Str.Parse.{signed_digits_value}
 use Rattle.std.specs.Cmp.Lexicographic.{bytes_decides}
 use Rattle.std.specs.FinMap as fin
 use Rattle.std.proofs.lemmas.Bool.{and_parts, ltb-false, not-true}
-use Rattle.resp_wire.specs.Spelling.{IsWord, IsRequest}
+use Rattle.resp_wire.specs.RequestEncoding.{IsArgument, IsRequest}
 use Rattle.resp_wire.specs.Response.{Response, NullBulk}
 use Rattle.score_bounds.specs.Scores.{IsScore, is_score, integer_value, score_value}
-use Rattle.zset_core.specs.Sets.{Members, Pair, bytes_cmp}
-use Rattle.zset_core.specs.Meaning.{Meaning, key_of}
-use Rattle.zset_core.specs.Meaning as meanings
-use Rattle.zset_core.specs.Step.{outcome_of, writes, put_one, put_all, remove_all, sum_of, is_barred, told, step}
+use Rattle.zset_core.specs.SortedSet.{Members, Pair, bytes_cmp}
+use Rattle.zset_core.specs.CommandMeaning.{Meaning, key_of}
+use Rattle.zset_core.specs.CommandMeaning as meanings
+use Rattle.zset_core.specs.Semantics.{outcome_of, writes, put_one, put_all, remove_all, sum_of, is_barred, increase_reply, step}
 use Rattle.zset_core.specs.World.{World, is_empty, set_at, put_set, act_at}
-use Rattle.zset_core.specs.View.{Next, ShowsAt, IsReadyAt}
-use Rattle.zset_core.specs.Form.{word_at}
-use Rattle.zset_core.specs.Asking.{add_options, add_pairs, has_option, pairs_value, add_meaning, increase, asked_flags, command_meaning, meaning, command_named, refusal_of, asked, asked_range, asked_options, RangeOption, is_with_scores, last_limit}
+use Rattle.zset_core.specs.Views.{Next, ShowsAt, IsPreparedAt}
+use Rattle.zset_core.specs.ParsedArguments.{word_at}
+use Rattle.zset_core.specs.CommandGrammar.{add_options, add_pairs, has_option, pairs_value, add_meaning, increase, asked_flags, command_meaning, meaning, command_named, refusal_of, asked, asked_range, asked_options, RangeOption, is_with_scores, last_limit}
 use Rattle.score_bounds.specs.declared.bounds.Range.{Range}
-use Rattle.zset_core.specs.Bounded.{IsSpelled, IsBoundedSet, IsBoundedAt, IsBoundedWorld, PutsSpelled, IsBoundedMeaning}
-use Rattle.zset_core.specs.declared.name.CommandName.{CommandName}
-use Rattle.zset_core.specs.declared.name.CommandName.TheVariants.{Ping, Add, Remove, Score, Card, Count, ListRange}
-use Rattle.zset_core.specs.declared.pair.Flags.{Flags}
+use Rattle.zset_core.specs.BoundedWorld.{IsSpelled, IsBoundedSet, IsBoundedAt, IsBoundedWorld, PutsSpelled, IsBoundedMeaning}
+use Rattle.zset_core.specs.declared.command.name.CommandName.{CommandName}
+use Rattle.zset_core.specs.declared.command.name.CommandName.TheVariants.{Ping, Add, Remove, Score, Card, Count, ListRange}
+use Rattle.zset_core.specs.declared.set.pair_outcome.Flags.{Flags}
 use Rattle.zset_core.specs.declared.refusal.Refusal.{Refusal}
 use Rattle.zset_core.specs.declared.refusal.Refusal.TheVariants.{UnknownCommand}
 use Rattle.zset_core.proofs.Bridge.{total, tied}
@@ -40,7 +40,7 @@ insert_bounded : (m : Members) (k : List ℕ) (s : ℤ) → IsBoundedSet m → I
 insert_bounded m k s bounded spelled q = subst (λ (o : Option ℤ). IfSome o (λ score. IsSpelled (score, q))) (sym (fin.get-insert total m k s q)) (by (eq_by_cmp bytes_cmp q k) refl)
   where
     by : (b : Bool) → eq_by_cmp bytes_cmp q k ≡ b → IfSome (cond b (Some s) (fin.get m q)) (λ score. IsSpelled (score, q))
-    by true e = (spelled.0, subst IsWord (sym (equal_of q k e)) spelled.1)
+    by true e = (spelled.0, subst IsArgument (sym (equal_of q k e)) spelled.1)
     by false e = bounded q
 
 remove_bounded : (m : Members) (k : List ℕ) → IsBoundedSet m → IsBoundedSet (fin.remove m k)
@@ -78,7 +78,7 @@ sum_bounded (Some old) given within = by (is_score (old +ℤ given)) refl
     by false fails = tt
 
 increase_bounded : (f : Flags) (m : Members) (k : List ℕ) (given : ℤ) → IsBoundedSet m → IsSpelled (given, k) → (b : Bool) (sum : Option ℤ) → IfSome sum IsScore
-    → IfSome {T = Members × Response} (cond b (Some (m, NullBulk)) (option_map (λ score. (put_one f m k score, told (outcome_of f (fin.get m k) score) score)) sum)) (λ done. IsBoundedSet done.0)
+    → IfSome {T = Members × Response} (cond b (Some (m, NullBulk)) (option_map (λ score. (put_one f m k score, increase_reply (outcome_of f (fin.get m k) score) score)) sum)) (λ done. IsBoundedSet done.0)
 increase_bounded f m k given bounded spelled true sum within = bounded
 increase_bounded f m k given bounded spelled false None within = tt
 increase_bounded f m k given bounded spelled false (Some score) within = put_one_bounded f m k score bounded (within, spelled.1)
@@ -106,12 +106,12 @@ set_at_bounded w k bounded = by (fin.get w k) (bounded k)
     by None h = empty_bounded
     by (Some m) h = h.members
 
-pub put_set_bounded : (w : World) (k : List ℕ) (m : Members) → IsBoundedWorld w → IsWord k → IsBoundedSet m → IsBoundedWorld (put_set w k m)
+pub put_set_bounded : (w : World) (k : List ℕ) (m : Members) → IsBoundedWorld w → IsArgument k → IsBoundedSet m → IsBoundedWorld (put_set w k m)
 put_set_bounded w k m bounded word set q = subst (λ (o : Option Members). IfSome o (IsBoundedAt q)) (sym (get_put_set w k m q)) (by (eq_by_cmp bytes_cmp q k) refl (is_empty m) refl)
   where
     by : (b : Bool) → eq_by_cmp bytes_cmp q k ≡ b → (none : Bool) → is_empty m ≡ none → IfSome (cond b (cond none None (Some m)) (fin.get w q)) (IsBoundedAt q)
     by true e true n = tt
-    by true e false n = record { key = subst IsWord (sym (equal_of q k e)) word; filled = n; members = set }
+    by true e false n = record { key = subst IsArgument (sym (equal_of q k e)) word; filled = n; members = set }
     by false e none n = bounded q
 
 abbrev told_at : World → Members × Response → World × Response
@@ -120,7 +120,7 @@ told_at w done = (w, done.1)
 abbrev put_at : World → List ℕ → Members × Response → World × Response
 put_at w k done = (put_set w k done.0, done.1)
 
-pub act_bounded : (w : World) (c : Meaning) (end : World) (reply : Response) (k : Option (List ℕ)) → IsBoundedWorld w → IfSome k IsWord → PutsSpelled c → act_at w k c ≡ Some (end, reply) → IsBoundedWorld end
+pub act_bounded : (w : World) (c : Meaning) (end : World) (reply : Response) (k : Option (List ℕ)) → IsBoundedWorld w → IfSome k IsArgument → PutsSpelled c → act_at w k c ≡ Some (end, reply) → IsBoundedWorld end
 act_bounded w c end reply None bounded word puts is = by (step fin.empty c) is
   where
     by : (o : Option (Members × Response)) → option_map (told_at w) o ≡ Some (end, reply) → IsBoundedWorld end
@@ -133,10 +133,10 @@ act_bounded w c end reply (Some k) bounded word puts is = by (step (set_at w k) 
     by (Some done) kept h = subst IsBoundedWorld (let same : put_at w k done ≡ (end, reply) = cc in ap (λ (x : World × Response). x.0) same) (put_set_bounded w k done.0 bounded word kept)
 
 abbrev pub IsBoundedNext : Option (List ℕ × Next) → Type 0
-IsBoundedNext next = IfSome next (λ next. IsWord next.0 × IsBoundedSet next.1.members)
+IsBoundedNext next = IfSome next (λ next. IsArgument next.0 × IsBoundedSet next.1.members)
 
 -- a command that was prepared
-pub ready_bounded_at : (w : World) (c : Meaning) (next : Option (List ℕ × Next)) (k : Option (List ℕ)) → IsBoundedWorld w → IfSome k IsWord → PutsSpelled c → IsReadyAt w k c next → IsBoundedNext next
+pub ready_bounded_at : (w : World) (c : Meaning) (next : Option (List ℕ × Next)) (k : Option (List ℕ)) → IsBoundedWorld w → IfSome k IsArgument → PutsSpelled c → IsPreparedAt w k c next → IsBoundedNext next
 ready_bounded_at w c next None bounded word puts ready = absurd ready
 ready_bounded_at w c next (Some k) bounded word puts ready = by (step (set_at w k) c) (step_bounded (set_at w k) c (set_at_bounded w k bounded) puts) ready
   where
@@ -148,16 +148,16 @@ some_is : {X : Type 0} (a b : X) → Some a ≡ Some b → a ≡ b
 some_is a b e = cc
 
 -- ---- what a request is read as
-each_by_recursion : (ws : List (List ℕ)) → All IsWord ws → AllByRecursion IsWord ws
+each_by_recursion : (ws : List (List ℕ)) → All IsArgument ws → AllByRecursion IsArgument ws
 each_by_recursion [] h = tt
 each_by_recursion (w ∷ ws) h = (h 0 w (omega arith), each_by_recursion ws (λ k d lt. h (suc k) d (omega arith)))
 
-each_drop : (n : ℕ) (ws : List (List ℕ)) → AllByRecursion IsWord ws → AllByRecursion IsWord (drop n ws)
+each_drop : (n : ℕ) (ws : List (List ℕ)) → AllByRecursion IsArgument ws → AllByRecursion IsArgument (drop n ws)
 each_drop zero ws h = h
 each_drop (suc n) [] h = tt
 each_drop (suc n) (w ∷ ws) h = each_drop n ws h.1
 
-word_at_bounded : (ws : List (List ℕ)) (i : ℕ) → AllByRecursion IsWord ws → IsWord (word_at ws i)
+word_at_bounded : (ws : List (List ℕ)) (i : ℕ) → AllByRecursion IsArgument ws → IsArgument (word_at ws i)
 word_at_bounded [] i h = omega arith
 word_at_bounded (w ∷ ws) zero h = h.0
 word_at_bounded (w ∷ ws) (suc i) h = word_at_bounded ws i h.1
@@ -176,7 +176,7 @@ score_bounded : (text : List ℕ) (score : ℤ) → score_value text ≡ Some sc
 unfolding score_value
 score_bounded text score is = integer_bounded _ score (chosen _ _ _ is).1
 
-pairs_spelled : (ws : List (List ℕ)) → AllByRecursion IsWord ws → IfSome (pairs_value ws) (AllByRecursion IsSpelled)
+pairs_spelled : (ws : List (List ℕ)) → AllByRecursion IsArgument ws → IfSome (pairs_value ws) (AllByRecursion IsSpelled)
 unfolding pairs_value
 pairs_spelled [] h = tt
 pairs_spelled (member ∷ []) h = tt
@@ -188,16 +188,16 @@ pairs_spelled (score ∷ member ∷ more) h = by (score_value score) refl (pairs
     by (Some first) e None each = tt
     by (Some first) e (Some others) each = ((score_bounded score first e, h.1.0), each)
 
-pairs_are_spelled : (ws : List (List ℕ)) → AllByRecursion IsWord ws → IfSome (pairs_value (add_pairs ws)) (AllByRecursion IsSpelled)
+pairs_are_spelled : (ws : List (List ℕ)) → AllByRecursion IsArgument ws → IfSome (pairs_value (add_pairs ws)) (AllByRecursion IsSpelled)
 unfolding add_pairs
 pairs_are_spelled ws h = pairs_spelled (drop (length (add_options ws)) (drop 2 ws)) (each_drop (length (add_options ws)) (drop 2 ws) (each_drop 2 ws h))
 
-increase_meant : (key : List ℕ) (f : Flags) (ps : List Pair) (c : Meaning) → IsWord key → AllByRecursion IsSpelled ps → increase key f ps ≡ Some c → IsBoundedMeaning c
+increase_meant : (key : List ℕ) (f : Flags) (ps : List Pair) (c : Meaning) → IsArgument key → AllByRecursion IsSpelled ps → increase key f ps ≡ Some c → IsBoundedMeaning c
 increase_meant key f [] c word each is = absurd (let no : None ≡ Some c = is in cc)
 increase_meant key f (p ∷ []) c word each is = subst IsBoundedMeaning (let same : meanings.Increase key f p.0 p.1 ≡ c = cc in same) (record { key = word; puts = each.0 })
 increase_meant key f (p ∷ q ∷ ps) c word each is = absurd (let no : None ≡ Some c = is in cc)
 
-add_meant : (ws : List (List ℕ)) (ps : List Pair) (c : Meaning) → AllByRecursion IsWord ws → AllByRecursion IsSpelled ps → add_meaning ws ps ≡ Some c → IsBoundedMeaning c
+add_meant : (ws : List (List ℕ)) (ps : List Pair) (c : Meaning) → AllByRecursion IsArgument ws → AllByRecursion IsSpelled ps → add_meaning ws ps ≡ Some c → IsBoundedMeaning c
 add_meant ws ps c words each is = by _ is
   where
     by : (b : Bool)
@@ -206,7 +206,7 @@ add_meant ws ps c words each is = by _ is
     by true h = increase_meant (word_at ws 1) (asked_flags (add_options ws)) ps c (word_at_bounded ws 1 words) each h
     by false h = subst IsBoundedMeaning (let same : meanings.Add (word_at ws 1) (asked_flags (add_options ws)) (has_option (codes "CH") (add_options ws)) ps ≡ c = cc in same) (record { key = word_at_bounded ws 1 words; puts = each })
 
-command_meant : (name : CommandName) (ws : List (List ℕ)) (c : Meaning) → AllByRecursion IsWord ws → command_meaning name ws ≡ Some c → IsBoundedMeaning c
+command_meant : (name : CommandName) (ws : List (List ℕ)) (c : Meaning) → AllByRecursion IsArgument ws → command_meaning name ws ≡ Some c → IsBoundedMeaning c
 command_meant Ping ws c words is = subst IsBoundedMeaning (some_is _ _ is) (record { key = tt; puts = tt })
 command_meant Add ws c words is = by (pairs_value (add_pairs ws)) (pairs_are_spelled ws words) is
   where
@@ -234,11 +234,11 @@ read_as None None c h = absurd (let no : Err UnknownCommand ≡ Ok c = h in cc)
 read_as None (Some d) c h = let same : d ≡ c = cc in ap Some same
 read_as (Some refusal) o c h = absurd (let no : Err refusal ≡ Ok c = h in cc)
 
-meant_by : (name : Option CommandName) (ws : List (List ℕ)) (c : Meaning) → AllByRecursion IsWord ws → option_and_then (λ name. command_meaning name ws) name ≡ Some c → IsBoundedMeaning c
+meant_by : (name : Option CommandName) (ws : List (List ℕ)) (c : Meaning) → AllByRecursion IsArgument ws → option_and_then (λ name. command_meaning name ws) name ≡ Some c → IsBoundedMeaning c
 meant_by None ws c words is = absurd (let no : None ≡ Some c = is in cc)
 meant_by (Some name) ws c words is = command_meant name ws c words is
 
-means_bounded : (ws : List (List ℕ)) (c : Meaning) → AllByRecursion IsWord ws → meaning ws ≡ Some c → IsBoundedMeaning c
+means_bounded : (ws : List (List ℕ)) (c : Meaning) → AllByRecursion IsArgument ws → meaning ws ≡ Some c → IsBoundedMeaning c
 unfolding meaning
 means_bounded ws c words is = meant_by (command_named (word_at ws 0)) ws c words is
 

@@ -13,9 +13,9 @@ use Rattle.std.specs.declared.vec.Vec.{Vec}
 use Rattle.std.proofs.lemmas.Map.{lookup-none}
 use Rattle.std.proofs.lemmas.Map.Keys.{IsDistinct-head, IsDistinct-tail}
 use Rattle.std.proofs.lemmas.Map.Text.{is_eq-slice_cmp}
-use Rattle.zset_core.specs.Sets.{bytes_cmp}
-use Rattle.zset_core.specs.Kept.{Entry, rows_by, members_by, slot_at, same_bytes}
-use Rattle.zset_core.specs.declared.slot.Slot.{Slot}
+use Rattle.zset_core.specs.SortedSet.{bytes_cmp}
+use Rattle.zset_core.specs.StagedEntries.{Entry, rows_by, members_by, slot_at, same_bytes}
+use Rattle.zset_core.specs.declared.set.member_map.ScoreSlot.{ScoreSlot}
 
 pub exact : IsAntisymmetric bytes_cmp
 exact = slice_cmp-IsAntisymmetric nat_cmp-IsAntisymmetric
@@ -34,7 +34,7 @@ module _ {A : Type 0} where
   pub same_equiv : IsEquivalence (same_bytes {A = A})
   same_equiv = on_equiv (λ (v : Vec ℕ A). v.items) nat_list_eq_equiv
 
-  find_bytes : (f : Slot → ℤ) (es : List (Entry A)) (q : List ℕ) → find bytes_cmp q (rows_by f es) ≡ option_map f (slot_at es q)
+  find_bytes : (f : ScoreSlot → ℤ) (es : List (Entry A)) (q : List ℕ) → find bytes_cmp q (rows_by f es) ≡ option_map f (slot_at es q)
   find_bytes f [] q = refl
   find_bytes f (e ∷ es) q = ap (λ b. cond b (Some (f e.1)) (find bytes_cmp q (rows_by f es))) (is_eq-slice_cmp q e.0.items) ∙ by (bytes_eq q e.0.items) (find_bytes f es q)
     where
@@ -43,11 +43,11 @@ module _ {A : Type 0} where
       by false h = h
 
   -- the score of a member, by the entry that it has
-  pub get_members : (f : Slot → ℤ) (es : List (Entry A)) (q : List ℕ) → fin.get (members_by f es) q ≡ option_map f (slot_at es q)
+  pub get_members : (f : ScoreSlot → ℤ) (es : List (Entry A)) (q : List ℕ) → fin.get (members_by f es) q ≡ option_map f (slot_at es q)
   get_members f es q = fin.get-from_entries total (rows_by f es) q ∙ find_bytes f es q
 
   -- entries that differ at one member make sets that differ there
-  pub one_put : (f : Slot → ℤ) (es fs : List (Entry A)) (k : List ℕ) (s : Slot) → ((q : List ℕ) → slot_at fs q ≡ cond (bytes_eq k q) (Some s) (slot_at es q)) → members_by f fs ≡ fin.insert (members_by f es) k (f s)
+  pub one_put : (f : ScoreSlot → ℤ) (es fs : List (Entry A)) (k : List ℕ) (s : ScoreSlot) → ((q : List ℕ) → slot_at fs q ≡ cond (bytes_eq k q) (Some s) (slot_at es q)) → members_by f fs ≡ fin.insert (members_by f es) k (f s)
   one_put f es fs k s after = fin.same_map total exact _ _ (λ q.
       get_members f fs q ∙ ap (option_map f) (after q) ∙ by q (bytes_eq k q) ∙ ap (λ b. cond b (Some (f s)) (option_map f (slot_at es q))) (tied q k)
       ∙ sym (fin.get-insert total (members_by f es) k (f s) q ∙ ap (cond (eq_by_cmp bytes_cmp q k) (Some (f s))) (get_members f es q)))
@@ -57,7 +57,7 @@ module _ {A : Type 0} where
       by q false = refl
 
   -- and entries that lack one member
-  pub one_gone : (f : Slot → ℤ) (es fs : List (Entry A)) (k : List ℕ) → ((q : List ℕ) → slot_at fs q ≡ cond (bytes_eq k q) None (slot_at es q)) → members_by f fs ≡ fin.remove (members_by f es) k
+  pub one_gone : (f : ScoreSlot → ℤ) (es fs : List (Entry A)) (k : List ℕ) → ((q : List ℕ) → slot_at fs q ≡ cond (bytes_eq k q) None (slot_at es q)) → members_by f fs ≡ fin.remove (members_by f es) k
   one_gone f es fs k after = fin.same_map total exact _ _ (λ q.
       get_members f fs q ∙ ap (option_map f) (after q) ∙ by q (bytes_eq k q) ∙ ap (λ b. cond b None (option_map f (slot_at es q))) (tied q k)
       ∙ sym (fin.get-remove total (members_by f es) k q ∙ ap (cond (eq_by_cmp bytes_cmp q k) None) (get_members f es q)))
@@ -71,7 +71,7 @@ module _ {A : Type 0} where
   none_equal x (e ∷ es) h = (h.0, none_equal x es h.1)
 
   -- the number of members is the number of entries
-  pub len_members : (f : Slot → ℤ) (es : List (Entry A)) → IsDistinct same_bytes (keys_of es) → fin.len (members_by f es) ≡ length es
+  pub len_members : (f : ScoreSlot → ℤ) (es : List (Entry A)) → IsDistinct same_bytes (keys_of es) → fin.len (members_by f es) ≡ length es
   len_members f [] d = fin.len-empty bytes_cmp ℤ
   len_members f (e ∷ es) d =
       let none : fin.get (members_by f es) e.0.items ≡ None = get_members f es e.0.items ∙ ap (option_map f) (lookup-none _ es (none_equal e.0 es (IsDistinct-head same_bytes e.0 (keys_of es) d))) in
@@ -82,7 +82,7 @@ module _ {A : Type 0} where
   unfolding KeepsOthers
   other_entries test old new h = h
 
-  pub updates_bytes : {S : Type 0} (bs : List ℕ) (m n : HashMap (Vec ℕ A) Slot S) (w : Option Slot) → UpdatesBy same_bytes (λ k. bytes_eq bs k.items) m n w → (cs : List ℕ) → slot_at n.entries cs ≡ cond (bytes_eq bs cs) w (slot_at m.entries cs)
+  pub updates_bytes : {S : Type 0} (bs : List ℕ) (m n : HashMap (Vec ℕ A) ScoreSlot S) (w : Option ScoreSlot) → UpdatesBy same_bytes (λ k. bytes_eq bs k.items) m n w → (cs : List ℕ) → slot_at n.entries cs ≡ cond (bytes_eq bs cs) w (slot_at m.entries cs)
   updates_bytes bs m n w h cs = by (bytes_eq bs cs) refl
     where
       by : (b : Bool) → bytes_eq bs cs ≡ b → slot_at n.entries cs ≡ cond b w (slot_at m.entries cs)

@@ -16,11 +16,11 @@ use Rattle.std.specs.declared.vec.Vec.{Vec}
 use Rattle.std.proofs.lemmas.Map.Text.{is_eq-slice_cmp}
 use Rattle.std.proofs.lemmas.Map.Entries.{lookup_from_place}
 use Rattle.std.proofs.lemmas.Option.{slice_get-map}
-use Rattle.zset_core.specs.Sets.{Members, bytes_cmp}
-use Rattle.zset_core.specs.Step.{remove_all}
-use Rattle.zset_core.specs.Kept.{Entry, held, members_by, slots, slot_at, same_bytes, bytes_of}
-use Rattle.zset_core.specs.Gathered.{IsGathered}
-use Rattle.zset_core.specs.declared.slot.Slot.{Slot}
+use Rattle.zset_core.specs.SortedSet.{Members, bytes_cmp}
+use Rattle.zset_core.specs.Semantics.{remove_all}
+use Rattle.zset_core.specs.StagedEntries.{Entry, current_score, members_by, slots, slot_at, same_bytes, bytes_of}
+use Rattle.zset_core.specs.RemovalSearch.{AreFound}
+use Rattle.zset_core.specs.declared.set.member_map.ScoreSlot.{ScoreSlot}
 use Rattle.zset_core.proofs.Bridge.{total, exact, same_equiv, get_members}
 
 ties : (q k : List ℕ) → eq_by_cmp bytes_cmp q k ≡ bytes_eq q k
@@ -80,9 +80,9 @@ module _ {A : Type 0} where
   bytes_of-push (x ∷ vs) v = ap (λ l. x.items ∷ l) (bytes_of-push vs v)
 
   -- a name that is no member, or was gathered, changes nothing
-  pub gone_absent : (es : List (Entry A)) (ks : List (List ℕ)) (q : List ℕ) → slot_at es q ≡ None → remove_all (members_by held es) ks ≡ fin.remove (remove_all (members_by held es) ks) q
-  gone_absent es ks q absent = sym (remove_absent (remove_all (members_by held es) ks) q
-      (get-remove_all (members_by held es) ks q ∙ ap (cond (list_any (bytes_eq q) ks) None) (get_members held es q ∙ ap (option_map held) absent) ∙ by (list_any (bytes_eq q) ks)))
+  pub gone_absent : (es : List (Entry A)) (ks : List (List ℕ)) (q : List ℕ) → slot_at es q ≡ None → remove_all (members_by current_score es) ks ≡ fin.remove (remove_all (members_by current_score es) ks) q
+  gone_absent es ks q absent = sym (remove_absent (remove_all (members_by current_score es) ks) q
+      (get-remove_all (members_by current_score es) ks q ∙ ap (cond (list_any (bytes_eq q) ks) None) (get_members current_score es q ∙ ap (option_map current_score) absent) ∙ by (list_any (bytes_eq q) ks)))
     where
       by : (b : Bool) → ◌≡◌ {A = Option ℤ} (cond b None None) None
       by true = refl
@@ -91,53 +91,53 @@ module _ {A : Type 0} where
   pub gone_push : (m : Members) (vs : List (Vec ℕ A)) (v : Vec ℕ A) (q : List ℕ) → v.items ≡ q → remove_all m (bytes_of (vs ++ v ∷ [])) ≡ fin.remove (remove_all m (bytes_of vs)) q
   gone_push m vs v q is = ap (remove_all m) (bytes_of-push vs v) ∙ remove_all-push m (bytes_of vs) v.items ∙ ap (fin.remove (remove_all m (bytes_of vs))) is
 
-  abbrev pub slot_of : Entry A → List ℕ × Slot
+  abbrev pub slot_of : Entry A → List ℕ × ScoreSlot
   slot_of e = (e.0.items, e.1)
 
   -- entries at two places have different members
-  none_there : (x : Vec ℕ A) (es : List (Entry A)) (j : ℕ) (q : List ℕ) (t : Slot) → AllByRecursion (λ y. same_bytes x y ≡ false) (keys_of es) → slice_get (slots es) j ≡ Some (q, t) → bytes_eq x.items q ≡ false
+  none_there : (x : Vec ℕ A) (es : List (Entry A)) (j : ℕ) (q : List ℕ) (t : ScoreSlot) → AllByRecursion (λ y. same_bytes x y ≡ false) (keys_of es) → slice_get (slots es) j ≡ Some (q, t) → bytes_eq x.items q ≡ false
   none_there x [] j q t h at = cc
-  none_there x (e ∷ es) zero q t h at = let is : slot_of e ≡ (q, t) = cc in ap (bytes_eq x.items) (sym (ap (λ (p : List ℕ × Slot). p.0) is)) ∙ h.0
+  none_there x (e ∷ es) zero q t h at = let is : slot_of e ≡ (q, t) = cc in ap (bytes_eq x.items) (sym (ap (λ (p : List ℕ × ScoreSlot). p.0) is)) ∙ h.0
   none_there x (e ∷ es) (suc j) q t h at = none_there x es j q t h.1 at
 
-  one_place : (es : List (Entry A)) (i j : ℕ) (q : List ℕ) (s t : Slot) → IsDistinct same_bytes (keys_of es) → slice_get (slots es) i ≡ Some (q, s) → slice_get (slots es) j ≡ Some (q, t) → i ≡ j
+  one_place : (es : List (Entry A)) (i j : ℕ) (q : List ℕ) (s t : ScoreSlot) → IsDistinct same_bytes (keys_of es) → slice_get (slots es) i ≡ Some (q, s) → slice_get (slots es) j ≡ Some (q, t) → i ≡ j
   unfolding IsDistinct
   one_place [] i j q s t d a b = cc
   one_place (e ∷ es) zero zero q s t d a b = refl
   one_place (e ∷ es) zero (suc j) q s t d a b =
       let is : slot_of e ≡ (q, s) = cc in
-      absurd (true≢false (sym (nat_list_eq_equiv.refl q) ∙ ap (λ k. bytes_eq k q) (sym (ap (λ (p : List ℕ × Slot). p.0) is)) ∙ none_there e.0 es j q t d.0 b))
+      absurd (true≢false (sym (nat_list_eq_equiv.refl q) ∙ ap (λ k. bytes_eq k q) (sym (ap (λ (p : List ℕ × ScoreSlot). p.0) is)) ∙ none_there e.0 es j q t d.0 b))
   one_place (e ∷ es) (suc i) zero q s t d a b =
       let is : slot_of e ≡ (q, t) = cc in
-      absurd (true≢false (sym (nat_list_eq_equiv.refl q) ∙ ap (λ k. bytes_eq k q) (sym (ap (λ (p : List ℕ × Slot). p.0) is)) ∙ none_there e.0 es i q s d.0 a))
+      absurd (true≢false (sym (nat_list_eq_equiv.refl q) ∙ ap (λ k. bytes_eq k q) (sym (ap (λ (p : List ℕ × ScoreSlot). p.0) is)) ∙ none_there e.0 es i q s d.0 a))
   one_place (e ∷ es) (suc i) (suc j) q s t d a b = ap suc (one_place es i j q s t d.1 a b)
 
-  slot_here : (es : List (Entry A)) (p : ℕ) (q : List ℕ) (s : Slot) → IsDistinct same_bytes (keys_of es) → slice_get (slots es) p ≡ Some (q, s) → slot_at es q ≡ Some s
+  slot_here : (es : List (Entry A)) (p : ℕ) (q : List ℕ) (s : ScoreSlot) → IsDistinct same_bytes (keys_of es) → slice_get (slots es) p ≡ Some (q, s) → slot_at es q ≡ Some s
   slot_here es p q s apart at = by (slice_get es p) refl (sym (slice_get-map slot_of es p) ∙ at)
     where
       by : (o : Option (Entry A)) → slice_get es p ≡ o → option_map slot_of o ≡ Some (q, s) → slot_at es q ≡ Some s
       by None is h = cc
       by (Some e) is h =
           let same : slot_of e ≡ (q, s) = cc in
-          ap (slot_at es) (sym (ap (λ (p : List ℕ × Slot). p.0) same)) ∙ lookup_from_place same_equiv es p e.0 e.1 apart is ∙ ap (λ (p : List ℕ × Slot). Some p.1) same
+          ap (slot_at es) (sym (ap (λ (p : List ℕ × ScoreSlot). p.0) same)) ∙ lookup_from_place same_equiv es p e.0 e.1 apart is ∙ ap (λ (p : List ℕ × ScoreSlot). Some p.1) same
 
   -- the set without those gathered
   abbrev pub left : List (Entry A) → List (Vec ℕ A) → Members
-  left es vs = remove_all (members_by held es) (bytes_of vs)
+  left es vs = remove_all (members_by current_score es) (bytes_of vs)
 
-  pub IsGathered-push : (es : List (Entry A)) (seen seen' : BTreeSet ℕ) (vs : List (Vec ℕ A)) (v : Vec ℕ A) (p : ℕ) (q : List ℕ) (s : Slot)
+  pub AreFound-push : (es : List (Entry A)) (seen seen' : BTreeSet ℕ) (vs : List (Vec ℕ A)) (v : Vec ℕ A) (p : ℕ) (q : List ℕ) (s : ScoreSlot)
       → IsDistinct same_bytes (keys_of es) → slice_get (slots es) p ≡ Some (q, s) → v.items ≡ q → contains nat_cmp seen p ≡ false
-      → ((j : ℕ) → contains nat_cmp seen' j ≡ cond (is_eq (nat_cmp p j)) true (contains nat_cmp seen j)) → IsGathered es seen vs → IsGathered es seen' (vs ++ v ∷ [])
-  IsGathered-push es seen seen' vs v p q s apart at is new after old = record {
+      → ((j : ℕ) → contains nat_cmp seen' j ≡ cond (is_eq (nat_cmp p j)) true (contains nat_cmp seen j)) → AreFound es seen vs → AreFound es seen' (vs ++ v ∷ [])
+  AreFound-push es seen seen' vs v p q s apart at is new after old = record {
     same = λ j r t there. after j ∙ here j r t there (is_eq (nat_cmp p j)) refl
         ∙ sym (ap (list_any (bytes_eq r)) (bytes_of-push vs v) ∙ any-push (bytes_eq r) (bytes_of vs) v.items ∙ ap (λ k. list_any (bytes_eq r) (bytes_of vs) || bytes_eq r k) is);
-    count = one_more (length vs) (length (vs ++ v ∷ [])) (fin.len (fin.remove (left es vs) q)) (fin.len (left es vs)) (fin.len (remove_all (members_by held es) (bytes_of (vs ++ v ∷ [])))) (fin.len (members_by held es))
-        (length-append vs (v ∷ [])) (one_less (left es vs) q in_before) (ap fin.len (gone_push (members_by held es) vs v q is)) old.count;
+    count = one_more (length vs) (length (vs ++ v ∷ [])) (fin.len (fin.remove (left es vs) q)) (fin.len (left es vs)) (fin.len (remove_all (members_by current_score es) (bytes_of (vs ++ v ∷ [])))) (fin.len (members_by current_score es))
+        (length-append vs (v ∷ [])) (one_less (left es vs) q in_before) (ap fin.len (gone_push (members_by current_score es) vs v q is)) old.count;
   }
     where
       in_before : is_some (fin.get (left es vs) q) ≡ true
-      in_before = ap is_some (get-remove_all (members_by held es) (bytes_of vs) q ∙ ap (λ b. cond b None (fin.get (members_by held es) q)) (sym (old.same p q s at) ∙ new)
-          ∙ get_members held es q ∙ ap (option_map held) (slot_here es p q s apart at))
+      in_before = ap is_some (get-remove_all (members_by current_score es) (bytes_of vs) q ∙ ap (λ b. cond b None (fin.get (members_by current_score es) q)) (sym (old.same p q s at) ∙ new)
+          ∙ get_members current_score es q ∙ ap (option_map current_score) (slot_here es p q s apart at))
 
       one_more : (a a' b n m end : ℕ) → a' ≡ a + 1 → 1 + b ≡ n → m ≡ b → a + n ≡ end → a' + m ≡ end
       one_more a a' b n m end e f g h = omega arith
@@ -150,12 +150,12 @@ module _ {A : Type 0} where
       or_false true = refl
       or_false false = refl
 
-      here : (j : ℕ) (r : List ℕ) (t : Slot) → slice_get (slots es) j ≡ Some (r, t) → (b : Bool) → is_eq (nat_cmp p j) ≡ b → cond b true (contains nat_cmp seen j) ≡ (list_any (bytes_eq r) (bytes_of vs) || bytes_eq r q)
+      here : (j : ℕ) (r : List ℕ) (t : ScoreSlot) → slice_get (slots es) j ≡ Some (r, t) → (b : Bool) → is_eq (nat_cmp p j) ≡ b → cond b true (contains nat_cmp seen j) ≡ (list_any (bytes_eq r) (bytes_of vs) || bytes_eq r q)
       here j r t there true e =
           let same : p ≡ j = nat_cmp-IsAntisymmetric p j (tie (nat_cmp p j) e) in
-          let both : ◌≡◌ {A = Option (List ℕ × Slot)} (Some (q, s)) (Some (r, t)) = sym at ∙ ap (slice_get (slots es)) same ∙ there in
-          let pair : ◌≡◌ {A = List ℕ × Slot} (q, s) (r, t) = cc in
-          or_true (list_any (bytes_eq r) (bytes_of vs)) ∙ ap (λ b. list_any (bytes_eq r) (bytes_of vs) || b) (sym (ap (λ k. bytes_eq r k) (ap (λ (x : List ℕ × Slot). x.0) pair) ∙ nat_list_eq_equiv.refl r))
+          let both : ◌≡◌ {A = Option (List ℕ × ScoreSlot)} (Some (q, s)) (Some (r, t)) = sym at ∙ ap (slice_get (slots es)) same ∙ there in
+          let pair : ◌≡◌ {A = List ℕ × ScoreSlot} (q, s) (r, t) = cc in
+          or_true (list_any (bytes_eq r) (bytes_of vs)) ∙ ap (λ b. list_any (bytes_eq r) (bytes_of vs) || b) (sym (ap (λ k. bytes_eq r k) (ap (λ (x : List ℕ × ScoreSlot). x.0) pair) ∙ nat_list_eq_equiv.refl r))
         where
           tie : (o : Ordering) → is_eq o ≡ true → o ≡ Equal
           tie Less h = cc

@@ -1,3 +1,4 @@
+pub mod Tests
 pub mod Bridge
 pub mod Staging
 pub mod PairSteps
@@ -22,3 +23,4 @@ mod ListingLaws
 pub mod OwnerViews
 pub mod Bounds
 pub mod OwnerBounds
+pub mod CallerLemmas

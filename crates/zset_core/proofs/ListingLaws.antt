@@ -13,18 +13,11 @@ use Rattle.std.proofs.lemmas.Bool.{and_parts}
 use Rattle.std.proofs.lemmas.Cmp.{int_cmp_total, tied_itself}
 use Rattle.std.proofs.lemmas.List.Folds.{Any-from_list_any, list_any_at}
 use Rattle.std.proofs.lemmas.Map.Views.{any-filter_same}
-use Rattle.zset_core.specs.Sets.{Members, Pair, bytes_cmp, pair_cmp, pairs, marks, listing, IsListedBefore}
+use Rattle.zset_core.proofs.Tests.{first, second}
+use Rattle.zset_core.specs.SortedSet.{Members, Pair, bytes_cmp, pair_cmp, pairs, marks, listing, IsListedBefore}
 use Rattle.zset_core.proofs.Order.{find_marks, has_of_pairs, is_equal, is_pair, is_same, pair_total}
 
 -- ---- the order
-first : (a b : Bool) → T (a && b) → T a
-first true b h = tt
-first false b h = h
-
-second : (a b : Bool) → T (a && b) → T b
-second true b h = h
-second false b h = absurd h
-
 less : (o : Ordering) → T (is_lt o) → o ≡ Less
 less Less h = refl
 less Equal h = absurd h

@@ -17,13 +17,13 @@ use Rattle.std.specs.FinMap.Entries.{below_all, is_some-find}
 use Rattle.std.proofs.lemmas.Cmp.{int_cmp_total, then_total, on_total}
 use Rattle.std.proofs.lemmas.Map.Lookups.{exact_pairs, exact_signed, exact_bytes}
 use Rattle.std.proofs.lemmas.Map.Text.{is_eq-slice_cmp}
-use Rattle.std.proofs.lemmas.List.{length-map}
-use Rattle.std.proofs.lemmas.Map.Views.{any-filter_same}
+use Rattle.std.proofs.lemmas.List.{map-append}
 use Rattle.std.proofs.lemmas.Map.Keys.{sorted_from_all_adjacent, apart_from_distinct, IsDistinct-IsPermutation, IsDistinct-head, IsDistinct-tail, IsDistinct-cons}
 use Rattle.std.proofs.lemmas.List.Sorted.{IsPermutation-map, list_any-IsPermutation}
-use Rattle.zset_core.specs.Sets.{Members, Pair, bytes_cmp, pair_cmp, pairs, marks, listing}
-use Rattle.zset_core.specs.Kept.{Entry, held, rows_by, members_by, slot_at, same_bytes}
-use Rattle.zset_core.specs.Listed.{Shown, picked, pair_of, pairs_of, shown_cmp}
+use Rattle.zset_core.proofs.Tests.{first, second}
+use Rattle.zset_core.specs.SortedSet.{Members, Pair, bytes_cmp, pair_cmp, pairs, marks, listing, whole}
+use Rattle.zset_core.specs.StagedEntries.{Entry, current_score, rows_by, members_by, slot_at, same_bytes}
+use Rattle.zset_core.specs.BorrowedPairs.{Shown, entry_pairs, pair_of, pairs_of, shown_cmp}
 use Rattle.zset_core.proofs.Bridge.{get_members, total}
 
 pub pair_total : IsTotalOrder pair_cmp
@@ -119,14 +119,6 @@ below_apart : (k : List ℕ) (es : List (List ℕ × ℤ)) → T (below_all byte
 below_apart k [] h = tt
 below_apart k (e ∷ es) h = (sym (is_eq-slice_cmp k e.0) ∙ less (bytes_cmp k e.0) (first (is_lt (bytes_cmp k e.0)) (below_all bytes_cmp k es) h), below_apart k es (second (is_lt (bytes_cmp k e.0)) (below_all bytes_cmp k es) h))
   where
-    first : (a b : Bool) → T (a && b) → T a
-    first true b h = tt
-    first false b h = h
-
-    second : (a b : Bool) → T (a && b) → T b
-    second true b h = h
-    second false b h = absurd h
-
     less : (o : Ordering) → T (is_lt o) → is_eq o ≡ false
     less Less h = refl
     less Equal h = absurd h
@@ -136,14 +128,6 @@ sorted_apart : (es : List (List ℕ × ℤ)) → T (is_sorted bytes_cmp es) → 
 unfolding IsDistinct
 sorted_apart [] h = tt
 sorted_apart (e ∷ es) h = (below_apart e.0 es (first (below_all bytes_cmp e.0 es) (is_sorted bytes_cmp es) h), sorted_apart es (second (below_all bytes_cmp e.0 es) (is_sorted bytes_cmp es) h))
-  where
-    first : (a b : Bool) → T (a && b) → T a
-    first true b h = tt
-    first false b h = h
-
-    second : (a b : Bool) → T (a && b) → T b
-    second true b h = h
-    second false b h = absurd h
 
 raw_apart : (es : List (List ℕ × ℤ)) → IsDistinct bytes_eq (keys_of es) → IsDistinct is_pair (map (λ e. (e.1, e.0)) es)
 unfolding IsDistinct
@@ -176,16 +160,6 @@ find_raw (e ∷ es) q = ap (λ b. cond b (Some e.1) (find bytes_cmp q es)) (is_e
 pub has_of_pairs : (m : Members) (q : Pair) → list_any (is_pair q) (pairs m) ≡ is_same (fin.get m q.1) q.0
 unfolding pairs
 has_of_pairs m q = has_pair (fin.entries m) q (sorted_apart (fin.entries m) (fin.entries_sorted m)) ∙ ap (λ r. is_same r q.0) (sym (fin.get-entries m q.1 ∙ find_raw (fin.entries m) q.1))
-
-same_under : (t : ℤ → Bool) (q : Pair) (ps qs : List Pair) → list_any (is_pair q) ps ≡ list_any (is_pair q) qs → list_any (is_pair q) (filter (λ p. t p.0) ps) ≡ list_any (is_pair q) (filter (λ p. t p.0) qs)
-same_under t q ps qs h =
-    any-filter_same (is_pair q) (λ p. t p.0) (t q.0) (λ k e. ap (λ (p : Pair). t p.0) (sym (pair_exact q k (tied (pair_cmp q k) e)))) ps
-    ∙ ap (λ b. t q.0 && b) h ∙ sym (any-filter_same (is_pair q) (λ p. t p.0) (t q.0) (λ k e. ap (λ (p : Pair). t p.0) (sym (pair_exact q k (tied (pair_cmp q k) e)))) qs)
-  where
-    tied : (o : Ordering) → is_eq o ≡ true → o ≡ Equal
-    tied Less e = cc
-    tied Equal e = refl
-    tied Greater e = cc
 
 -- ---- the program's rows
 -- neighbours that do not fall and do not tie rise
@@ -240,9 +214,6 @@ filter_apart t (p ∷ ps) h = by (t p) (filter_apart t ps h.1) (filter_all (λ y
 abbrev pub swapped : List (List ℕ × ℤ) → List Pair
 swapped rows = map (λ e. (e.1, e.0)) rows
 
-abbrev pub entry_pairs : {A : Type 0} → List (Entry A) → List Pair
-entry_pairs {A} es = map (λ (e : Entry A). (held e.1, e.0.items)) es
-
 abbrev pub key_bytes : {A : Type 0} → List (Entry A) → List (List ℕ)
 key_bytes {A} es = map (λ (e : Entry A). e.0.items) es
 
@@ -261,9 +232,9 @@ module _ {A : Type 0} where
   entries_apart [] h = h
   entries_apart (e ∷ es) h = (heads e es h.0, entries_apart es h.1)
     where
-      heads : (e : Entry A) (es : List (Entry A)) → AllByRecursion (λ k. bytes_eq e.0.items k ≡ false) (key_bytes es) → AllByRecursion (λ p. is_pair (held e.1, e.0.items) p ≡ false) (entry_pairs es)
+      heads : (e : Entry A) (es : List (Entry A)) → AllByRecursion (λ k. bytes_eq e.0.items k ≡ false) (key_bytes es) → AllByRecursion (λ p. is_pair (current_score e.1, e.0.items) p ≡ false) (entry_pairs es)
       heads e [] h = h
-      heads e (x ∷ es) h = (is_pair_by (held e.1, e.0.items) (held x.1) x.0.items ∙ ap (λ b. is_eq (int_cmp (held e.1) (held x.1)) && b) h.0 ∙ and_false (is_eq (int_cmp (held e.1) (held x.1))), heads e es h.1)
+      heads e (x ∷ es) h = (is_pair_by (current_score e.1, e.0.items) (current_score x.1) x.0.items ∙ ap (λ b. is_eq (int_cmp (current_score e.1) (current_score x.1)) && b) h.0 ∙ and_false (is_eq (int_cmp (current_score e.1) (current_score x.1))), heads e es h.1)
 
 pub rows_apart : (rows : List Shown) → IsDistinct is_pair (pairs_of rows) → IsDistinct (λ a b. is_pair (pair_of a) (pair_of b)) rows
 unfolding IsDistinct
@@ -275,36 +246,47 @@ rows_apart (r ∷ rows) h = (heads r rows h.0, rows_apart rows h.1)
     heads r (x ∷ rows) h = (h.0, heads r rows h.1)
 
 module _ {A : Type 0} where
-  swap_bytes : (es : List (Entry A)) → swapped (rows_by held es) ≡ entry_pairs es
+  swap_bytes : (es : List (Entry A)) → swapped (rows_by current_score es) ≡ entry_pairs es
   swap_bytes [] = refl
-  swap_bytes (e ∷ es) = ap (λ ps. (held e.1, e.0.items) ∷ ps) (swap_bytes es)
+  swap_bytes (e ∷ es) = ap (λ ps. (current_score e.1, e.0.items) ∷ ps) (swap_bytes es)
 
-  keys_by_bytes : (es : List (Entry A)) → key_bytes es ≡ keys_of (rows_by held es)
+  keys_by_bytes : (es : List (Entry A)) → key_bytes es ≡ keys_of (rows_by current_score es)
   keys_by_bytes [] = refl
   keys_by_bytes (e ∷ es) = ap (λ ks. e.0.items ∷ ks) (keys_by_bytes es)
 
-  lookup_bytes : (es : List (Entry A)) (q : List ℕ) → lookup (bytes_eq q) (rows_by held es) ≡ option_map held (slot_at es q)
+  lookup_bytes : (es : List (Entry A)) (q : List ℕ) → lookup (bytes_eq q) (rows_by current_score es) ≡ option_map current_score (slot_at es q)
   lookup_bytes [] q = refl
-  lookup_bytes (e ∷ es) q = ap (cond (bytes_eq q e.0.items) (Some (held e.1))) (lookup_bytes es q) ∙ by (bytes_eq q e.0.items)
+  lookup_bytes (e ∷ es) q = ap (cond (bytes_eq q e.0.items) (Some (current_score e.1))) (lookup_bytes es q) ∙ by (bytes_eq q e.0.items)
     where
-      by : (b : Bool) → cond b (Some (held e.1)) (option_map held (slot_at es q)) ≡ option_map held (cond b (Some e.1) (slot_at es q))
+      by : (b : Bool) → cond b (Some (current_score e.1)) (option_map current_score (slot_at es q)) ≡ option_map current_score (cond b (Some e.1) (slot_at es q))
       by true = refl
       by false = refl
 
-  has_of_entries : (es : List (Entry A)) (q : Pair) → IsDistinct bytes_eq (key_bytes es) → list_any (is_pair q) (entry_pairs es) ≡ list_any (is_pair q) (pairs (members_by held es))
+  has_of_entries : (es : List (Entry A)) (q : Pair) → IsDistinct bytes_eq (key_bytes es) → list_any (is_pair q) (entry_pairs es) ≡ list_any (is_pair q) (pairs (members_by current_score es))
   has_of_entries es q apart =
-      ap (list_any (is_pair q)) (sym (swap_bytes es)) ∙ has_pair (rows_by held es) q (subst (IsDistinct bytes_eq) (keys_by_bytes es) apart)
-      ∙ ap (λ r. is_same r q.0) (lookup_bytes es q.1 ∙ sym (get_members held es q.1)) ∙ sym (has_of_pairs (members_by held es) q)
+      ap (list_any (is_pair q)) (sym (swap_bytes es)) ∙ has_pair (rows_by current_score es) q (subst (IsDistinct bytes_eq) (keys_by_bytes es) apart)
+      ∙ ap (λ r. is_same r q.0) (lookup_bytes es q.1 ∙ sym (get_members current_score es q.1)) ∙ sym (has_of_pairs (members_by current_score es) q)
 
--- the rows picked from entries, sorted, are the listing
-pub sorted_is_listing : {A : Type 0} (t : ℤ → Bool) (es : List (Entry A)) (rows sorted : List Shown) → IsDistinct same_bytes (keys_of es) → pairs_of rows ≡ picked t es → IsPermutation rows sorted → IsSorted shown_cmp sorted → pairs_of sorted ≡ listing t (members_by held es)
-sorted_is_listing t es rows sorted apart is moved up =
+all_pass : (ps : List Pair) → filter (λ p. true) ps ≡ ps
+all_pass [] = refl
+all_pass (p ∷ ps) = ap (λ l. p ∷ l) (all_pass ps)
+
+-- the empty set has no pair
+pub whole_empty : whole fin.empty ≡ []
+unfolding IsStrictlySortedBy
+whole_empty = sym (listing_is (λ _. true) fin.empty [] tt (λ q.
+    sym (ap (list_any (is_pair q)) (all_pass (pairs fin.empty)) ∙ has_of_pairs fin.empty q ∙ ap (λ (o : Option ℤ). is_same o q.0) (fin.get-empty bytes_cmp q.1))))
+
+-- the pairs of entries, sorted, are the whole listing
+pub sorted_is_whole : {A : Type 0} (es : List (Entry A)) (rows sorted : List Shown) → IsDistinct same_bytes (keys_of es) → pairs_of rows ≡ entry_pairs es → IsPermutation rows sorted → IsSorted shown_cmp sorted
+    → pairs_of sorted ≡ whole (members_by current_score es)
+sorted_is_whole es rows sorted apart is moved up =
     let bytes_apart = distinct_bytes es apart in
-    let pairs_apart : IsDistinct is_pair (pairs_of rows) = subst (IsDistinct is_pair) (sym is) (filter_apart (λ p. t p.0) (entry_pairs es) (entries_apart es bytes_apart)) in
+    let pairs_apart : IsDistinct is_pair (pairs_of rows) = subst (IsDistinct is_pair) (sym is) (entries_apart es bytes_apart) in
     let E : Shown → Shown → Bool = λ a b. is_pair (pair_of a) (pair_of b) in
     let sorted_apart_rows : IsDistinct E sorted = IsDistinct-IsPermutation E (λ x y. (eq_by_cmp_equiv pair_total).symm (pair_of x) (pair_of y)) rows sorted moved (rows_apart rows pairs_apart) in
-    listing_is t (members_by held es) (pairs_of sorted) (rises_pairs sorted (rises sorted up sorted_apart_rows)) (λ q.
-    list_any-IsPermutation_back q ∙ ap (list_any (is_pair q)) is ∙ same_under t q (entry_pairs es) (pairs (members_by held es)) (has_of_entries es q bytes_apart))
+    listing_is (λ _. true) (members_by current_score es) (pairs_of sorted) (rises_pairs sorted (rises sorted up sorted_apart_rows)) (λ q.
+    list_any-IsPermutation_back q ∙ ap (list_any (is_pair q)) is ∙ has_of_entries es q bytes_apart ∙ ap (list_any (is_pair q)) (sym (all_pass (pairs (members_by current_score es)))))
   where
     list_any-IsPermutation_back : (q : Pair) → list_any (is_pair q) (pairs_of sorted) ≡ list_any (is_pair q) (pairs_of rows)
     list_any-IsPermutation_back q = sym (list_any-IsPermutation (is_pair q) (pairs_of rows) (pairs_of sorted) (IsPermutation-map pair_of rows sorted moved))
@@ -323,32 +305,21 @@ len_marks (p ∷ ps) d =
     none_like p [] h = refl
     none_like p (x ∷ ps) h = ap (λ b. b || list_any (is_pair p) ps) h.0 ∙ none_like p ps h.1
 
-pub listing_length : {A : Type 0} (t : ℤ → Bool) (es : List (Entry A)) → IsDistinct same_bytes (keys_of es) → length (listing t (members_by held es)) ≡ length (picked t es)
-unfolding listing
-listing_length t es apart =
-    let bytes_apart = distinct_bytes es apart in
-    let L : List Pair = filter (λ p. t p.0) (pairs (members_by held es)) in
-    let P : List Pair = picked t es in
-    let same : fin.from_entries {R = pair_cmp} (marks L) ≡ fin.from_entries {R = pair_cmp} (marks P) = fin.same_map pair_total pair_exact _ _ (λ q.
-    fin.get-from_entries pair_total (marks L) q ∙ find_marks q L ∙ ap (λ b. cond b (Some tt) None) (sym (same_under t q (entry_pairs es) (pairs (members_by held es)) (has_of_entries es q bytes_apart)))
-    ∙ sym (fin.get-from_entries pair_total (marks P) q ∙ find_marks q P)) in
-    length-map (fin.entries (fin.from_entries {R = pair_cmp} (marks L))) (λ (e : Pair × Unit {0}). e.0) ∙ sym (fin.len-entries (fin.from_entries {R = pair_cmp} (marks L)))
-    ∙ ap fin.len same ∙ len_marks P (filter_apart (λ p. t p.0) (entry_pairs es) (entries_apart es bytes_apart))
-
-pub picked_step : {A : Type 0} (t : ℤ → Bool) (es : List (Entry A)) (i : ℕ) (e : Entry A) → slice_get es i ≡ Some e → picked t (drop i es) ≡ filter (λ p. t p.0) ((held e.1, e.0.items) ∷ []) ++ picked t (drop (suc i) es)
-picked_step t [] i e h = cc
-picked_step {A = A} t (x ∷ es) zero e h =
+entry_pairs_step : {A : Type 0} (es : List (Entry A)) (i : ℕ) (e : Entry A) → slice_get es i ≡ Some e → entry_pairs (drop i es) ≡ (current_score e.1, e.0.items) ∷ entry_pairs (drop (suc i) es)
+entry_pairs_step [] i e h = cc
+entry_pairs_step {A = A} (x ∷ es) zero e h =
     let same : x ≡ e = cc in
-    by (t (held x.1)) ∙ ap (λ (y : Entry A). filter (λ p. t p.0) ((held y.1, y.0.items) ∷ []) ++ picked t es) same
-  where
-    by : (b : Bool) → cond b ((held x.1, x.0.items) ∷ picked t es) (picked t es) ≡ cond b ((held x.1, x.0.items) ∷ []) [] ++ picked t es
-    by true = refl
-    by false = refl
-picked_step t (x ∷ es) (suc i) e h = picked_step t es i e h
+    ap (λ (y : Entry A). (current_score y.1, y.0.items) ∷ entry_pairs es) same
+entry_pairs_step (x ∷ es) (suc i) e h = entry_pairs_step es i e h
 
 -- a loop's step
-pub rows_step : {A : Type 0} (t : ℤ → Bool) (es : List (Entry A)) (i : ℕ) (e : Entry A) (z : ℤ) (m : List ℕ) (done more : List Pair) → slice_get es i ≡ Some e → m ≡ e.0.items → z ≡ held e.1 → more ≡ done ++ filter (λ p. t p.0) ((z, m) ∷ []) → done ++ picked t (drop i es) ≡ picked t es → more ++ picked t (drop (i + 1) es) ≡ picked t es
-rows_step t es i e z m done more at same value pushed all =
-    ap (λ l. l ++ picked t (drop (i + 1) es)) (pushed ∙ ap (λ y. done ++ filter (λ p. t p.0) ((y, m) ∷ [])) value ∙ ap (λ y. done ++ filter (λ p. t p.0) ((held e.1, y) ∷ [])) same)
-    ∙ append_assoc done (filter (λ p. t p.0) ((held e.1, e.0.items) ∷ [])) (picked t (drop (i + 1) es)) ∙ ap (λ j. done ++ (filter (λ p. t p.0) ((held e.1, e.0.items) ∷ []) ++ picked t (drop j es))) (add-one i)
-    ∙ ap (λ l. done ++ l) (sym (picked_step t es i e at)) ∙ all
+pub rows_step : {A : Type 0} (es : List (Entry A)) (i : ℕ) (e : Entry A) (done more : List Shown) (x : Shown) → slice_get es i ≡ Some e → pair_of x ≡ (current_score e.1, e.0.items) → more ≡ done ++ x ∷ []
+    → pairs_of done ++ entry_pairs (drop i es) ≡ entry_pairs es → pairs_of more ++ entry_pairs (drop (i + 1) es) ≡ entry_pairs es
+rows_step es i e done more x at same pushed all =
+    let rest = entry_pairs (drop (suc i) es) in
+    ap (λ (l : List Shown). pairs_of l ++ entry_pairs (drop (i + 1) es)) pushed
+    ∙ ap (λ l. l ++ entry_pairs (drop (i + 1) es)) (map-append pair_of done (x ∷ []))
+    ∙ append_assoc (pairs_of done) (pair_of x ∷ []) (entry_pairs (drop (i + 1) es))
+    ∙ ap (λ j. pairs_of done ++ (pair_of x ∷ entry_pairs (drop j es))) (add-one i)
+    ∙ ap (λ (p : Pair). pairs_of done ++ (p ∷ rest)) same
+    ∙ ap (λ l. pairs_of done ++ l) (sym (entry_pairs_step es i e at)) ∙ all

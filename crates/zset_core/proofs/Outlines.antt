@@ -1,5 +1,5 @@
 -- Counting members that come in and leave.
-use Rattle.std.proofs.Common.{◌≡◌, ◌≢◌, ◌↔◌, IsTrue, ℕ, ◌+◌, ◌-◌, ◌<◌, ◌≤◌, ◌||◌, ◌&&◌, inl, inr, ℤ, Bool, true, false, cond, not, nat_eq, nat_lt, List, [], ◌∷◌, length, take, drop, suc, slice_get, get_or, Option, None, Some, option_map, is_some, IfSome, refl, sym, ap, subst, ◌∙◌, arith, true≢false, drop-cons, add-one}
+use Rattle.std.proofs.Common.{◌≡◌, ◌≢◌, ◌↔◌, IsTrue, ℕ, ◌+◌, ◌-◌, ◌<◌, ◌≤◌, ◌||◌, inl, inr, ℤ, Bool, true, false, cond, not, nat_eq, nat_lt, List, [], ◌∷◌, length, take, drop, suc, slice_get, get_or, Option, None, Some, option_map, is_some, IfSome, refl, sym, ap, subst, ◌∙◌, arith, true≢false, drop-cons, add-one}
 use Rattle.std.specs.Prelude.{T}
 use Rattle.std.specs.List.{AllByRecursion, IsDistinct, list_any, filter}
 use Rattle.std.specs.Map.{keys_of, values_of}
@@ -13,20 +13,21 @@ use Rattle.std.specs.declared.cmp.Ordering.{Ordering}
 use Rattle.std.specs.declared.cmp.Ordering.TheVariants.{Less, Equal, Greater}
 use Rattle.std.proofs.lemmas.List.{length-map}
 use Rattle.std.proofs.lemmas.Map.Text.{is_eq-slice_cmp}
-use Rattle.zset_core.specs.Sets.{Members, bytes_cmp}
-use Rattle.zset_core.specs.Outlined.{missing}
+use Rattle.zset_core.proofs.Tests.{first, second}
+use Rattle.zset_core.specs.SortedSet.{Members, bytes_cmp}
+use Rattle.zset_core.specs.ChangeOutline.{missing}
 use Rattle.std.proofs.lemmas.Bool.Decides.{nat_tests}
 use Rattle.std.proofs.lemmas.Option.{slice_get-map}
 use Rattle.std.proofs.lemmas.Map.Entries.{lookup_from_place}
-use Rattle.zset_core.specs.Kept.{Entry, held, next, members_by, slot_at, same_bytes, rows_by, bytes_of, Stays, IsWaiting, Grows}
-use Rattle.zset_core.specs.declared.slot.Slot.{Slot}
+use Rattle.zset_core.specs.StagedEntries.{Entry, current_score, staged_score, members_by, slot_at, same_bytes, rows_by, bytes_of, Stays, IsWaiting, Grows}
+use Rattle.zset_core.specs.declared.set.member_map.ScoreSlot.{ScoreSlot}
 use Rattle.std.specs.List.{position_or_len}
 use Rattle.std.proofs.Math.Seq.{take-length}
 use Rattle.indexmap.proofs.MapLemmas.{distinct-take}
-use Rattle.zset_core.specs.Outlined.{IsOutline}
-use Rattle.zset_core.specs.Step.{remove_all}
+use Rattle.zset_core.specs.ChangeOutline.{IsOutline}
+use Rattle.zset_core.specs.Semantics.{remove_all}
 use Rattle.std.specs.declared.vec.Vec.{Vec}
-use Rattle.zset_core.specs.declared.outline.Outline.{Outline}
+use Rattle.zset_core.specs.declared.set.change_outline.Outline.{Outline}
 use Rattle.zset_core.proofs.Staging.{rows_take}
 use Rattle.zset_core.proofs.Gathering.{get-remove_all}
 use Rattle.zset_core.proofs.Places.{lookup_take, length_take, keys_of-take}
@@ -48,14 +49,6 @@ below_apart : (k : List ℕ) (es : List (List ℕ × ℤ)) → T (below_all byte
 below_apart k [] h = tt
 below_apart k (e ∷ es) h = (sym (is_eq-slice_cmp k e.0) ∙ less (bytes_cmp k e.0) (first (is_lt (bytes_cmp k e.0)) (below_all bytes_cmp k es) h), below_apart k es (second (is_lt (bytes_cmp k e.0)) (below_all bytes_cmp k es) h))
   where
-    first : (a b : Bool) → T (a && b) → T a
-    first true b h = tt
-    first false b h = h
-
-    second : (a b : Bool) → T (a && b) → T b
-    second true b h = h
-    second false b h = absurd h
-
     less : (o : Ordering) → T (is_lt o) → is_eq o ≡ false
     less Less h = refl
     less Equal h = absurd h
@@ -65,14 +58,6 @@ sorted_apart : (es : List (List ℕ × ℤ)) → T (is_sorted bytes_cmp es) → 
 unfolding IsDistinct
 sorted_apart [] h = tt
 sorted_apart (e ∷ es) h = (below_apart e.0 es (first (below_all bytes_cmp e.0 es) (is_sorted bytes_cmp es) h), sorted_apart es (second (below_all bytes_cmp e.0 es) (is_sorted bytes_cmp es) h))
-  where
-    first : (a b : Bool) → T (a && b) → T a
-    first true b h = tt
-    first false b h = h
-
-    second : (a b : Bool) → T (a && b) → T b
-    second true b h = h
-    second false b h = absurd h
 
 -- ---- counts over lists of names
 -- how many pass none of a test
@@ -224,7 +209,7 @@ module _ {A : Type 0} where
           by j h false e = w.settled j (ap (λ b. b || list_any (λ p. nat_eq p j) qs) e ∙ h)
 
   -- an entry that waits for another score makes two sets
-  pub moved_apart : (es : List (Entry A)) (i : ℕ) (s : Slot) → IsDistinct same_bytes (keys_of es) → slice_get (values_of es) i ≡ Some s → (s.next ≡ s.held → ⊥) → members_by next es ≡ members_by held es → ⊥
+  pub moved_apart : (es : List (Entry A)) (i : ℕ) (s : ScoreSlot) → IsDistinct same_bytes (keys_of es) → slice_get (values_of es) i ≡ Some s → (s.staged ≡ s.current → ⊥) → members_by staged_score es ≡ members_by current_score es → ⊥
   moved_apart es i s apart at ne same = by (slice_get es i) refl (sym (slice_get-map (λ (e : Entry A). e.1) es i) ∙ at)
     where
       by : (o : Option (Entry A)) → slice_get es i ≡ o → option_map (λ (e : Entry A). e.1) o ≡ Some s → ⊥
@@ -232,45 +217,45 @@ module _ {A : Type 0} where
       by (Some e) is h =
           let slot : e.1 ≡ s = cc in
           let here : slot_at es e.0.items ≡ Some e.1 = lookup_from_place same_equiv es i e.0 e.1 apart is in
-          let both : ◌≡◌ {A = Option ℤ} (Some e.1.next) (Some e.1.held) =
-          ap (option_map next) (sym here) ∙ sym (get_members next es e.0.items) ∙ ap (λ (m : Members). fin.get m e.0.items) same ∙ get_members held es e.0.items ∙ ap (option_map held) here in
-          let scores : e.1.next ≡ e.1.held = cc in
-          ne (sym (ap (λ (x : Slot). x.next) slot) ∙ scores ∙ ap (λ (x : Slot). x.held) slot)
+          let both : ◌≡◌ {A = Option ℤ} (Some e.1.staged) (Some e.1.current) =
+          ap (option_map staged_score) (sym here) ∙ sym (get_members staged_score es e.0.items) ∙ ap (λ (m : Members). fin.get m e.0.items) same ∙ get_members current_score es e.0.items ∙ ap (option_map current_score) here in
+          let scores : e.1.staged ≡ e.1.current = cc in
+          ne (sym (ap (λ (x : ScoreSlot). x.staged) slot) ∙ scores ∙ ap (λ (x : ScoreSlot). x.current) slot)
 
-  pub stays_at : (es : List (Entry A)) (i : ℕ) (s : Slot) → slice_get (values_of es) i ≡ Some s → s.next ≡ s.held → IfSome (slice_get es i) Stays
+  pub stays_at : (es : List (Entry A)) (i : ℕ) (s : ScoreSlot) → slice_get (values_of es) i ≡ Some s → s.staged ≡ s.current → IfSome (slice_get es i) Stays
   stays_at es i s at same = by (slice_get es i) (sym (slice_get-map (λ (e : Entry A). e.1) es i) ∙ at)
     where
       by : (o : Option (Entry A)) → option_map (λ (e : Entry A). e.1) o ≡ Some s → IfSome o Stays
       by None h = tt
-      by (Some e) h = let slot : e.1 ≡ s = cc in ap (λ (x : Slot). x.next) slot ∙ same ∙ sym (ap (λ (x : Slot). x.held) slot)
+      by (Some e) h = let slot : e.1 ≡ s = cc in ap (λ (x : ScoreSlot). x.staged) slot ∙ same ∙ sym (ap (λ (x : ScoreSlot). x.current) slot)
 
   -- ---- what ZADD staged
   abbrev pub before : List (Entry A) → ℕ → Members
-  before es kept = members_by held (take kept es)
+  before es kept = members_by current_score (take kept es)
 
-  still_there : (es : List (Entry A)) (kept : ℕ) (q : List ℕ) → fin.contains_key (before es kept) q ≡ true → fin.contains_key (members_by next es) q ≡ true
+  still_there : (es : List (Entry A)) (kept : ℕ) (q : List ℕ) → fin.contains_key (before es kept) q ≡ true → fin.contains_key (members_by staged_score es) q ≡ true
   still_there es kept q there =
-      ap is_some (get_members next es q) ∙ by (nat_lt (position_or_len (λ k. bytes_eq q k.items) (keys_of es)) kept) (slot_at es q)
-      (sym (ap is_some (get_members held (take kept es) q ∙ ap (option_map held) (lookup_take (λ k. bytes_eq q k.items) es kept))) ∙ there)
+      ap is_some (get_members staged_score es q) ∙ by (nat_lt (position_or_len (λ k. bytes_eq q k.items) (keys_of es)) kept) (slot_at es q)
+      (sym (ap is_some (get_members current_score (take kept es) q ∙ ap (option_map current_score) (lookup_take (λ k. bytes_eq q k.items) es kept))) ∙ there)
     where
-      by : (b : Bool) (o : Option Slot) → is_some (option_map held (cond b o None)) ≡ true → is_some (option_map next o) ≡ true
+      by : (b : Bool) (o : Option ScoreSlot) → is_some (option_map current_score (cond b o None)) ≡ true → is_some (option_map staged_score o) ≡ true
       by true None h = h
       by true (Some s) h = refl
       by false o h = cc
 
   len_before : (es : List (Entry A)) (kept : ℕ) → IsDistinct same_bytes (keys_of es) → kept ≤ length es → fin.len (before es kept) ≡ kept
   len_before es kept apart le =
-      len_members held (take kept es) (subst (IsDistinct same_bytes) (sym (keys_of-take kept es)) (distinct-take same_equiv kept (keys_of es) apart)) ∙ length_take kept es le
+      len_members current_score (take kept es) (subst (IsDistinct same_bytes) (sym (keys_of-take kept es)) (distinct-take same_equiv kept (keys_of es) apart)) ∙ length_take kept es le
 
   pub staged_outline : (es : List (Entry A)) (kept len added : ℕ) (changed : Bool) → IsDistinct same_bytes (keys_of es) → kept ≤ length es → len ≡ length es → added ≡ len - kept
-      → (changed ≡ true → members_by next es ≢ before es kept) → (changed ≡ false → members_by next es ≡ before es kept)
-      → IsOutline (record { added = added; removed = 0; changed = changed }) (before es kept) (members_by next es)
+      → (changed ≡ true → members_by staged_score es ≢ before es kept) → (changed ≡ false → members_by staged_score es ≡ before es kept)
+      → IsOutline (record { added = added; removed = 0; changed = changed }) (before es kept) (members_by staged_score es)
   staged_outline es kept len added changed apart le is count other same = record {
-    added = count_of (missing (before es kept) (members_by next es)) (fin.len (before es kept)) (fin.len (members_by next es))
-        (missing_within (before es kept) (members_by next es) (still_there es kept)) (len_before es kept apart le) (len_members next es apart);
-    removed = missing_none (members_by next es) (before es kept) (still_there es kept);
+    added = count_of (missing (before es kept) (members_by staged_score es)) (fin.len (before es kept)) (fin.len (members_by staged_score es))
+        (missing_within (before es kept) (members_by staged_score es) (still_there es kept)) (len_before es kept apart le) (len_members staged_score es apart);
+    removed = missing_none (members_by staged_score es) (before es kept) (still_there es kept);
     changed = by changed other same;
-    sums = more (fin.len (before es kept)) (fin.len (members_by next es)) (len_before es kept apart le) (len_members next es apart);
+    sums = more (fin.len (before es kept)) (fin.len (members_by staged_score es)) (len_before es kept apart le) (len_members staged_score es apart);
     one_way = inr refl;
   }
     where
@@ -280,26 +265,26 @@ module _ {A : Type 0} where
       count_of : (m a b : ℕ) → m + a ≡ b → a ≡ kept → b ≡ length es → added ≡ m
       count_of m a b h i j = omega arith
 
-      by : (c : Bool) → (c ≡ true → members_by next es ≢ before es kept) → (c ≡ false → members_by next es ≡ before es kept) → IsTrue c ↔ (members_by next es ≢ before es kept)
+      by : (c : Bool) → (c ≡ true → members_by staged_score es ≢ before es kept) → (c ≡ false → members_by staged_score es ≡ before es kept) → IsTrue c ↔ (members_by staged_score es ≢ before es kept)
       by true o s = (λ _. o refl, λ _. refl)
       by false o s = (λ h. absurd (true≢false (sym h)), λ ne. absurd (ne (s refl)))
 
   -- with more entries the set is another one
-  pub grown_apart : (es : List (Entry A)) (kept : ℕ) → IsDistinct same_bytes (keys_of es) → kept < length es → members_by next es ≡ before es kept → ⊥
+  pub grown_apart : (es : List (Entry A)) (kept : ℕ) → IsDistinct same_bytes (keys_of es) → kept < length es → members_by staged_score es ≡ before es kept → ⊥
   grown_apart es kept apart lt same =
-      let a : fin.len (members_by next es) ≡ fin.len (before es kept) = ap fin.len same in
-      let b : fin.len (members_by next es) ≡ length es = len_members next es apart in
+      let a : fin.len (members_by staged_score es) ≡ fin.len (before es kept) = ap fin.len same in
+      let b : fin.len (members_by staged_score es) ≡ length es = len_members staged_score es apart in
       let d : fin.len (before es kept) ≡ kept = len_before es kept apart (omega arith) in
       absurd (omega arith)
 
   -- and with no more it is the one that the entries hold
-  pub before_all : (es : List (Entry A)) (kept : ℕ) → kept ≡ length es → before es kept ≡ members_by held es
-  before_all es kept all = ap (λ (l : List (Entry A)). members_by held l) (ap (λ n. take n es) all ∙ take-length es)
+  pub before_all : (es : List (Entry A)) (kept : ℕ) → kept ≡ length es → before es kept ≡ members_by current_score es
+  before_all es kept all = ap (λ (l : List (Entry A)). members_by current_score l) (ap (λ n. take n es) all ∙ take-length es)
 
   -- the front of what was staged is the set that was there
-  pub before_grown : (old new : List (Entry A)) (kept : ℕ) → kept ≡ length old → Grows old new → before new kept ≡ members_by held old
+  pub before_grown : (old new : List (Entry A)) (kept : ℕ) → kept ≡ length old → Grows old new → before new kept ≡ members_by current_score old
   before_grown old new kept is grows =
-      ap (λ (rows : List (List ℕ × ℤ)). fin.from_entries rows) (rows_take held kept new ∙ ap (λ n. take n (rows_by held new)) is ∙ grows.front)
+      ap (λ (rows : List (List ℕ × ℤ)). fin.from_entries rows) (rows_take current_score kept new ∙ ap (λ n. take n (rows_by current_score new)) is ∙ grows.front)
 
   none_gone : (m : Members) (vs : List (Vec ℕ A)) → length vs ≡ 0 → remove_all m (bytes_of vs) ≡ m
   none_gone m [] h = refl

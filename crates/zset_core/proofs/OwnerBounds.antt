@@ -2,25 +2,25 @@
 use Rattle.std.proofs.Common.{◌≡◌, ℕ, List, Option, None, Some, option_map, option_and_then, is_some, IsSome, IfSome, IfOk, OnErr, Result, Ok, Err, sym, ap, subst, ◌∙◌}
 use Rattle.std.proofs.lemmas.Bool.{true≢false}
 use Rattle.std.specs.declared.snapshot.Snapshot.{Snapshot}
-use Rattle.resp_wire.specs.Spelling.{IsWord}
+use Rattle.resp_wire.specs.RequestEncoding.{IsArgument}
 use Rattle.resp_wire.specs.Response.{Response}
-use Rattle.zset_core.specs.Meaning.{Meaning, Asked, key_of}
-use Rattle.zset_core.specs.View.{SetView, Next, OwnerView}
+use Rattle.zset_core.specs.CommandMeaning.{Meaning, Asked, key_of}
+use Rattle.zset_core.specs.Views.{SetView, Next, OwnerView}
 use Rattle.zset_core.specs.World.{World, put_set, act_at}
-use Rattle.zset_core.specs.Owned.{Keyed, world_of, set_in, next_at, IsHeld, IsOwned, owner_view, AllRest}
-use Rattle.zset_core.specs.Bounded.{IsBoundedWorld, IsBoundedMeaning, IsBoundedOwner}
+use Rattle.zset_core.specs.OwnerInvariant.{Keyed, world_of, set_in, next_at, IsHeld, IsOwned, owner_view, AllRest}
+use Rattle.zset_core.specs.BoundedWorld.{IsBoundedWorld, IsBoundedMeaning, IsBoundedOwner}
 use Rattle.zset_core.proofs.Bounds.{IsBoundedNext, act_bounded, put_set_bounded}
 use Rattle.zset_core.proofs.Worlds.{keyed}
 
-word_of : (c : Meaning) (k : List ℕ) → IsBoundedMeaning c → key_of c ≡ Some k → IsWord k
-word_of c k meant is = subst (λ (o : Option (List ℕ)). IfSome o IsWord) is meant.key
+word_of : (c : Meaning) (k : List ℕ) → IsBoundedMeaning c → key_of c ≡ Some k → IsArgument k
+word_of c k meant is = subst (λ (o : Option (List ℕ)). IfSome o IsArgument) is meant.key
 
 run_bounded : {X E : Type 0} (r : Result X E) (tell : X → Response) (w end : World) (c : Meaning) (k : List ℕ) → IsBoundedWorld w → IsBoundedMeaning c → key_of c ≡ Some k
     → IfOk r (λ reply. act_at w (Some k) c ≡ Some (end, tell reply)) → OnErr r (end ≡ w) → IsBoundedWorld end
 run_bounded (Ok x) tell w end c k bounded meant key ok err = act_bounded w c end (tell x) (Some k) bounded (word_of c k meant key) meant.puts ok
 run_bounded (Err e) tell w end c k bounded meant key ok err = subst IsBoundedWorld (sym err) bounded
 
-made_bounded : (w end : World) (k : List ℕ) (Q : List ℕ × Next → Type 0) (o : Option (List ℕ × Next)) → IsBoundedWorld w → IsWord k → IsBoundedNext o → IsSome o
+made_bounded : (w end : World) (k : List ℕ) (Q : List ℕ × Next → Type 0) (o : Option (List ℕ × Next)) → IsBoundedWorld w → IsArgument k → IsBoundedNext o → IsSome o
     → IfSome o (λ next. (end ≡ put_set w k next.1.members) × Q next) → IsBoundedWorld end
 made_bounded w end k Q None bounded word next some made = absurd (true≢false (sym some))
 made_bounded w end k Q (Some n) bounded word next some made = subst IsBoundedWorld (sym made.0) (put_set_bounded w k n.1.members bounded word next.1)

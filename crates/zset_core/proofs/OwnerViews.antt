@@ -2,13 +2,10 @@
 use Rattle.std.proofs.Common.{◌≡◌, ℕ, Bool, true, false, cond, List, [], ◌∷◌, Option, None, Some, IsSome, IfSome, MatchOption, option_map, option_and_then, refl, sym, ap, subst, ◌∙◌, true≢false}
 use Rattle.std.proofs.Common.{◌&&◌, ◌+◌, ◌≤◌, map, length, drop, zero, suc, slice_get, arith, add-one}
 use Rattle.std.proofs.lemmas.Option.{slice_get-map}
-use Rattle.zset_core.specs.Sets.{whole}
-use Rattle.zset_core.proofs.Order.{listing_length}
 use Rattle.std.proofs.Common.{not, filter}
 use Rattle.std.specs.List.{find as find_in}
 use Rattle.std.specs.Prelude.{T}
-use Rattle.std.specs.List.{AllByRecursion, IsDistinct}
-use Rattle.zset_core.specs.Kept.{same_bytes}
+use Rattle.std.specs.List.{AllByRecursion}
 use Rattle.std.specs.List.Sorted.{IsStrictlySortedBy}
 use Rattle.std.specs.Map.{keys_of}
 use Rattle.std.specs.Ordering.{eq_by_cmp, is_lt}
@@ -24,11 +21,11 @@ use Rattle.std.specs.Str.{bytes_eq}
 use Rattle.std.specs.Cmp.Lexicographic.{bytes_decides}
 use Rattle.std.specs.FinMap as fin
 use Rattle.std.specs.declared.snapshot.Snapshot.{Snapshot}
-use Rattle.zset_core.specs.Sets.{Members, bytes_cmp}
-use Rattle.zset_core.specs.Meaning.{Asked, key_of}
-use Rattle.zset_core.specs.View.{SetView, Next, OwnerView, next_for, IsSetAt, HasNoSet}
+use Rattle.zset_core.specs.SortedSet.{Members, bytes_cmp}
+use Rattle.zset_core.specs.CommandMeaning.{Asked, key_of}
+use Rattle.zset_core.specs.Views.{SetView, Next, OwnerView, next_for, IsSetAt, HasNoSet}
 use Rattle.zset_core.specs.World.{World, set_at}
-use Rattle.zset_core.specs.Owned.{Keyed, world_of, names_of, IsRising, set_in, next_at, IsResting, AllRest, IsHeld, owner_view, IsOwned}
+use Rattle.zset_core.specs.OwnerInvariant.{Keyed, world_of, names_of, IsRising, set_in, next_at, IsResting, AllRest, IsHeld, owner_view, IsOwned}
 use Rattle.zset_core.proofs.Worlds.{keyed, key_cmp, filled_view, get_world, set_at_entry, set_at_none, next_here}
 
 pub match_of : (r : Option (Bor SetView)) (o : Option SetView) (P : Type 0) (Q : SetView → Type 0) → option_copied r ≡ o → (o ≡ None → P) → ((s : SetView) → o ≡ Some s → Q s) → MatchOption r P (λ b. Q b.now)
@@ -214,17 +211,6 @@ module _ {A : Type 0} where
 
   pub none_shown : (es : List (Keyed A)) (a : Option (Snapshot Asked)) (v : OwnerView) (q : List ℕ) → owner_view es a ≡ v → IsOwned es a → set_in es q ≡ None → set_at v.world q ≡ fin.empty
   none_shown es a v q is owned at = (view_none es a v q is owned at).members
-
-none_distinct : (A : Type 0) → IsDistinct (same_bytes {A = A}) []
-unfolding IsDistinct
-none_distinct A = tt
-
-pub whole_empty : whole fin.empty ≡ []
-whole_empty = no_length (whole fin.empty) (listing_length {A = Unit {0}} (λ _. true) [] (none_distinct (Unit {0})))
-  where
-    no_length : {X : Type 0} (xs : List X) → length xs ≡ 0 → xs ≡ []
-    no_length [] h = refl
-    no_length (x ∷ xs) h = absurd (omega arith)
 
 -- ---- walks over a list by what is left of it
 pub past_end : {X : Type 0} (xs : List X) (i j : ℕ) → drop i xs ≡ [] → i ≤ j → slice_get xs j ≡ None

@@ -1,12 +1,12 @@
 -- Walks over the pairs of ZADD.
 use Rattle.std.proofs.Common.{◌≡◌, ℕ, ◌+◌, ◌*◌, ◌<◌, ◌≤◌, ℤ, pos, Bool, true, false, List, [], ◌∷◌, length, drop, get_or, zero, suc, refl, sym, ap, ◌∙◌, arith, add_assoc, add-one, drop-cons}
 use Rattle.std.specs.FinMap as fin
-use Rattle.zset_core.specs.Form.{scored}
-use Rattle.zset_core.specs.Sets.{Members, Pair}
-use Rattle.zset_core.specs.Step.{outcome_of, counted, put_one, put_all, count_all}
-use Rattle.zset_core.specs.declared.pair.Flags.{Flags}
-use Rattle.zset_core.specs.declared.pair.Outcome.{Outcome}
-use Rattle.zset_core.specs.declared.pair.Outcome.TheVariants.{Stopped, Added, Changed, Same}
+use Rattle.zset_core.specs.ParsedArguments.{scored}
+use Rattle.zset_core.specs.SortedSet.{Members, Pair}
+use Rattle.zset_core.specs.Semantics.{outcome_of, counted, put_one, put_all, count_all}
+use Rattle.zset_core.specs.declared.set.pair_outcome.Flags.{Flags}
+use Rattle.zset_core.specs.declared.set.pair_outcome.Outcome.{Outcome}
+use Rattle.zset_core.specs.declared.set.pair_outcome.Outcome.TheVariants.{Stopped, Added, Changed, Same}
 
 get_or-any : {X : Type 0} (xs : List X) (i : ℕ) (a b : X) → i < length xs → get_or xs i a ≡ get_or xs i b
 get_or-any [] i a b h = absurd (omega arith)

@@ -8,11 +8,11 @@ use Rattle.std.specs.FinMap as fin
 use Rattle.std.proofs.lemmas.Bool.Decides.{nat_tests}
 use Rattle.indexmap.proofs.MapLemmas.{distinct-take, Found-position}
 use Rattle.ripple_column.specs.Content.{ColumnState}
-use Rattle.zset_core.specs.View.{SetView}
-use Rattle.zset_core.specs.Kept.{Entry, held, members_by, slot_at, same_bytes}
-use Rattle.zset_core.specs.Viewed.{view_of, IsSound, kept_of}
+use Rattle.zset_core.specs.Views.{SetView}
+use Rattle.zset_core.specs.StagedEntries.{Entry, current_score, members_by, slot_at, same_bytes}
+use Rattle.zset_core.specs.SetInvariant.{view_of, IsSound, kept_of}
 use Rattle.zset_core.specs.declared.set.Prepared.{Prepared}
-use Rattle.zset_core.specs.declared.slot.Slot.{Slot}
+use Rattle.zset_core.specs.declared.set.member_map.ScoreSlot.{ScoreSlot}
 use Rattle.zset_core.proofs.Bridge.{same_equiv, get_members, len_members}
 use Rattle.zset_core.proofs.Staging.{rows_take}
 
@@ -64,9 +64,9 @@ keys_of-take (suc n) [] = refl
 keys_of-take (suc n) (e ∷ es) = ap (λ ks. e.0 ∷ ks) (keys_of-take n es)
 
 module _ {A : Type 0} where
-  pub members_kept : (es : List (Entry A)) (c : ColumnState) (p : Option (Prepared A)) (v : SetView) → view_of es c p ≡ v → v.members ≡ members_by held (take (kept_of es p) es)
-  members_kept es c None v is = sym (ap (λ w. w.members) is) ∙ ap (λ (l : List (Entry A)). members_by held l) (sym (take-length es))
-  members_kept es c (Some q) v is = sym (ap (λ w. w.members) is) ∙ ap (λ (rows : List (List ℕ × ℤ)). fin.from_entries rows) (sym (rows_take held q.plan.kept es))
+  pub members_kept : (es : List (Entry A)) (c : ColumnState) (p : Option (Prepared A)) (v : SetView) → view_of es c p ≡ v → v.members ≡ members_by current_score (take (kept_of es p) es)
+  members_kept es c None v is = sym (ap (λ w. w.members) is) ∙ ap (λ (l : List (Entry A)). members_by current_score l) (sym (take-length es))
+  members_kept es c (Some q) v is = sym (ap (λ w. w.members) is) ∙ ap (λ (rows : List (List ℕ × ℤ)). fin.from_entries rows) (sym (rows_take current_score q.plan.draft.kept es))
 
   pub kept_within : (es : List (Entry A)) (p : Option (Prepared A)) (c : ColumnState) → IsSound es c p → kept_of es p ≤ length es
   kept_within es None c s = omega arith
@@ -75,15 +75,15 @@ module _ {A : Type 0} where
   pub len_kept : (es : List (Entry A)) (c : ColumnState) (p : Option (Prepared A)) (v : SetView) → view_of es c p ≡ v → IsSound es c p → IsDistinct same_bytes (keys_of es) → kept_of es p ≡ fin.len v.members
   len_kept es c p v is sound apart =
       let apart_front : IsDistinct same_bytes (keys_of (take (kept_of es p) es)) = subst (IsDistinct same_bytes) (sym (keys_of-take (kept_of es p) es)) (distinct-take same_equiv (kept_of es p) (keys_of es) apart) in
-      sym (ap fin.len (members_kept es c p v is) ∙ len_members held (take (kept_of es p) es) apart_front ∙ length_take (kept_of es p) es (kept_within es p c sound))
+      sym (ap fin.len (members_kept es c p v is) ∙ len_members current_score (take (kept_of es p) es) apart_front ∙ length_take (kept_of es p) es (kept_within es p c sound))
 
-  pub score_kept : (es : List (Entry A)) (c : ColumnState) (p : Option (Prepared A)) (v : SetView) (q : List ℕ) (n : ℕ) → view_of es c p ≡ v → n ≡ kept_of es p → option_map held (slot_at (take n es) q) ≡ fin.get v.members q
-  score_kept es c p v q n is at = sym (get_members held (take n es) q) ∙ ap (λ k. fin.get (members_by held (take k es)) q) at ∙ sym (ap (λ m. fin.get m q) (members_kept es c p v is))
+  pub score_kept : (es : List (Entry A)) (c : ColumnState) (p : Option (Prepared A)) (v : SetView) (q : List ℕ) (n : ℕ) → view_of es c p ≡ v → n ≡ kept_of es p → option_map current_score (slot_at (take n es) q) ≡ fin.get v.members q
+  score_kept es c p v q n is at = sym (get_members current_score (take n es) q) ∙ ap (λ k. fin.get (members_by current_score (take k es)) q) at ∙ sym (ap (λ m. fin.get m q) (members_kept es c p v is))
 
   pub slot_nowhere : (es : List (Entry A)) (q : List ℕ) (n : ℕ) → slot_at es q ≡ None → slot_at (take n es) q ≡ None
   slot_nowhere es q n absent = lookup_nowhere (λ k. bytes_eq q k.items) es n absent
 
-  pub slot_early : (es : List (Entry A)) (q : List ℕ) (n i : ℕ) (s : Slot) → position (λ k. bytes_eq q k.items) (keys_of es) ≡ Some i → slot_at es q ≡ Some s → i < n → slot_at (take n es) q ≡ Some s
+  pub slot_early : (es : List (Entry A)) (q : List ℕ) (n i : ℕ) (s : ScoreSlot) → position (λ k. bytes_eq q k.items) (keys_of es) ≡ Some i → slot_at es q ≡ Some s → i < n → slot_at (take n es) q ≡ Some s
   slot_early es q n i s at is lt = lookup_before (λ k. bytes_eq q k.items) es n i (Some s) at is lt
 
   pub slot_late : (es : List (Entry A)) (q : List ℕ) (n i : ℕ) → position (λ k. bytes_eq q k.items) (keys_of es) ≡ Some i → n ≤ i → slot_at (take n es) q ≡ None

@@ -3,19 +3,19 @@ use Rattle.std.proofs.Common.{◌≡◌, ◌≤◌, ◌+◌, inl, inr, max, true
 use Rattle.std.specs.FinMap as fin
 use Rattle.resp_wire.specs.Response.{Response}
 use Rattle.ripple_column.specs.Content.{ColumnState, Holds, SameContent, IsUnchanged, most_pending}
-use Rattle.zset_core.specs.Sets.{Members, pairs}
-use Rattle.zset_core.specs.Kept.{Entry, held, rows_by, members_by, IsBack, IsSettled}
-use Rattle.zset_core.specs.Edited.{HasAtMost, HasRoom, most_edits}
-use Rattle.zset_core.specs.Planned.{Plans, Prepares, left_by}
-use Rattle.zset_core.specs.Outlined.{IsOutline}
-use Rattle.zset_core.specs.Columns.{edit_count}
-use Rattle.zset_core.specs.Meaning.{Meaning}
-use Rattle.zset_core.specs.View.{SetView, Next}
-use Rattle.zset_core.specs.Viewed.{view_of, next_of, IsIdle, IsPlanned, IsSound}
-use Rattle.zset_core.specs.declared.plan.Plan.{Plan}
+use Rattle.zset_core.specs.SortedSet.{Members, pairs}
+use Rattle.zset_core.specs.StagedEntries.{Entry, current_score, rows_by, members_by, IsSettled}
+use Rattle.zset_core.specs.Edits.{HasAtMost, HasRoom, most_edits}
+use Rattle.zset_core.specs.Plan.{Plans, Prepares, left_by}
+use Rattle.zset_core.specs.ChangeOutline.{IsOutline}
+use Rattle.zset_core.specs.ColumnEffects.{edit_count}
+use Rattle.zset_core.specs.CommandMeaning.{Meaning}
+use Rattle.zset_core.specs.Views.{SetView, Next}
+use Rattle.zset_core.specs.SetInvariant.{view_of, next_of, IsIdle, IsPlanned, IsSound}
+use Rattle.zset_core.specs.declared.set.plan.Plan.{Plan}
 use Rattle.zset_core.specs.declared.set.Prepared.{Prepared}
-use Rattle.zset_core.specs.declared.edits.Edits.{Edits}
-use Rattle.ripple_column.proofs.Counts.{count_all}
+use Rattle.zset_core.specs.declared.set.row_edits.Edits.{Edits}
+use Rattle.ripple_column.proofs.CallerLemmas.{count_all}
 use Rattle.zset_core.proofs.Bags.{count_pairs}
 
 not_none : (n : Next) → ◌≡◌ {A = Option Next} (Some n) None → ⊥
@@ -27,34 +27,22 @@ module _ {A : Type 0} where
   Prepares-some old new plan None h = absurd h
   Prepares-some old new plan (Some done) h = (done, h)
 
-  -- the entries before a plan, once its new entries are let go
-  pub IsBack-let_go : (old mid new : List (Entry A)) (plan : Plan A) (o : Option (Members × Response)) → Plans old mid plan o → rows_by held new ≡ take plan.kept (rows_by held mid) → IsSettled new → IsBack old new
-  IsBack-let_go old mid new plan o h is settled =
-      let p = (Prepares-some old mid plan o h).1 in
-      record { same = is ∙ ap (λ (n : ℕ). take n (rows_by held mid)) p.kept ∙ p.grows.front; settled = settled }
-
   pub IsIdle-of : (es : List (Entry A)) (c : ColumnState) (p : Option (Prepared A)) (v : SetView) → view_of es c p ≡ v → v.next ≡ None → IsSound es c p → IsIdle es c
   IsIdle-of es c None v is idle s = s
   IsIdle-of es c (Some q) v is idle s =
       let shown : Some (next_of es q) ≡ v.next = ap (λ (w : SetView). w.next) is in
       absurd (not_none (next_of es q) (shown ∙ idle))
 
-  pub IsSound-idle : (es new : List (Entry A)) (c : ColumnState) (p : Option (Prepared A)) (v : SetView) → view_of es c p ≡ v → v.next ≡ None → IsIdle new c → IsSound new c p
-  IsSound-idle es new c None v is idle s = s
-  IsSound-idle es new c (Some q) v is idle s =
-      let shown : Some (next_of es q) ≡ v.next = ap (λ (w : SetView). w.next) is in
-      absurd (not_none (next_of es q) (shown ∙ idle))
-
-  pub members_idle : (es : List (Entry A)) (c : ColumnState) (p : Option (Prepared A)) (v : SetView) → view_of es c p ≡ v → v.next ≡ None → members_by held es ≡ v.members
+  pub members_idle : (es : List (Entry A)) (c : ColumnState) (p : Option (Prepared A)) (v : SetView) → view_of es c p ≡ v → v.next ≡ None → members_by current_score es ≡ v.members
   members_idle es c None v is idle = ap (λ (w : SetView). w.members) is
   members_idle es c (Some q) v is idle =
       let shown : Some (next_of es q) ≡ v.next = ap (λ (w : SetView). w.next) is in
       absurd (not_none (next_of es q) (shown ∙ idle))
 
-  pub outline_left : (old new : List (Entry A)) (plan : Plan A) (o : Option (Members × Response)) (m : Members) → members_by held old ≡ m → Plans old new plan o → IsOutline plan.outline m (left_by new plan)
+  pub outline_left : (old new : List (Entry A)) (plan : Plan A) (o : Option (Members × Response)) (m : Members) → members_by current_score old ≡ m → Plans old new plan o → IsOutline plan.outline m (left_by new plan)
   outline_left old new plan o m is h =
       let p = (Prepares-some old new plan o h).1 in
-      subst (λ (k : Members). IsOutline plan.outline k (left_by new plan)) is (subst (IsOutline plan.outline (members_by held old)) (sym p.members_are) p.outline_is)
+      subst (λ (k : Members). IsOutline plan.outline k (left_by new plan)) is (subst (IsOutline plan.outline (members_by current_score old)) (sym p.members_are) p.outline_is)
 
   -- no more members come in than there are edits
   pub few_added : (old new : List (Entry A)) (plan : Plan A) (o : Option (Members × Response)) → Plans old new plan o → plan.outline.added ≤ most_edits
@@ -62,16 +50,16 @@ module _ {A : Type 0} where
       let s = Prepares-some old new plan o h in
       let p = s.1 in
       let bag = p.edits_are (λ r. true) in
-      let a = count_pairs (members_by held old) in
+      let a = count_pairs (members_by current_score old) in
       let b = count_pairs s.0.0 in
       elim p.outline_is.one_way [
         | inl none ↦ omega (arith, none)
-        | inr none ↦ omega (arith, none, p.outline_is.sums, bag, a, b, count_all plan.edits.coming.items, count_all plan.edits.leaving.items, p.few_edits.coming)
+        | inr none ↦ omega (arith, none, p.outline_is.sums, bag, a, b, count_all plan.draft.edits.coming.items, count_all plan.draft.edits.leaving.items, p.few_edits.coming)
       ]
 
   -- a column with room for so many edits has room for these
-  pub room_fits : (old new : ColumnState) (edits : Edits A) (n : ℕ) → HasAtMost n edits → (most_pending old + max (length edits.coming.items) (length edits.leaving.items) ≤ 2048 → IsUnchanged old new) → most_pending old + n ≤ 2048 → IsUnchanged old new
-  room_fits old new edits n most still fits = still (omega (arith, most.coming, most.leaving, fits))
+  pub room_fits : (old new : ColumnState) (edits : Edits A) (n room : ℕ) → HasAtMost n edits → (most_pending old + max (length edits.coming.items) (length edits.leaving.items) ≤ room → IsUnchanged old new) → most_pending old + n ≤ room → IsUnchanged old new
+  room_fits old new edits n room most still fits = still (omega (arith, most.coming, most.leaving, fits))
 
   pub column_shown : (es : List (Entry A)) (c : ColumnState) (p : Option (Prepared A)) (v : SetView) → view_of es c p ≡ v → c ≡ v.column
   column_shown es c None v is = ap (λ (w : SetView). w.column) is
@@ -88,18 +76,11 @@ module _ {A : Type 0} where
   pub IsSound-none : (es : List (Entry A)) (c : ColumnState) (p : Option (Prepared A)) → p ≡ None → IsIdle es c → IsSound es c p
   IsSound-none es c p is s = subst (IsSound es c) (sym is) s
 
-  -- the content stays that of the members as long as these stay
-  pub IsIdle-same : (old new : List (Entry A)) (c c' : ColumnState) → IsIdle old c → rows_by held new ≡ rows_by held old → IsSettled new → SameContent c c' → IsIdle new c'
-  IsIdle-same old new c c' idle same settled content = record {
-    settled = settled;
-    content = λ p. content p ∙ idle.content p ∙ ap (λ (rows : List (List ℕ × ℤ)). count_by p (pairs (fin.from_entries rows))) (sym same);
-  }
-
-  pub IsPlanned-made : (old new : List (Entry A)) (c c' : ColumnState) (plan : Plan A) (o : Option (Members × Response)) → IsIdle old c → Plans old new plan o → SameContent c c' → HasRoom c' plan.edits → IsPlanned new c' plan
+  pub IsPlanned-made : (old new : List (Entry A)) (c c' : ColumnState) (plan : Plan A) (o : Option (Members × Response)) → IsIdle old c → Plans old new plan o → SameContent c c' → HasRoom c' plan.draft.edits → IsPlanned new c' plan
   IsPlanned-made old new c c' plan o idle h content room =
       let done = (Prepares-some old new plan o h).0 in
       let p = (Prepares-some old new plan o h).1 in
-      let front : take plan.kept (rows_by held new) ≡ rows_by held old = ap (λ (n : ℕ). take n (rows_by held new)) p.kept ∙ p.grows.front in
+      let front : take plan.draft.kept (rows_by current_score new) ≡ rows_by current_score old = ap (λ (n : ℕ). take n (rows_by current_score new)) p.kept ∙ p.grows.front in
       record {
         kept = omega (arith, p.kept, p.grows.longer);
         waiting = p.waiting;
@@ -111,17 +92,17 @@ module _ {A : Type 0} where
       }
 
   -- once the plan is let go
-  pub IsIdle-let_go : (es new : List (Entry A)) (c : ColumnState) (plan : Plan A) → IsPlanned es c plan → rows_by held new ≡ take plan.kept (rows_by held es) → IsSettled new → IsIdle new c
-  IsIdle-let_go es new c plan p is settled = record {
+  pub IsIdle-discard : (es new : List (Entry A)) (c : ColumnState) (plan : Plan A) → IsPlanned es c plan → rows_by current_score new ≡ take plan.draft.kept (rows_by current_score es) → IsSettled new → IsIdle new c
+  IsIdle-discard es new c plan p is settled = record {
     settled = settled;
     content = λ t. p.content t ∙ ap (λ (rows : List (List ℕ × ℤ)). count_by t (pairs (fin.from_entries rows))) (sym is);
   }
 
 -- the same of the column and the members that show
-pub still_shown : (a b new : ColumnState) (m n : Members) (meaning : Meaning) → a ≡ b → m ≡ n → (most_pending a + edit_count m meaning ≤ 2048 → IsUnchanged a new) → most_pending b + edit_count n meaning ≤ 2048 → IsUnchanged b new
-still_shown a b new m n meaning columns sets still =
-    subst (λ (c : ColumnState). most_pending c + edit_count n meaning ≤ 2048 → IsUnchanged c new) columns
-    (subst (λ (k : Members). most_pending a + edit_count k meaning ≤ 2048 → IsUnchanged a new) sets still)
+pub still_shown : (a b new : ColumnState) (m n : Members) (meaning : Meaning) (room : ℕ) → a ≡ b → m ≡ n → (most_pending a + edit_count m meaning ≤ room → IsUnchanged a new) → most_pending b + edit_count n meaning ≤ room → IsUnchanged b new
+still_shown a b new m n meaning room columns sets still =
+    subst (λ (c : ColumnState). most_pending c + edit_count n meaning ≤ room → IsUnchanged c new) columns
+    (subst (λ (k : Members). most_pending a + edit_count k meaning ≤ room → IsUnchanged a new) sets still)
 
 empty_list : {X : Type 0} (xs : List X) → length xs ≡ 0 → xs ≡ []
 empty_list [] h = refl
@@ -138,4 +119,4 @@ Holds-empty c m none rows insertions p =
     omega (arith, no_pairs, a, b)
 
 pub IsIdle-empty : {A : Type 0} (es : List (Entry A)) (c : ColumnState) → es ≡ [] → IsSettled es → c.rows ≡ [] → c.insertions ≡ [] → IsIdle es c
-IsIdle-empty {A} es c none settled rows insertions = record { settled = settled; content = Holds-empty c (members_by held es) (ap (λ (l : List (Entry A)). members_by held l) none) rows insertions }
+IsIdle-empty {A} es c none settled rows insertions = record { settled = settled; content = Holds-empty c (members_by current_score es) (ap (λ (l : List (Entry A)). members_by current_score l) none) rows insertions }

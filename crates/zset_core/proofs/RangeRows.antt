@@ -9,16 +9,16 @@ use Rattle.std.proofs.lemmas.Bool.Decides.{nat_tests}
 use Rattle.std.proofs.lemmas.List.Sums.{sum_by-cons}
 use Rattle.score_bounds.specs.declared.bounds.Range.{Range}
 use Rattle.score_bounds.specs.Bounds.{is_in}
-use Rattle.crack_kernel.specs.Bags.{Test, SameBag}
+use Rattle.crack_kernel.specs.RowBag.{Test, SameBag}
 use Rattle.ripple_column.specs.Content.{ColumnState, Holds, SameContent}
-use Rattle.ripple_column.specs.Answers.{HoldsRange}
-use Rattle.ripple_column.proofs.Counts.{count_all}
-use Rattle.zset_core.specs.Sets.{Members, Pair, pair_cmp, pairs, marks, listing}
+use Rattle.ripple_column.specs.RangeAnswer.{HoldsRange}
+use Rattle.ripple_column.proofs.CallerLemmas.{count_all}
+use Rattle.zset_core.specs.SortedSet.{Members, Pair, pair_cmp, pairs, marks, listing}
 use Rattle.resp_wire.specs.Response.{Response, Integer, Array}
-use Rattle.zset_core.specs.Columns.{Reads, Selects}
-use Rattle.zset_core.specs.Meaning.{Meaning, Count, ListRange}
-use Rattle.zset_core.specs.Step.{step, elements, limited}
-use Rattle.zset_core.specs.declared.limit.Limit.{Limit}
+use Rattle.zset_core.specs.ColumnEffects.{Reads, Selects}
+use Rattle.zset_core.specs.CommandMeaning.{Meaning, Count, ListRange}
+use Rattle.zset_core.specs.Semantics.{step, elements, apply_limit}
+use Rattle.zset_core.specs.declared.command.limit.Limit.{Limit}
 use Rattle.zset_core.proofs.Order.{is_pair, is_equal, pair_total, filter_apart, len_marks, pairs_apart}
 
 count_cons : (p : Test) (x : Pair) (xs : List Pair) → count_by p (x ∷ xs) ≡ cond {A = ℕ} (p x) 1 0 + count_by p xs
@@ -104,7 +104,7 @@ pub count_reply : (m : Members) (meaning : Meaning) (key : List ℕ) (range : Ra
 count_reply m meaning key range reply is told = ap (step m) is ∙ ap (λ (r : Response). Some (m, r)) (sym told)
 
 pub list_reply : (m : Members) (meaning : Meaning) (key : List ℕ) (range : Range) (with_scores : Bool) (limit : Option Limit) (reply : Response) → meaning ≡ ListRange key range with_scores limit
-    → reply ≡ Array (elements with_scores (limited limit (listing (is_in range) m))) → step m meaning ≡ Some (m, reply)
+    → reply ≡ Array (elements with_scores (apply_limit limit (listing (is_in range) m))) → step m meaning ≡ Some (m, reply)
 list_reply m meaning key range with_scores limit reply is told = ap (step m) is ∙ ap (λ (r : Response). Some (m, r)) (sym told)
 
 pub IfOk-all : {T E : Type 0} {P Q : T → Type 0} (r : Result T E) → ((x : T) → P x → Q x) → IfOk r P → IfOk r Q

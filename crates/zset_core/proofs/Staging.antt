@@ -8,15 +8,15 @@ use Rattle.std.specs.FinMap as fin
 use Rattle.std.specs.HashMap.{HashMap, UpdatesBy}
 use Rattle.std.specs.declared.vec.Vec.{Vec}
 use Rattle.std.proofs.lemmas.Map.Entries.{lookup_from_place}
-use Rattle.zset_core.specs.Sets.{Members}
-use Rattle.zset_core.specs.Step.{remove_all}
+use Rattle.zset_core.specs.SortedSet.{Members}
+use Rattle.zset_core.specs.Semantics.{remove_all}
 use Rattle.std.proofs.lemmas.Map.Made.{lookup_key_passes}
 use Rattle.std.proofs.lemmas.Option.{slice_get-map}
 use Rattle.std.proofs.lemmas.Bool.Decides.{nat_tests}
 use Rattle.indexmap.specs.IndexMap.{set_value_at, with_value_at, IsUnique}
 use Rattle.indexmap.proofs.CallerLemmas.{updates-with_value_at}
-use Rattle.zset_core.specs.Kept.{Entry, held, next, rows_by, slots, members_by, slot_at, same_bytes, Stays, IsSettled, IsWithin, IsWaiting, Grows, bytes_of}
-use Rattle.zset_core.specs.declared.slot.Slot.{Slot}
+use Rattle.zset_core.specs.StagedEntries.{Entry, current_score, staged_score, rows_by, slots, members_by, slot_at, same_bytes, Stays, IsSettled, IsWithin, IsWaiting, Grows, bytes_of}
+use Rattle.zset_core.specs.declared.set.member_map.ScoreSlot.{ScoreSlot}
 use Rattle.zset_core.proofs.Bridge.{same_equiv, updates_bytes, one_put, one_gone}
 
 -- ---- places
@@ -60,12 +60,12 @@ take_front (suc m) (suc n) (x ∷ xs) h = ap (λ l. x ∷ l) (take_front m n xs 
 
 module _ {A : Type 0} where
   -- ---- an entry put last
-  front_push : (f : Slot → ℤ) (es : List (Entry A)) (e : Entry A) → take (length es) (rows_by f (es ++ e ∷ [])) ≡ rows_by f es
+  front_push : (f : ScoreSlot → ℤ) (es : List (Entry A)) (e : Entry A) → take (length es) (rows_by f (es ++ e ∷ [])) ≡ rows_by f es
   front_push f [] e = refl
   front_push f (x ∷ es) e = ap (λ l. (x.0.items, f x.1) ∷ l) (front_push f es e)
 
   pub Grows-push : (es : List (Entry A)) (e : Entry A) → Grows es (es ++ e ∷ [])
-  Grows-push es e = record { longer = omega (arith, length-append es (e ∷ [])); front = front_push held es e }
+  Grows-push es e = record { longer = omega (arith, length-append es (e ∷ [])); front = front_push current_score es e }
 
   stays_push : (es : List (Entry A)) (e : Entry A) (i : ℕ) → Stays e → IfSome (slice_get es i) Stays → IfSome (slice_get (es ++ e ∷ []) i) Stays
   stays_push [] e zero s h = s
@@ -82,51 +82,51 @@ module _ {A : Type 0} where
   pub Grows-self : (es : List (Entry A)) → Grows es es
   Grows-self es = record { longer = omega arith; front = all es }
     where
-      all : (es : List (Entry A)) → take (length es) (rows_by held es) ≡ rows_by held es
+      all : (es : List (Entry A)) → take (length es) (rows_by current_score es) ≡ rows_by current_score es
       all [] = refl
-      all (e ∷ es) = ap (λ l. (e.0.items, held e.1) ∷ l) (all es)
+      all (e ∷ es) = ap (λ l. (e.0.items, current_score e.1) ∷ l) (all es)
 
   -- ---- other scores at a place
-  rows_written : (f : Slot → ℤ) (es : List (Entry A)) (i : ℕ) (w : Slot) → IfSome (slice_get es i) (λ e. f w ≡ f e.1) → rows_by f (set_value_at es i w) ≡ rows_by f es
+  rows_written : (f : ScoreSlot → ℤ) (es : List (Entry A)) (i : ℕ) (w : ScoreSlot) → IfSome (slice_get es i) (λ e. f w ≡ f e.1) → rows_by f (set_value_at es i w) ≡ rows_by f es
   rows_written f [] i w h = refl
   rows_written f (e ∷ es) zero w h = ap (λ s. (e.0.items, s) ∷ rows_by f es) h
   rows_written f (e ∷ es) (suc i) w h = ap (λ l. (e.0.items, f e.1) ∷ l) (rows_written f es i w h)
 
-  length_written : (es : List (Entry A)) (i : ℕ) (w : Slot) → length (set_value_at es i w) ≡ length es
+  length_written : (es : List (Entry A)) (i : ℕ) (w : ScoreSlot) → length (set_value_at es i w) ≡ length es
   length_written [] i w = refl
   length_written (e ∷ es) zero w = refl
   length_written (e ∷ es) (suc i) w = ap suc (length_written es i w)
 
-  elsewhere : (es : List (Entry A)) (i j : ℕ) (w : Slot) → nat_eq i j ≡ false → slice_get (set_value_at es i w) j ≡ slice_get es j
+  elsewhere : (es : List (Entry A)) (i j : ℕ) (w : ScoreSlot) → nat_eq i j ≡ false → slice_get (set_value_at es i w) j ≡ slice_get es j
   elsewhere es i j w h = other es i j w (λ e. true≢false (sym (nat_eq-same i j e) ∙ h))
     where
-      other : (es : List (Entry A)) (i j : ℕ) (w : Slot) → (i ≡ j → ⊥) → slice_get (set_value_at es i w) j ≡ slice_get es j
+      other : (es : List (Entry A)) (i j : ℕ) (w : ScoreSlot) → (i ≡ j → ⊥) → slice_get (set_value_at es i w) j ≡ slice_get es j
       other [] i j w h = refl
       other (e ∷ es) zero zero w h = absurd (h refl)
       other (e ∷ es) zero (suc j) w h = refl
       other (e ∷ es) (suc i) zero w h = refl
       other (e ∷ es) (suc i) (suc j) w h = other es i j w (λ e. h (ap suc e))
 
-  at_place : (es : List (Entry A)) (i : ℕ) (w : Slot) → w.next ≡ w.held → IfSome (slice_get (set_value_at es i w) i) Stays
+  at_place : (es : List (Entry A)) (i : ℕ) (w : ScoreSlot) → w.staged ≡ w.current → IfSome (slice_get (set_value_at es i w) i) Stays
   at_place [] i w h = tt
   at_place (e ∷ es) zero w h = h
   at_place (e ∷ es) (suc i) w h = at_place es i w h
 
-  pub Grows-written : (es : List (Entry A)) (i : ℕ) (w : Slot) → IfSome (slice_get es i) (λ e. held w ≡ held e.1) → Grows es (set_value_at es i w)
+  pub Grows-written : (es : List (Entry A)) (i : ℕ) (w : ScoreSlot) → IfSome (slice_get es i) (λ e. current_score w ≡ current_score e.1) → Grows es (set_value_at es i w)
   Grows-written es i w h = record {
     longer = omega (arith, length_written es i w);
-    front = ap (take (length es)) (rows_written held es i w h) ∙ (Grows-self es).front;
+    front = ap (take (length es)) (rows_written current_score es i w h) ∙ (Grows-self es).front;
   }
 
   -- a score that waits, at one more place
-  pub IsWaiting-written : (ps : List ℕ) (es : List (Entry A)) (i : ℕ) (w : Slot) → i < length es → IsWaiting ps es → IsWaiting (ps ++ i ∷ []) (set_value_at es i w)
+  pub IsWaiting-written : (ps : List ℕ) (es : List (Entry A)) (i : ℕ) (w : ScoreSlot) → i < length es → IsWaiting ps es → IsWaiting (ps ++ i ∷ []) (set_value_at es i w)
   IsWaiting-written ps es i w lt old = record {
     within = subst (λ n. IsWithin n (ps ++ i ∷ [])) (sym (length_written es i w)) (IsWithin-push (length es) i ps lt old.within);
     settled = λ j h. subst (λ o. IfSome o Stays) (sym (elsewhere es i j w (not_last (λ p. nat_eq p j) ps i h))) (old.settled j (not_front (λ p. nat_eq p j) ps i h));
   }
 
   -- and one place fewer, where the score that waited is settled
-  pub IsWaiting-settled : (i : ℕ) (ps : List ℕ) (es : List (Entry A)) (w : Slot) → w.next ≡ w.held → IsWaiting (i ∷ ps) es → IsWaiting ps (set_value_at es i w)
+  pub IsWaiting-settled : (i : ℕ) (ps : List ℕ) (es : List (Entry A)) (w : ScoreSlot) → w.staged ≡ w.current → IsWaiting (i ∷ ps) es → IsWaiting ps (set_value_at es i w)
   IsWaiting-settled i ps es w same old = record {
     within = subst (λ n. IsWithin n ps) (sym (length_written es i w)) old.within.1;
     settled = λ j h. by j h (nat_eq i j) refl;
@@ -136,34 +136,23 @@ module _ {A : Type 0} where
       by j h true e = let at : i ≡ j = grind (arith, nat_tests) in subst (λ k. IfSome (slice_get (set_value_at es i w) k) Stays) at (at_place es i w same)
       by j h false e = subst (λ o. IfSome o Stays) (sym (elsewhere es i j w e)) (old.settled j (ap (λ b. b || list_any (λ p. nat_eq p j) ps) e ∙ h))
 
-  pub rows_settled : (f : Slot → ℤ) (es : List (Entry A)) (i : ℕ) (k : Vec ℕ A) (s w : Slot) → slice_get es i ≡ Some (k, s) → f w ≡ f s → rows_by f (set_value_at es i w) ≡ rows_by f es
-  rows_settled f es i k s w at same = rows_written f es i w (subst (λ o. IfSome o (λ e. f w ≡ f e.1)) (sym at) same)
-
-  abbrev pub slot_of : Entry A → List ℕ × Slot
+  abbrev pub slot_of : Entry A → List ℕ × ScoreSlot
   slot_of e = (e.0.items, e.1)
 
-  -- the entry at a place, by its bytes and its scores
-  pub entry_at_place : (es : List (Entry A)) (i : ℕ) (q : List ℕ) (s : Slot) → slice_get (slots es) i ≡ Some (q, s) → IfSome (slice_get es i) (λ e. (e.0.items ≡ q) × (e.1 ≡ s))
-  entry_at_place es i q s at = by (slice_get es i) (sym (slice_get-map slot_of es i) ∙ at)
-    where
-      by : (o : Option (Entry A)) → option_map slot_of o ≡ Some (q, s) → IfSome o (λ e. (e.0.items ≡ q) × (e.1 ≡ s))
-      by None h = tt
-      by (Some e) h = let same : slot_of e ≡ (q, s) = cc in (ap (λ (p : List ℕ × Slot). p.0) same, ap (λ (p : List ℕ × Slot). p.1) same)
-
   -- the set that waits, after a write
-  pub members_written : {S : Type 0} (f : Slot → ℤ) (m : HashMap (Vec ℕ A) Slot S) (i : ℕ) (w : Slot) (q : List ℕ) (s : Slot) → IsUnique same_bytes m → slice_get (slots m.entries) i ≡ Some (q, s) → members_by f (set_value_at m.entries i w) ≡ fin.insert (members_by f m.entries) q (f w)
+  pub members_written : {S : Type 0} (f : ScoreSlot → ℤ) (m : HashMap (Vec ℕ A) ScoreSlot S) (i : ℕ) (w : ScoreSlot) (q : List ℕ) (s : ScoreSlot) → IsUnique same_bytes m → slice_get (slots m.entries) i ≡ Some (q, s) → members_by f (set_value_at m.entries i w) ≡ fin.insert (members_by f m.entries) q (f w)
   members_written f m i w q s unique at = by (slice_get m.entries i) refl (sym (slice_get-map slot_of m.entries i) ∙ at)
     where
       by : (o : Option (Entry A)) → slice_get m.entries i ≡ o → option_map slot_of o ≡ Some (q, s) → members_by f (set_value_at m.entries i w) ≡ fin.insert (members_by f m.entries) q (f w)
       by None is h = cc
       by (Some e) is h =
           let same : slot_of e ≡ (q, s) = cc in
-          let key : e.0.items ≡ q = ap (λ (p : List ℕ × Slot). p.0) same in
+          let key : e.0.items ≡ q = ap (λ (p : List ℕ × ScoreSlot). p.0) same in
           one_put f m.entries (set_value_at m.entries i w) e.0.items w (updates_bytes e.0.items m (with_value_at m i w) (Some w) (updates-with_value_at m i w same_equiv unique e.0 e.1 is))
           ∙ ap (λ k. fin.insert (members_by f m.entries) k (f w)) key
 
   -- the place at which a look-up finds a member
-  pub place_of : (es : List (Entry A)) (i : ℕ) (q : List ℕ) (k : Vec ℕ A) (s : Slot) → slice_get es i ≡ Some (k, s) → lookup_key (λ k. bytes_eq q k.items) es ≡ Some k → slice_get (slots es) i ≡ Some (q, s)
+  pub place_of : (es : List (Entry A)) (i : ℕ) (q : List ℕ) (k : Vec ℕ A) (s : ScoreSlot) → slice_get es i ≡ Some (k, s) → lookup_key (λ k. bytes_eq q k.items) es ≡ Some k → slice_get (slots es) i ≡ Some (q, s)
   place_of es i q k s at found =
       slice_get-map slot_of es i ∙ ap (option_map slot_of) at
       ∙ ap (λ b. Some (b, s)) (sym ((bytes_decides q k.items).0 (lookup_key_passes (λ k. bytes_eq q k.items) es k found)))
@@ -181,53 +170,53 @@ module _ {A : Type 0} where
   pub Grows-then : (es fs gs : List (Entry A)) → Grows es fs → Grows fs gs → Grows es gs
   Grows-then es fs gs a b = record {
     longer = omega (arith, a.longer, b.longer);
-    front = sym (take_front (length es) (length fs) (rows_by held gs) a.longer) ∙ ap (take (length es)) b.front ∙ a.front;
+    front = sym (take_front (length es) (length fs) (rows_by current_score gs) a.longer) ∙ ap (take (length es)) b.front ∙ a.front;
   }
 
   -- ---- what reading a value by its place tells
-  pub score_at_place : (f : Slot → ℤ) (es : List (Entry A)) (i : ℕ) (s w : Slot) → slice_get (values_of es) i ≡ Some s → f w ≡ f s → IfSome (slice_get es i) (λ e. f w ≡ f e.1)
+  pub score_at_place : (f : ScoreSlot → ℤ) (es : List (Entry A)) (i : ℕ) (s w : ScoreSlot) → slice_get (values_of es) i ≡ Some s → f w ≡ f s → IfSome (slice_get es i) (λ e. f w ≡ f e.1)
   score_at_place f [] i s w at same = tt
   score_at_place f (e ∷ es) zero s w at same = let is : e.1 ≡ s = cc in same ∙ ap f (sym is)
   score_at_place f (e ∷ es) (suc i) s w at same = score_at_place f es i s w at same
 
-  pub rows_kept : (f : Slot → ℤ) (es : List (Entry A)) (i : ℕ) (s w : Slot) → slice_get (values_of es) i ≡ Some s → f w ≡ f s → rows_by f (set_value_at es i w) ≡ rows_by f es
+  pub rows_kept : (f : ScoreSlot → ℤ) (es : List (Entry A)) (i : ℕ) (s w : ScoreSlot) → slice_get (values_of es) i ≡ Some s → f w ≡ f s → rows_by f (set_value_at es i w) ≡ rows_by f es
   rows_kept f es i s w at same = rows_written f es i w (score_at_place f es i s w at same)
 
-  pub rows_take : (f : Slot → ℤ) (n : ℕ) (es : List (Entry A)) → rows_by f (take n es) ≡ take n (rows_by f es)
+  pub rows_take : (f : ScoreSlot → ℤ) (n : ℕ) (es : List (Entry A)) → rows_by f (take n es) ≡ take n (rows_by f es)
   rows_take f zero es = refl
   rows_take f (suc n) [] = refl
   rows_take f (suc n) (e ∷ es) = ap (λ l. (e.0.items, f e.1) ∷ l) (rows_take f n es)
 
   -- one step of a walk over the places
-  pub IsWaiting-next : (ps : List ℕ) (i : ℕ) (es : List (Entry A)) (w : Slot) → w.next ≡ w.held → i < length ps → IsWaiting (drop i ps) es → IsWaiting (drop (i + 1) ps) (set_value_at es (get_or ps i 0) w)
+  pub IsWaiting-next : (ps : List ℕ) (i : ℕ) (es : List (Entry A)) (w : ScoreSlot) → w.staged ≡ w.current → i < length ps → IsWaiting (drop i ps) es → IsWaiting (drop (i + 1) ps) (set_value_at es (get_or ps i 0) w)
   IsWaiting-next ps i es w same lt old =
       subst (λ j. IsWaiting (drop j ps) (set_value_at es (get_or ps i 0) w)) (sym (add-one i))
       (IsWaiting-settled (get_or ps i 0) (drop (suc i) ps) es w same (subst (λ (qs : List ℕ). IsWaiting qs es) (drop-cons ps i 0 lt) old))
 
   -- where nothing waits, both sets are one
-  pub rows_same : (es : List (Entry A)) → IsSettled es → rows_by next es ≡ rows_by held es
+  pub rows_same : (es : List (Entry A)) → IsSettled es → rows_by staged_score es ≡ rows_by current_score es
   rows_same [] h = refl
-  rows_same (e ∷ es) h = ap (λ s. (e.0.items, s) ∷ rows_by next es) (h 0) ∙ ap (λ l. (e.0.items, held e.1) ∷ l) (rows_same es (λ i. h (suc i)))
+  rows_same (e ∷ es) h = ap (λ s. (e.0.items, s) ∷ rows_by staged_score es) (h 0) ∙ ap (λ l. (e.0.items, current_score e.1) ∷ l) (rows_same es (λ i. h (suc i)))
 
-  pub members_same : (es : List (Entry A)) → IsSettled es → members_by next es ≡ members_by held es
+  pub members_same : (es : List (Entry A)) → IsSettled es → members_by staged_score es ≡ members_by current_score es
   members_same es h = ap (λ (rows : List (List ℕ × ℤ)). fin.from_entries rows) (rows_same es h)
 
   -- ---- members that leave
-  settled_at : (es : List (Entry A)) (q : List ℕ) → IsSettled es → IfSome (slot_at es q) (λ s. s.next ≡ s.held)
+  settled_at : (es : List (Entry A)) (q : List ℕ) → IsSettled es → IfSome (slot_at es q) (λ s. s.staged ≡ s.current)
   settled_at [] q h = tt
   settled_at (e ∷ es) q h = by (bytes_eq q e.0.items) (settled_at es q (λ i. h (suc i)))
     where
-      by : (b : Bool) → IfSome (slot_at es q) (λ s. s.next ≡ s.held) → IfSome (cond b (Some e.1) (slot_at es q)) (λ s. s.next ≡ s.held)
+      by : (b : Bool) → IfSome (slot_at es q) (λ s. s.staged ≡ s.current) → IfSome (cond b (Some e.1) (slot_at es q)) (λ s. s.staged ≡ s.current)
       by true rest = h 0
       by false rest = rest
 
-  pub IsSettled-gone : {S : Type 0} (bs : List ℕ) (m n : HashMap (Vec ℕ A) Slot S) → UpdatesBy same_bytes (λ k. bytes_eq bs k.items) m n None → IsUnique same_bytes n → IsSettled m.entries → IsSettled n.entries
+  pub IsSettled-gone : {S : Type 0} (bs : List ℕ) (m n : HashMap (Vec ℕ A) ScoreSlot S) → UpdatesBy same_bytes (λ k. bytes_eq bs k.items) m n None → IsUnique same_bytes n → IsSettled m.entries → IsSettled n.entries
   IsSettled-gone bs m n h unique old i = by (slice_get n.entries i) refl
     where
-      left : (b : Bool) (o : Option Slot) (s : Slot) → cond b None o ≡ Some s → IfSome o (λ s. s.next ≡ s.held) → s.next ≡ s.held
+      left : (b : Bool) (o : Option ScoreSlot) (s : ScoreSlot) → cond b None o ≡ Some s → IfSome o (λ s. s.staged ≡ s.current) → s.staged ≡ s.current
       left true o s e h = cc
       left false None s e h = cc
-      left false (Some t) s e h = let is : t ≡ s = cc in subst (λ (s : Slot). s.next ≡ s.held) is h
+      left false (Some t) s e h = let is : t ≡ s = cc in subst (λ (s : ScoreSlot). s.staged ≡ s.current) is h
 
       by : (o : Option (Entry A)) → slice_get n.entries i ≡ o → IfSome o Stays
       by None at = tt
@@ -235,7 +224,7 @@ module _ {A : Type 0} where
           let here : slot_at n.entries e.0.items ≡ Some e.1 = lookup_from_place same_equiv n.entries i e.0 e.1 unique at in
           left (bytes_eq bs e.0.items) (slot_at m.entries e.0.items) e.1 (sym (updates_bytes bs m n None h e.0.items) ∙ here) (settled_at m.entries e.0.items old)
 
-  pub members_gone : {S : Type 0} (f : Slot → ℤ) (bs : List ℕ) (m n : HashMap (Vec ℕ A) Slot S) → UpdatesBy same_bytes (λ k. bytes_eq bs k.items) m n None → members_by f n.entries ≡ fin.remove (members_by f m.entries) bs
+  pub members_gone : {S : Type 0} (f : ScoreSlot → ℤ) (bs : List ℕ) (m n : HashMap (Vec ℕ A) ScoreSlot S) → UpdatesBy same_bytes (λ k. bytes_eq bs k.items) m n None → members_by f n.entries ≡ fin.remove (members_by f m.entries) bs
   members_gone f bs m n h = one_gone f m.entries n.entries bs (updates_bytes bs m n None h)
 
   pub remove_step : (m : Members) (rs : List (Vec ℕ A)) (i : ℕ) (v : Vec ℕ A) → i < length rs → v ≡ get_or rs i v → remove_all m (bytes_of (drop i rs)) ≡ remove_all (fin.remove m v.items) (bytes_of (drop (i + 1) rs))

@@ -1,6 +1,6 @@
 -- Windows of a listing: in order, a part by its ranks is the listing between them. The pieces of a column are such parts.
 use Rattle.std.proofs.Common.{◌≡◌, ◌⊎◌, ℕ, cond, map, Option, is_some, ◌+◌, ◌-◌, ◌<◌, ◌≤◌, ◌<ℤ◌, ◌≤ℤ◌, ℤ, pos, Bool, true, false, nat_lt, ◌||◌, List, [], ◌∷◌, ◌++◌, length, take, drop, get_or, filter, All, Contains, Any, count_by, IsPermutation, inl, inr, refl, sym, ap, subst, ◌∙◌, arith, append_assoc, take_at, drop_at, drop-drop, take-append-drop, take-take, is_lt, Ordering, Less, Equal, Greater}
-use Rattle.std.specs.Prelude.{slice_range, T, ◌&&◌}
+use Rattle.std.specs.Prelude.{slice_range, T}
 use Rattle.std.specs.Ordering.{int_cmp, ordering_then, MatchOrdering}
 use Rattle.std.specs.List.{AllByRecursion, IsDistinct, list_any, between}
 use Rattle.std.specs.List.Sorted.{IsStrictlySortedBy, IsSorted, IsNonDecreasingBy}
@@ -19,16 +19,17 @@ use Rattle.std.proofs.lemmas.List.Folds.{list_any-append}
 use Rattle.std.proofs.lemmas.List.Sums.{sum_by-append}
 use Rattle.std.proofs.lemmas.List.Sorted.{IsPermutation-refl, sum_by-IsPermutation}
 use Rattle.std.proofs.lemmas.Map.Views.{Contains-from_any}
-use Rattle.crack_kernel.specs.Bags.{Test, SameBag}
+use Rattle.crack_kernel.specs.RowBag.{Test, SameBag}
 use Rattle.crack_kernel.specs.Parts.{IsBelow, IsFrom, IsParted}
 use Rattle.crack_kernel.specs.PivotList.{ObeysPivots}
 use Rattle.crack_kernel.proofs.PivotOrder.{IsRising-le}
-use Rattle.zset_core.specs.Sets.{Members, Pair, bytes_cmp, pair_cmp, pairs, marks, listing}
-use Rattle.zset_core.specs.Listed.{Shown, pairs_of, shown_cmp}
-use Rattle.zset_core.specs.Windows.{ComesBefore, IsPart, IsPieceStart, IsPieceEnd}
+use Rattle.zset_core.proofs.Tests.{first, second}
+use Rattle.zset_core.specs.SortedSet.{Members, Pair, bytes_cmp, pair_cmp, pairs, marks, listing}
+use Rattle.zset_core.specs.BorrowedPairs.{Shown, pairs_of, shown_cmp}
+use Rattle.zset_core.specs.RankWindow.{ComesBefore, IsPart, IsPieceStart, IsPieceEnd}
 use Rattle.zset_core.proofs.Order.{is_pair, is_equal, pair_total, listing_is, rises, rises_pairs, rises_step, rows_apart, filter_apart, len_marks, pairs_apart, keys_marks}
-use Rattle.zset_core.specs.Step.{limited}
-use Rattle.zset_core.specs.declared.limit.Limit.{Limit}
+use Rattle.zset_core.specs.Semantics.{apply_limit}
+use Rattle.zset_core.specs.declared.command.limit.Limit.{Limit}
 use Rattle.zset_core.proofs.RangeRows.{any_count, count_once, apart_once, length_listing}
 use Rattle.zset_core.proofs.Ranks.{IsPart-inner, left_before, right_before, none_before, before_none}
 
@@ -36,14 +37,6 @@ use Rattle.zset_core.proofs.Ranks.{IsPart-inner, left_before, right_before, none
 -- pairs in the order of a listing, once each
 abbrev sorted_of : List Pair → List Pair
 sorted_of ps = fin.keys (fin.from_entries {R = pair_cmp} (marks ps))
-
-first : (a b : Bool) → T (a && b) → T a
-first true b h = tt
-first false b h = h
-
-second : (a b : Bool) → T (a && b) → T b
-second true b h = h
-second false b h = absurd h
 
 less : (o : Ordering) → T (is_lt o) → o ≡ Less
 less Less h = refl
@@ -261,9 +254,9 @@ IsPart-pieces pivots rows from to first last low high law order within start end
 -- the window of the ranks that LIMIT asks for, among the pieces that it touches
 pub limited_window : (t : ℤ → Bool) (m : Members) (limit : Option Limit) (pivots found : List (ℤ × ℕ)) (rows : List Pair) (shown window : List Shown) (from to start end low high : ℕ)
     → SameBag (slice_range rows from to) (filter (λ p. t p.0) (pairs m)) → ObeysPivots pivots rows → found ≡ pivots → from ≤ to → to ≤ length rows → start ≤ end → end ≤ to - from
-    → ((ps : List Pair) → length ps ≡ to - from → limited limit ps ≡ slice_range ps start end) → IsPieceStart found from (from + start) low → IsPieceEnd found to (from + end) high
+    → ((ps : List Pair) → length ps ≡ to - from → apply_limit limit ps ≡ slice_range ps start end) → IsPieceStart found from (from + start) low → IsPieceEnd found to (from + end) high
     → pairs_of shown ≡ slice_range rows low high → IsPart (pairs_of shown) (from + start - low) (from + end - low) (pairs_of window) → IsSorted shown_cmp window
-    → pairs_of window ≡ limited limit (listing t m)
+    → pairs_of window ≡ apply_limit limit (listing t m)
 limited_window t m limit pivots found rows shown window from to start end low high bag law same order within rising fits ranks at_low at_high is part up =
     let range : List Pair = slice_range rows from to in
     let pieces : List Pair = slice_range rows low high in
@@ -278,6 +271,6 @@ limited_window t m limit pivots found rows shown window from to start end low hi
     window_listing t m range start end window bag whole up ∙ sym (ranks (listing t m) (length_listing t m range bag ∙ length-between rows from to within))
 
 pub limited_nothing : (t : ℤ → Bool) (m : Members) (limit : Option Limit) (rows : List Pair) (from to start end : ℕ) → SameBag (slice_range rows from to) (filter (λ p. t p.0) (pairs m)) → to ≤ length rows → start ≡ end
-    → ((ps : List Pair) → length ps ≡ to - from → limited limit ps ≡ slice_range ps start end) → [] ≡ limited limit (listing t m)
+    → ((ps : List Pair) → length ps ≡ to - from → apply_limit limit ps ≡ slice_range ps start end) → [] ≡ apply_limit limit (listing t m)
 limited_nothing t m limit rows from to start end bag within none ranks =
     sym (ranks (listing t m) (length_listing t m (slice_range rows from to) bag ∙ length-between rows from to within) ∙ ap (λ (n : ℕ). between start n (listing t m)) (sym none) ∙ between_none (listing t m) start)

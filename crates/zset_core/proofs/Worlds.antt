@@ -12,19 +12,19 @@ use Rattle.std.specs.declared.vec.Vec.{Vec}
 use Rattle.std.specs.declared.cmp.Ordering.{Ordering}
 use Rattle.std.proofs.lemmas.Map.Text.{is_eq-slice_cmp}
 use Rattle.std.proofs.lemmas.Bool.Decides.{nat_tests}
-use Rattle.zset_core.specs.Sets.{Members, bytes_cmp}
-use Rattle.zset_core.specs.View.{SetView, Next, Shows, IsReady, ShowsAt, IsReadyAt}
-use Rattle.zset_core.specs.Outlined.{IsOutline}
-use Rattle.zset_core.specs.declared.outline.Outline.{Outline}
+use Rattle.zset_core.specs.SortedSet.{Members, bytes_cmp}
+use Rattle.zset_core.specs.Views.{SetView, Next, Shows, IsPreparedFor, ShowsAt, IsPreparedAt}
+use Rattle.zset_core.specs.ChangeOutline.{IsOutline}
+use Rattle.zset_core.specs.declared.set.change_outline.Outline.{Outline}
 use Rattle.zset_core.specs.World.{World, is_empty, set_at, put_set}
-use Rattle.zset_core.specs.Owned.{Keyed, world_of, set_in, IsResting, AllRest, OthersRest, next_at, IsAfter}
+use Rattle.zset_core.specs.OwnerInvariant.{Keyed, world_of, set_in, IsResting, AllRest, OthersRest, next_at, IsAfter}
 use Rattle.zset_core.proofs.Bridge.{total, exact}
 use Rattle.std.proofs.Common.{IfOk, IfErr}
 use Rattle.resp_wire.specs.Response.{Response}
-use Rattle.zset_core.specs.Meaning.{Meaning}
-use Rattle.zset_core.specs.Step.{step}
+use Rattle.zset_core.specs.CommandMeaning.{Meaning}
+use Rattle.zset_core.specs.Semantics.{step}
 use Rattle.zset_core.specs.World.{act_at}
-use Rattle.zset_core.specs.Refused.{IsRefused}
+use Rattle.zset_core.specs.Refusal.{IsRefused}
 use Rattle.zset_core.specs.declared.refusal.Refusal.{Refusal}
 use Rattle.zset_core.specs.declared.refusal.Refusal.TheVariants.{NoMemory, UnknownCommand, WrongArity, Syntax, NxAndXx, GtLtNx, IncrPair, BadScore, BadBound, BadInteger, TableFull, Spent, ScoreOverflow, LogBroken, LogFull, LogRefused, OutOfStep}
 
@@ -225,7 +225,7 @@ module _ {A : Type 0} where
       filled_of (suc n) h = grind (arith, nat_tests)
 
   -- ---- a set that is prepared
-  pub ready_at : (w : World) (k : List ℕ) (c : Meaning) (old : Members) (v : SetView) (fs : List (Keyed A)) → set_at w k ≡ old → set_in fs k ≡ Some v → IsReady old c v.next → IsReadyAt w (Some k) c (next_at fs (Some k))
+  pub ready_at : (w : World) (k : List ℕ) (c : Meaning) (old : Members) (v : SetView) (fs : List (Keyed A)) → set_at w k ≡ old → set_in fs k ≡ Some v → IsPreparedFor old c v.next → IsPreparedAt w (Some k) c (next_at fs (Some k))
   ready_at w k c old v fs at here ready =
       subst (λ (o : Option SetView). ShowsAt k (step (set_at w k) c) c (option_and_then (λ v. option_map (keyed k) v.next) o)) (sym here)
       (subst (λ (m : Members). ShowsAt k (step m c) c (option_map (keyed k) v.next)) (sym at) (by (step old c) v.next ready))

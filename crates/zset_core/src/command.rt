@@ -2,14 +2,22 @@
 
 ghost use Rattle.std.specs.Prelude.{◌≡◌, ◌≢◌, IfOk, IfErr, Ok, Err};
 ghost use Rattle.std.specs.Option.{option_copied};
-ghost use Rattle.zset_core.specs.Asking.{asked, is_creating};
-ghost use Rattle.zset_core.specs.Bounded.{IsBoundedMeaning};
-ghost use Rattle.zset_core.specs.Form.{meaning_of, IsWhole};
-ghost use Rattle.zset_core.specs.Meaning.{key_of, is_writing};
+ghost use Rattle.zset_core.specs.CommandGrammar.{asked, is_creating};
+ghost use Rattle.zset_core.specs.BoundedWorld.{IsBoundedMeaning};
+ghost use Rattle.zset_core.specs.ParsedArguments.{meaning_of, IsWhole};
+ghost use Rattle.zset_core.specs.CommandMeaning.{key_of, is_writing};
 ghost use Rattle.zset_core.specs.declared.refusal.Refusal.TheVariants as refusals;
 
-use crate::form::Form;
-use crate::reading::{read_form, word};
+pub mod add;
+pub mod limit;
+pub mod name;
+pub mod parse;
+pub mod parsed;
+pub mod range;
+pub mod scored_pairs;
+
+use crate::command::parse::{argument, read_form};
+use crate::command::parsed::Form;
 use crate::refusal::Refusal;
 use resp_wire::Request;
 use std::alloc::Allocator;
@@ -25,9 +33,9 @@ pub struct Command<A: Allocator> {
 
 impl<A: Allocator> Model for Command<A> {
     ghost use Rattle.std.specs.Prelude.{◌≡◌, Ok};
-    ghost use Rattle.zset_core.specs.Asking.{asked};
-    ghost use Rattle.zset_core.specs.Form.{meaning_of, IsWhole};
-    ghost use Rattle.zset_core.specs.Meaning.{Asked};
+    ghost use Rattle.zset_core.specs.CommandGrammar.{asked};
+    ghost use Rattle.zset_core.specs.ParsedArguments.{meaning_of, IsWhole};
+    ghost use Rattle.zset_core.specs.CommandMeaning.{Asked};
 
     ghost Value = { Asked };
 
@@ -41,8 +49,8 @@ impl<A: Allocator + Copy> Command<A> {
     ///
     /// # Errors
     ///
-    /// The first of the refusals 2 to 10 whose condition holds; [`Refusal::NoMemory`] where a
-    /// growth is refused.
+    /// The first of the refusals 2 to 10 whose condition holds; [`Refusal::NoMemory`] where an
+    /// allocation fails.
     pub fn read(alloc: A, request: Request<A>) -> Result<Self, Refusal>
         ensures ok { IfOk result (λ command. (command.words ≡ request)
             × (asked request ≡ Ok command.meaning)) }
@@ -63,7 +71,7 @@ impl<A: Allocator> Command<A> {
         &self.request
     }
 
-    /// What was kept of the request's words.
+    /// What was kept of the request's arguments.
     pub(crate) fn form(&self) -> &Form<A>
         ensures whole { IsWhole self.now.words result.now }
         ensures meaning { self.now.meaning ≡ meaning_of self.now.words result.now }
@@ -79,7 +87,7 @@ impl<A: Allocator> Command<A> {
         let words = self.request.words();
         match &self.form {
             Form::Ping => None,
-            _ => Some(word(words, 1)),
+            _ => Some(argument(words, 1)),
         }
     }
 

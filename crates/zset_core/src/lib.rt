@@ -1,34 +1,22 @@
 //! Sorted sets: members with scores, the commands on them, and sets by key.
+//!
+//! Three rooms: `command` reads a request as a command, `set` is one sorted set and how a command
+//! changes it, `query` answers the commands that change nothing. Beside them stand the replies, the
+//! refusals, the owner of sets by key, and laws of the definitions.
 #![tactic(auto)]
 
-mod add_words;
-mod answer;
 mod command;
-mod edits;
-mod form;
-mod gather;
-mod limit;
-mod listing;
-pub mod listing_laws;
-mod name;
-mod outline;
+pub mod laws;
 mod owner;
-mod pair;
-mod plan;
-mod range_words;
-mod reading;
-pub mod reading_laws;
+mod query;
 mod refusal;
+mod replies;
 mod set;
-mod slot;
-mod stage;
-mod told;
-mod window;
 
 pub use command::Command;
-pub use limit::Limit;
-pub use outline::Outline;
+pub use command::limit::Limit;
 pub use owner::OneOwner;
-pub use pair::{Flags, Outcome};
 pub use refusal::Refusal;
 pub use set::ZSet;
+pub use set::change_outline::Outline;
+pub use set::pair_outcome::{Flags, Outcome};

@@ -1,67 +1,51 @@
 //! Why a command is refused.
 
 ghost use Rattle.std.specs.Prelude.{◌≡◌};
-ghost use Rattle.zset_core.specs.Refusals.{number_of, text_of};
+ghost use Rattle.zset_core.specs.Refusal.{number_of, text_of};
 ghost use Rattle.zset_core.specs.declared.refusal.Refusal.TheVariants as refusals;
 
 use std::alloc::AllocError;
-use thiserror::Error;
+use std::error::Error;
+use std::fmt::{self, Display, Formatter, Write};
 
 /// Why a command is refused. No refusal changes a member or a score of any set. Of the causes 2 to
 /// 16 that hold the one with the least number is told; `OutOfStep` is looked for before `Spent`,
-/// and `NoMemory` comes wherever a growth is refused. Numbers and texts are this project's own.
-#[derive(Clone, Copy, Debug, PartialEq, Eq, Error)]
+/// and `NoMemory` comes wherever an allocation fails. Numbers and texts are this project's own.
+#[derive(Clone, Copy, Debug, PartialEq, Eq)]
 pub enum Refusal {
-    /// A growth was refused at that point of the work.
-    #[error("ERR 1 out of memory")]
+    /// An allocation failed at that point of the work.
     NoMemory,
     /// No command has this name.
-    #[error("ERR 2 unknown command")]
     UnknownCommand,
-    /// The command takes another number of words.
-    #[error("ERR 3 wrong number of arguments")]
+    /// The command takes another number of arguments.
     WrongArity,
-    /// A score without a member, or a word where an option is wanted.
-    #[error("ERR 4 syntax error")]
+    /// A score without a member, or an argument where an option is wanted.
     Syntax,
     /// NX and XX in one command.
-    #[error("ERR 5 NX and XX exclude each other")]
     NxAndXx,
     /// Two of GT, LT and NX in one command.
-    #[error("ERR 6 GT, LT and NX exclude each other")]
     GtLtNx,
     /// INCR with another number of pairs than one.
-    #[error("ERR 7 INCR takes one pair")]
     IncrPair,
-    /// A word that spells no score where one is wanted.
-    #[error("ERR 8 score is not a whole number of 64 bits")]
+    /// An argument that is no score where one is wanted.
     BadScore,
-    /// A word that spells no bound where one is wanted.
-    #[error("ERR 9 min or max is not a score bound")]
+    /// An argument that is no bound where one is wanted.
     BadBound,
-    /// A word of LIMIT that spells no integer.
-    #[error("ERR 10 LIMIT takes two whole numbers")]
+    /// An argument of LIMIT that is no integer.
     BadInteger,
     /// Every place of the table bears another key's name.
-    #[error("ERR 11 no place left for a key")]
     TableFull,
     /// The place has had all the runs that it is given.
-    #[error("ERR 12 place is spent")]
     Spent,
     /// An increased score would lie outside 64 bits.
-    #[error("ERR 13 score out of range")]
     ScoreOverflow,
     /// An append failed in an earlier call.
-    #[error("ERR 14 append file failed earlier")]
     LogBroken,
     /// The append file has as many records as it is given.
-    #[error("ERR 15 append file is full")]
     LogFull,
     /// The append failed in this call.
-    #[error("ERR 16 append file failed")]
     LogRefused,
     /// A place and the pass that asks it do not belong together.
-    #[error("ERR 17 place and pass disagree")]
     OutOfStep,
 }
 
@@ -116,6 +100,14 @@ impl Refusal {
         }
     }
 }
+
+impl Display for Refusal {
+    fn fmt<W: Write>(&self, f: &mut Formatter<W>) -> fmt::Result {
+        f.write_str(self.text())
+    }
+}
+
+impl Error for Refusal {}
 
 impl From<AllocError> for Refusal {
     ghost from_gives = { λ _ refusal. refusal ≡ refusals.NoMemory };

@@ -2,28 +2,37 @@
 ghost use Rattle.std.specs.Prelude.{◌≡◌, ◌+◌, ◌<◌, ◌≤◌, ◌^◌, ◌⊎◌, ◌↔◌, length, true, false, Some, None, IsSome, IfSome, IfOk, IfErr, OnOk, OnErr, IsTrue, take, option_map};
 ghost use Rattle.std.specs.FinMap as map;
 ghost use Rattle.indexmap.specs.IndexMap.{IsUnique};
-ghost use Rattle.zset_core.specs.Kept.{held, slot_at, same_bytes};
-ghost use Rattle.zset_core.specs.Viewed.{kept_of};
-ghost use Rattle.zset_core.specs.Meaning.{is_writing, key_of};
-ghost use Rattle.zset_core.specs.Outlined.{IsOutline};
-ghost use Rattle.zset_core.specs.Refused.{IsRefused};
+ghost use Rattle.zset_core.specs.StagedEntries.{current_score, slot_at, same_bytes};
+ghost use Rattle.zset_core.specs.SetInvariant.{kept_of};
+ghost use Rattle.zset_core.specs.CommandMeaning.{is_writing, key_of};
+ghost use Rattle.zset_core.specs.ChangeOutline.{IsOutline};
+ghost use Rattle.zset_core.specs.Refusal.{IsRefused};
 ghost use Rattle.ripple_column.specs.Content.{Holds, IsUnchanged, most_pending};
-ghost use Rattle.ripple_column.specs.Cuts.{values};
-ghost use Rattle.zset_core.specs.Columns.{Reads, changes_named, edit_count};
-ghost use Rattle.zset_core.specs.Edited.{most_edits};
-ghost use Rattle.zset_core.specs.Readied.{IsReadyFor};
-ghost use Rattle.zset_core.specs.Sets.{pairs, whole};
-ghost use Rattle.zset_core.specs.Step.{step};
-ghost use Rattle.zset_core.specs.View.{IsReady};
+ghost use Rattle.ripple_column.specs.CutPivots.{values};
+ghost use Rattle.zset_core.specs.ColumnEffects.{Reads, changes_named, edit_count};
+ghost use Rattle.zset_core.specs.Edits.{most_edits};
+ghost use Rattle.zset_core.specs.ReadOnlyAnswer.{IsReadyFor};
+ghost use Rattle.zset_core.specs.SortedSet.{pairs, whole};
+ghost use Rattle.zset_core.specs.Semantics.{step};
+ghost use Rattle.zset_core.specs.Views.{IsPreparedFor};
 ghost use Rattle.resp_wire.specs.Response.{response_of};
 
-use crate::answer::{answer_from, ready_from};
+pub mod change_outline;
+pub mod draft;
+pub mod member_map;
+pub mod pair_outcome;
+pub mod plan;
+pub mod removal;
+pub mod row_edits;
+pub mod staged_scores;
+
 use crate::command::Command;
-use crate::listing::all_rows;
-use crate::outline::Outline;
-use crate::plan::{Plan, carry_out, let_go, make_plan};
+use crate::query::answer::{answer_from, ready_from};
+use crate::query::listing::all_rows;
 use crate::refusal::Refusal;
-use crate::slot::Slot;
+use crate::set::change_outline::Outline;
+use crate::set::member_map::MemberMap;
+use crate::set::plan::{Plan, apply_plan, discard, make_plan};
 use crack_kernel::Row;
 use indexmap::IndexMap;
 use resp_wire::Reply;
@@ -35,7 +44,7 @@ use std::snapshot::Snapshot;
 
 /// What is prepared, and the command that it was prepared for.
 #[derive(Drop)]
-struct Prepared<A: Allocator> {
+struct Prepared<A: Allocator + Copy> {
     asked: Snapshot<Command<A>>,
     plan: Plan<A>,
 }
@@ -49,22 +58,22 @@ struct Prepared<A: Allocator> {
 #[derive(Drop)]
 pub struct ZSet<H: BuildHasher, A: Allocator + Copy> {
     alloc: A,
-    members: IndexMap<Vec<u8, A>, Slot, H, A>,
+    members: MemberMap<H, A>,
     column: Column<A>,
     prepared: Option<Prepared<A>>,
 }
 
 impl<H: BuildHasher, A: Allocator + Copy> Model for ZSet<H, A> {
-    ghost use Rattle.zset_core.specs.View.{SetView};
+    ghost use Rattle.zset_core.specs.Views.{SetView};
 
     ghost Value = { SetView };
 
     ghost use Rattle.std.specs.Coded.{codes};
-    ghost use Rattle.zset_core.specs.View.{coded_members};
+    ghost use Rattle.zset_core.specs.Views.{coded_members};
 
     ghost coded = { Prim.hlevel (codes, coded_members) };
 
-    ghost use Rattle.zset_core.specs.Viewed.{view_of, IsSound};
+    ghost use Rattle.zset_core.specs.SetInvariant.{view_of, IsSound};
 
     ghost view = { λ z. view_of z.members.entries z.column z.prepared };
 
@@ -109,7 +118,7 @@ impl<H: BuildHasher, A: Allocator + Copy> ZSet<H, A> {
     }
 
     /// Answers a command that reads the set of its key: ZSCORE, ZCARD, ZCOUNT, ZRANGEBYSCORE. Then
-    /// the set is ready for it. Refused for want of memory alone.
+    /// the set is ready for it. Refused only when out of memory.
     pub fn answer(&mut self, command: &Command<A>) -> Result<Reply<A>, AllocError>
         requires idle { self.old.next ≡ None }
         requires reading { is_writing command.now.meaning ≡ false }
@@ -163,13 +172,13 @@ impl<H: BuildHasher, A: Allocator + Copy> ZSet<H, A> {
     }
 
     /// Prepares a command that changes sets: takes all the memory that it needs, and leaves the
-    /// members as they are until `commit` or `drop_prepared`. Refused for want of memory, or where
+    /// members as they are until `commit` or `drop_prepared`. Refused when out of memory, or where
     /// a sum of INCR is no score; nothing is prepared then.
     pub fn prepare(&mut self, command: &Command<A>) -> Result<Outline, Refusal>
         requires idle { self.old.next ≡ None }
         requires writing { IsTrue (is_writing command.now.meaning) }
         ensures members { self.new.members ≡ self.old.members }
-        ensures ok { OnOk result (IsReady self.old.members command.now.meaning self.new.next) }
+        ensures ok { OnOk result (IsPreparedFor self.old.members command.now.meaning self.new.next) }
         ensures outline { IfOk result
             (λ outline. IfSome self.new.next
             (λ next. IsOutline outline self.old.members next.members)) }
@@ -207,11 +216,11 @@ impl<H: BuildHasher, A: Allocator + Copy> ZSet<H, A> {
     {
         match self.prepared.take() {
             None => unreachable!(),
-            Some(prepared) => carry_out(&mut self.members, &mut self.column, prepared.plan),
+            Some(prepared) => apply_plan(&mut self.members, &mut self.column, prepared.plan),
         }
     }
 
-    /// Lets the prepared change go: the set is as it was before it. It takes no memory.
+    /// Discards the prepared change: the set is as it was before it. It takes no memory.
     pub fn drop_prepared(&mut self)
         requires { IsSome self.old.next }
         ensures members { self.new.members ≡ self.old.members }
@@ -220,14 +229,14 @@ impl<H: BuildHasher, A: Allocator + Copy> ZSet<H, A> {
             → self.new.column ≡ self.old.column) }
     {
         if let Some(prepared) = self.prepared.take() {
-            let_go(&mut self.members, prepared.plan);
+            discard(&mut self.members, prepared.plan);
         }
     }
 }
 
 /// The number of entries that stand whatever becomes of what is prepared.
 fn kept_len<H: BuildHasher, A: Allocator + Copy>(
-    members: &IndexMap<Vec<u8, A>, Slot, H, A>,
+    members: &MemberMap<H, A>,
     prepared: &Option<Prepared<A>>,
 ) -> usize
     ensures kept { result ≡ kept_of members.now.entries prepared.now }
@@ -237,20 +246,26 @@ fn kept_len<H: BuildHasher, A: Allocator + Copy>(
     let len = members.len();
     match prepared {
         None => len,
-        Some(prepared) => prepared.plan.kept,
+        Some(prepared) => prepared.plan.draft.kept,
     }
 }
 
 /// The score that a member has among the first entries.
 fn score_before<H: BuildHasher, A: Allocator + Copy>(
-    members: &IndexMap<Vec<u8, A>, Slot, H, A>,
+    members: &MemberMap<H, A>,
     kept: usize,
     member: &[u8],
 ) -> Option<i64>
-    ensures { result ≡ option_map held (slot_at (take kept members.now.entries) member.now) }
+    ensures { result ≡ option_map current_score (slot_at (take kept members.now.entries) member.now) }
 {
     match members.get_full(member) {
         None => None,
-        Some((place, _, slot)) => { if place < kept { Some(slot.held) } else { None } }
+        Some((place, _, slot)) => {
+            if place < kept {
+                Some(slot.current)
+            } else {
+                None
+            }
+        }
     }
 }

@@ -1,7 +1,8 @@
 use Rattle.std.proofs.Common.{◌≡◌, ◌++◌, length, drop, refl, sym, ◌∙◌, ap, arith, length-append}
 use Rattle.std.proofs.lemmas.List.{length-take-le}
-use Rattle.append_log.proofs.Nexts.{err_is, handed_late}
-use Rattle.append_log.proofs.Ways.{unread, begins, reads_on, loads, fails}
+use Rattle.resp_wire.proofs.CallerLemmas.{err_is}
+use Rattle.append_log.proofs.ReloadFaults.{handed_late}
+use Rattle.append_log.proofs.ReloadProgress.{unread, begins, reads_on, loads, fails}
 use Rattle.append_log.proofs.loading.reload.Goals as goal
 
 pub returns-in_err-piece-clause-read : goal.returns-in_err-piece-clause-read
@@ -9,12 +10,11 @@ returns-in_err-piece-clause-read g c = unread _ _ _ (err_is _ _ c.from_residual.
 
 pub reads-init : goal.reads-init
 reads-init g c = record {
-  way = rw c.new.ensures (begins _ _);
+  way = rw (c.new-reloader.ensures.decoder, c.new-reloader.ensures.records) (begins _ _);
   slice = sym c.in_ok-piece.piece.ok.0 ∙ c.in_ok-piece.ensures.len;
   idle = c.requires.idle;
-  unfaulted = ap (λ w. w.fault) c.new.ensures;
-  bytes_so_far = rw c.new.ensures (omega arith);
-  few_records = omega arith;
+  bytes_so_far = rw c.new-reloader.ensures.decoder (omega arith);
+  ready = record { unfaulted = ap (λ w. w.fault) c.new-reloader.ensures.decoder; few = omega (arith, c.new-reloader.ensures.records) };
   few = omega arith;
   many = omega arith;
   good = refl;
@@ -41,9 +41,8 @@ reads-preserved g c =
       way = reads_on _ _ _ _ _ _ i.way _ _ _ _ (rw c.in_default.is at e.round);
       slice = length-take-le c.reads.piece.len (c.read_on.new.buffer ++ drop (length c.read_on.new.buffer) c.reads.piece.items) (omega (arith, kept, i.slice, c.reads.piece.ok.0, length-append c.read_on.new.buffer (drop (length c.read_on.new.buffer) c.reads.piece.items))) ∙ c.reads.piece.ok.0 ∙ i.slice;
       idle = e.idle;
-      unfaulted = e.unfaulted;
       bytes_so_far = omega (arith, e.bytes, i.bytes_so_far, ap length c.deref_mut.ensures.value, i.slice, c.requires.buffer);
-      few_records = e.few;
+      ready = e.ready;
       few = omega (arith, e.calls, i.few);
       many = omega (arith, e.calls, i.many);
       good = e.failures ∙ i.good;

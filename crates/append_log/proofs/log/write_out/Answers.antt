@@ -1,6 +1,6 @@
 use Rattle.std.proofs.Common.{◌∙◌, arith, length-drop}
 use Rattle.std.proofs.lemmas.List.{take_rest}
-use Rattle.append_log.proofs.Bytes.{write_more}
+use Rattle.resp_wire.proofs.CallerLemmas.{write_more}
 use Rattle.append_log.proofs.log.write_out.Goals as goal
 
 pub loop-taken-preserved : goal.loop-taken-preserved

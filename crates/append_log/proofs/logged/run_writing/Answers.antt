@@ -1,9 +1,9 @@
 use Rattle.std.proofs.Common.{◌≡◌, sym, ◌∙◌, ap, true, false}
-use Rattle.zset_core.specs.Meaning.{key_of}
+use Rattle.zset_core.specs.CommandMeaning.{key_of}
 use Rattle.zset_core.specs.World.{set_at}
 use Rattle.resp_wire.specs.Response.{response_of}
-use Rattle.append_log.proofs.Sames.{act-ready}
-use Rattle.append_log.proofs.Loggeds.{committed, changes-ready, not_run, Replays-push, Replays-stay}
+use Rattle.append_log.proofs.SameWorlds.{act-ready}
+use Rattle.append_log.proofs.LoggedOwnerLemmas.{committed, changes-ready, not_run, Replays-push, Replays-stay}
 use Rattle.append_log.proofs.logged.run_writing.Goals as goal
 use Rattle.append_log.proofs.logged.run_writing.Goals.{then-outline+in_default, else-outline}
 

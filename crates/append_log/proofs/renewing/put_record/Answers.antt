@@ -1,5 +1,5 @@
 use Rattle.std.proofs.Common.{◌∙◌}
-use Rattle.append_log.proofs.Pieces.{front_none, front_taken, on_err}
+use Rattle.append_log.proofs.RecordPieces.{front_none, front_taken, on_err}
 use Rattle.append_log.proofs.renewing.put_record.Goals as goal
 
 pub returns-in_err-text-clause-err : goal.returns-in_err-text-clause-err

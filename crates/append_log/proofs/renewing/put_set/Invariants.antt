@@ -1,7 +1,7 @@
 use Rattle.std.proofs.Common.{◌≡◌, ◌+◌, ◌≤◌, List, ◌++◌, length, map}
 use Rattle.std.specs.Io.KnownBytes.{append_known}
-use Rattle.zset_core.specs.Sets.{Pair}
-use Rattle.append_log.specs.Image.{add_record, pieces}
+use Rattle.zset_core.specs.SortedSet.{Pair}
+use Rattle.append_log.specs.Dump.{add_record, pieces}
 use Rattle.append_log.specs.Records.{text_of}
 use Rattle.append_log.proofs.renewing.put_set.Given as goal
 

@@ -2,10 +2,10 @@ use Rattle.std.proofs.Common.{◌≡◌, [], ◌∷◌, ◌++◌, drop, length, 
 use Rattle.std.specs.Option.{option_copied}
 use Rattle.std.specs.FinMap as fin
 use Rattle.zset_core.specs.World.{set_at}
-use Rattle.append_log.specs.Image.{set_records, records_at}
-use Rattle.append_log.proofs.Pieces.{on_err}
-use Rattle.append_log.proofs.Images.{front_of_image, front_in_set, cut_behind, told_set, records_more, all_keys}
-use Rattle.append_log.proofs.Walks.{left_from, left_is, next_key, there_is, headed, ended, shorter}
+use Rattle.append_log.specs.Dump.{set_records, records_at}
+use Rattle.append_log.proofs.RecordPieces.{on_err}
+use Rattle.append_log.proofs.DumpPrefix.{front_of_image, front_in_set, cut_behind, told_set, records_more, all_keys}
+use Rattle.append_log.proofs.KeyWalk.{left_from, left_is, next_key, there_is, headed, ended, shorter}
 use Rattle.append_log.proofs.renewing.rewrite.Goals as goal
 
 pub keys-init : goal.keys-init

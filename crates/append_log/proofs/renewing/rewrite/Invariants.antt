@@ -2,9 +2,9 @@ use Rattle.std.proofs.Common.{◌≡◌, ℕ, ◌-◌, ◌^◌, List, ◌++◌, 
 use Rattle.std.specs.Option.{option_copied}
 use Rattle.std.specs.FinMap as fin
 use Rattle.std.specs.Io.KnownBytes.{append_known}
-use Rattle.append_log.specs.Image.{records_at}
+use Rattle.append_log.specs.Dump.{records_at}
 use Rattle.append_log.specs.Records.{text_of}
-use Rattle.append_log.proofs.Walks.{left_from}
+use Rattle.append_log.proofs.KeyWalk.{left_from}
 use Rattle.append_log.proofs.renewing.rewrite.Given as goal
 
 abbrev pub invariant-keys : goal.invariant-keys

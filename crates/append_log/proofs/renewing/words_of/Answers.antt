@@ -1,6 +1,6 @@
 use Rattle.std.proofs.Common.{rules, [], ◌∷◌}
 use Rattle.std.specs.Prelude.{codes}
-use Rattle.append_log.proofs.Pieces.{words_more}
+use Rattle.append_log.proofs.RecordPieces.{words_more}
 use Rattle.append_log.proofs.renewing.words_of.Goals as goal
 
 pub loop-row-preserved : goal.loop-row-preserved

@@ -2,7 +2,7 @@ use Rattle.std.proofs.Common.{◌≡◌, get_or, set, sym, ◌∙◌, arith}
 use Rattle.std.proofs.lemmas.Int.{ints}
 use Rattle.std.proofs.lemmas.List.{get_or_default}
 use Rattle.ripple_column.specs.Content.{Holds}
-use Rattle.ripple_column.proofs.HeldRows.{HasRow-held, Holds-changed, Holds-same, row-same}
+use Rattle.ripple_column.proofs.CallerLemmas.{HasRow-held, Holds-changed, Holds-same, row-same}
 use Rattle.bench.proofs.columns.change.Goals as goal
 
 pub delete-requires-clause-there : goal.delete-requires-clause-there

@@ -1,7 +1,7 @@
 use Rattle.std.proofs.Common.{◌≡◌, ◌++◌, ◌∷◌, [], arith}
 use Rattle.std.proofs.lemmas.Int.{ints}
 use Rattle.ripple_column.specs.Content.{Holds}
-use Rattle.ripple_column.proofs.HeldRows.{Holds-added, Holds-same, OnOk-always, row-same}
+use Rattle.ripple_column.proofs.CallerLemmas.{Holds-added, Holds-same, OnOk-always, row-same}
 use Rattle.bench.proofs.columns.fill.Goals as goal
 
 pub loop-i-preserved : goal.loop-i-preserved

@@ -1,4 +1,4 @@
--- The growth is counted, and refused where its number has come; else the inner allocator answers. Assumes `Logic`.
+-- The allocation is counted, and refused where its number has come; else the inner allocator answers. Assumes `Logic`.
 use Rattle.std.proofs.Common.{◌≡◌, ℕ, ◌+◌, ◌^◌, ◌<◌, Bool, true, false, List, [], ◌∷◌, Ok, Err, refl, w64, Bor}
 use seplogic.Ra.Ura.{Ura}
 use mir.Syntax.{Ty, Args, Fn, a_type, dnil, dcons}

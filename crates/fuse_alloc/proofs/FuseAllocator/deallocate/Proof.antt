@@ -1,4 +1,4 @@
--- The block goes back to the allocator that gave it; no growth is counted. Assumes `Logic`.
+-- The block goes back to the allocator that gave it; no allocation is counted. Assumes `Logic`.
 use Rattle.std.proofs.Common.{◌≡◌, ℕ, ◌+◌, ◌^◌, ◌<◌, List, [], ◌∷◌, refl, w64, Bor}
 use seplogic.Ra.Ura.{Ura}
 use mir.Syntax.{Ty, Args, Fn, a_type, dnil, dcons}

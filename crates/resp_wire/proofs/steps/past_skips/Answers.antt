@@ -1,5 +1,5 @@
 use Rattle.std.proofs.Common.{◌<◌, arith}
-use Rattle.resp_wire.proofs.Stepping.{head_count, head_shorter, skips_more}
+use Rattle.resp_wire.proofs.StepLemmas.{head_count, head_shorter, skips_more}
 use Rattle.resp_wire.proofs.steps.past_skips.Goals as goal
 
 pub skips-smaller-in_default : goal.skips-smaller-in_default

@@ -1,6 +1,6 @@
 use Rattle.std.proofs.Common.{◌≡◌, ◌++◌, ◌∷◌, ◌≤◌, length, take}
 use Rattle.std.specs.List.{flat_map}
-use Rattle.resp_wire.specs.Spelling.{line, argument}
+use Rattle.resp_wire.specs.RequestEncoding.{line, argument}
 use Rattle.resp_wire.proofs.writing.put_array.Given as goal
 
 abbrev pub invariant-loop-bytes : goal.invariant-loop-bytes

@@ -3,7 +3,7 @@ use Rattle.std.proofs.lemmas.Int.{ints}
 use Rattle.std.proofs.lemmas.List.{length-set, take-append-le}
 use Rattle.crack_kernel.specs.PivotList.{RisesPast}
 use Rattle.crack_kernel.proofs.PivotOrder.{RisesPast-same}
-use Rattle.ripple_column.specs.Gaps.{blank}
+use Rattle.ripple_column.specs.BlankGap.{blank}
 use Rattle.ripple_column.proofs.Gaps.{HasGap-filled}
 use Rattle.ripple_column.proofs.Blanks.{count_put, count_pushed, blanks_more}
 use Rattle.ripple_column.proofs.gap.fill_gap.Goals as goal
@@ -17,29 +17,31 @@ loop-bottom-preserved g c =
     let ps = c.args.pivots.now.list in
     let old = c.loop-bottom.insertions.items in
     let new = c.pop.new.self.items in
-    let within : c.args.high ≤ length xs = v.gap.within in
+    let within : c.args.gap.high ≤ length xs = v.gap.within in
     let in' : at < length xs = omega arith in
     let out : old ≡ new ++ row ∷ [] = c.in-Some.ensures.items in
     let len_old : length old ≡ length new + 1 = ap length out ∙ length-append new (row ∷ []) in
-    let next : c.index-next.result.now ≡ row =
+    let y = c.index-list-len.result in
+    let here : y ≡ get_or old (c.len-in-loop-bottom.result - 1) y = c.index-list-len.is ∙ ap (λ (z : List (ℤ × List ℕ)). get_or z (c.len-in-loop-bottom.result - 1) y) c.list.ensures in
+    let next : y ≡ row =
     let some : 0 < vec_len c.loop-bottom.insertions = omega arith in
-    let is : Some row ≡ Some (get_or old (vec_len c.loop-bottom.insertions - 1) c.index-next.result.now) = c.in-Some.ensures.value c.index-next.result.now some in
-    let last : row ≡ get_or old (vec_len c.loop-bottom.insertions - 1) c.index-next.result.now = cc in
+    let is : Some row ≡ Some (get_or old (vec_len c.loop-bottom.insertions - 1) y) = c.in-Some.ensures.value y some in
+    let last : row ≡ get_or old (vec_len c.loop-bottom.insertions - 1) y = cc in
     let len : c.len-in-loop-bottom.result ≡ vec_len c.loop-bottom.insertions = omega arith in
-    c.index-next.ensures ∙ ap (λ (m : ℕ). get_or old (m - 1) c.index-next.result.now) len ∙ sym last in
-    let past : RisesPast row.0 ps c.args.i =
-    let score : c.index-next.result.now.0 ≡ row.0 = ap (λ (r : ℤ × List ℕ). r.0) next in
+    here ∙ ap (λ (m : ℕ). get_or old (m - 1) y) len ∙ sym last in
+    let past : RisesPast row.0 ps c.args.gap.piece =
+    let score : y.0 ≡ row.0 = ap (λ (r : ℤ × List ℕ). r.0) next in
     RisesPast-same _ _ ps _ (omega (arith, ints, score)) (c.is_in_piece.ensures c.if-not-is_in_piece.false) in
     let put_in : c.set.new.self.items ≡ set xs at row = c.set.ensures.items in
     let is_blank : get_or xs at blank ≡ blank = v.gap.blanks at blank (omega arith) c.loop-bottom-test.true in
     record {
       low = omega (arith, v.low);
-      gap = HasGap-filled ps xs c.set.new.self.items row c.args.i at c.args.high c.loop-bottom-test.true
+      gap = HasGap-filled ps xs c.set.new.self.items row c.args.gap.piece at c.args.gap.high c.loop-bottom-test.true
           (λ k p h. past.upto k p (omega arith) h) (λ k p f h. past.above k p f h) put_in v.gap;
       content = λ p.
           let put = count_put p xs c.set.new.self.items at blank row in' put_in is_blank in
           let gone = count_pushed p old new row out in
-          let more = blanks_more p (at - c.args.low) (at + 1 - c.args.low) (omega (arith, v.low)) in
+          let more = blanks_more p (at - c.args.gap.low) (at + 1 - c.args.gap.low) (omega (arith, v.low)) in
           omega (arith, put, gone, more, v.content p);
       taken = record {
         within = omega arith;
@@ -48,5 +50,4 @@ loop-bottom-preserved g c =
       };
       len = ap length put_in ∙ length-set xs at row ∙ v.len;
       capacity = c.set.ensures.capacity ∙ v.capacity;
-      capacity_insertions = c.in-Some.ensures.capacity ∙ v.capacity_insertions;
     }

@@ -1,5 +1,5 @@
 use Rattle.std.proofs.Common.{◌≡◌, ◌++◌, replicate, vec_capacity}
-use Rattle.ripple_column.specs.Gaps.{blank}
+use Rattle.ripple_column.specs.BlankGap.{blank}
 use Rattle.ripple_column.proofs.gap.push_blanks.Given as goal
 
 abbrev pub invariant-loop-pushed : goal.invariant-loop-pushed

@@ -1,5 +1,5 @@
 use Rattle.std.proofs.Common.{◌≡◌, ◌+◌, ◌-◌, ◌≤◌, ℕ, subst, arith}
-use Rattle.ripple_column.specs.Gaps.{ChangedPlaces, HasGap}
+use Rattle.ripple_column.specs.BlankGap.{ChangedPlaces, HasGap}
 use Rattle.ripple_column.proofs.Gaps.{HasGap-bottom}
 use Rattle.ripple_column.proofs.gap.sink_gap.Goals as goal
 
@@ -14,5 +14,5 @@ returns-clause-gap g c =
     let high : c.args.gap.high ≡ low + width = omega arith in
     let changed : ChangedPlaces xs c.change_places.new.rows.items c.start_below-start.result low (low + width) =
     subst (λ (m : ℕ). ChangedPlaces xs c.change_places.new.rows.items c.start_below-start.result low m) high c.change_places.ensures.changed in
-    let gap : HasGap ps xs c.args.i low (low + width) = subst (λ (m : ℕ). HasGap ps xs c.args.i low m) high c.requires.gap in
-    HasGap-bottom ps xs c.change_places.new.rows.items c.args.i low width c.start_below-start.result c.change_places.ensures.len (rw (← same) c.start_below-start.ensures) changed gap
+    let gap : HasGap ps xs c.args.gap.piece low (low + width) = subst (λ (m : ℕ). HasGap ps xs c.args.gap.piece low m) high c.requires.gap in
+    HasGap-bottom ps xs c.change_places.new.rows.items c.args.gap.piece low width c.start_below-start.result c.change_places.ensures.len (rw (← same) c.start_below-start.ensures) changed gap

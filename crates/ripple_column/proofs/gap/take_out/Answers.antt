@@ -22,5 +22,4 @@ loop-at-preserved g c =
       taken = TakenFrom-more _ _ _ _ v.taken s.taken;
       len = ap length same ∙ s.len ∙ v.len;
       capacity = ap vec_capacity next.same ∙ s.capacity ∙ v.capacity;
-      capacity_deletions = s.capacity_deletions ∙ v.capacity_deletions;
     }

@@ -1,6 +1,6 @@
 use Rattle.std.proofs.Common.{◌≡◌, ◌≤◌, ◌+◌, ◌-◌, ℕ, ℤ, List, length, replicate, count_by, vec_capacity}
-use Rattle.crack_kernel.specs.Bags.{Test}
-use Rattle.ripple_column.specs.Gaps.{blank, HasGap, StandFrom, TakenFrom}
+use Rattle.crack_kernel.specs.RowBag.{Test}
+use Rattle.ripple_column.specs.BlankGap.{blank, HasGap, StandFrom, TakenFrom}
 use Rattle.ripple_column.proofs.gap.take_out.Given as goal
 
 abbrev pub invariant-loop-at : goal.invariant-loop-at
@@ -10,10 +10,9 @@ invariant-loop-at g l = record {
   high : l.at ≤ l.end;
   gap : (ps : List (ℤ × ℕ)) (i low : ℕ) → HasGap ps l.fn.rows.items i low l.high → StandFrom ps i l.end → HasGap ps l.rows.items i low l.top;
   content : (p : Test) → count_by p l.rows.items + count_by p l.fn.deletions.items ≡ count_by p l.fn.rows.items + count_by p l.deletions.items + count_by p (replicate (l.top - l.high) blank);
-  taken : TakenFrom l.from l.fn.deletions.items l.deletions.items;
+  taken : TakenFrom l.tail.from l.fn.deletions.items l.deletions.items;
   len : length l.rows.items ≡ length l.fn.rows.items;
   capacity : vec_capacity l.rows ≡ vec_capacity l.fn.rows;
-  capacity_deletions : vec_capacity l.deletions ≡ vec_capacity l.fn.deletions;
 }
 
 abbrev pub decreases-loop-at : goal.decreases-loop-at

@@ -2,7 +2,7 @@ use Rattle.std.proofs.Common.{◌≡◌, ◌+◌, ◌-◌, ◌<◌, ◌≤◌, l
 use Rattle.std.proofs.lemmas.List.{length-set}
 use Rattle.std.proofs.lemmas.List.Edits.{length-swap}
 use Rattle.std.proofs.lemmas.List.Sorted.{IsPermutation-swap}
-use Rattle.ripple_column.specs.Gaps.{blank}
+use Rattle.ripple_column.specs.BlankGap.{blank}
 use Rattle.ripple_column.proofs.Counts.{count_moved}
 use Rattle.ripple_column.proofs.Gaps.{HasGap-taken_out}
 use Rattle.ripple_column.proofs.Blanks.{count_put, count_removed, blanks_more}
@@ -28,9 +28,8 @@ returns-in-Some-clause-content g c p =
     let old = c.args.deletions.now.items in
     let x = c.index-list-at.result in
     let here : x ≡ get_or xs c.args.at x = c.index-list-at.is ∙ ap (λ (z : List (ℤ × List ℕ)). get_or z c.args.at x) c.list.ensures in
-    let same : c.deref.result.now ≡ old = c.deref.ensures.value in
-    let in' : c.in-Some.found < length old = rw same at c.in-Some.ensures.within in
-    let found : get_or old c.in-Some.found x ≡ x = ap (λ (z : List (ℤ × List ℕ)). get_or z c.in-Some.found x) (sym same) ∙ c.in-Some.ensures.here x in
+    let in' : c.in-Some.found < length old = c.in-Some.ensures.within in
+    let found : get_or old c.in-Some.found x ≡ x = c.in-Some.ensures.here x in
     let put = count_put p xs ys c.args.at x blank c.requires.within is (sym here) in
     let moved = count_moved p ys c.swap.new.self.items (IsPermutation-swap ys c.swap.new.self.items c.args.high c.args.at (omega (arith, len)) (omega (arith, len)) c.swap.ensures.items) in
     let gone = count_removed p old c.remove-gone.new.self.items c.in-Some.found x in' c.remove-gone.ensures.items found in

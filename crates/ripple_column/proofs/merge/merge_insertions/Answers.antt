@@ -1,9 +1,10 @@
-use Rattle.std.proofs.Common.{◌≡◌, ◌<◌, ◌+◌, ◌++◌, ◌∷◌, [], ◌&&◌, not, true, ℕ, Bool, cond, length, length-append, count_by, ap, ◌∙◌, sym, arith}
+use Rattle.std.proofs.Common.{◌≡◌, ◌<◌, ◌+◌, ◌++◌, ◌∷◌, [], ◌&&◌, not, true, ℕ, Bool, cond, length, get_or, ℤ, List, length-append, count_by, ap, ◌∙◌, sym, arith}
 use Rattle.std.proofs.lemmas.List.{get_or_default}
 use Rattle.std.proofs.lemmas.List.Sorted.{length_permutation}
-use Rattle.crack_kernel.specs.Bags.{Test}
+use Rattle.crack_kernel.specs.RowBag.{Test}
 use Rattle.ripple_column.specs.Content.{has_score_in}
 use Rattle.ripple_column.proofs.Counts.{count_push, count_moved, count_swapped_out, count_zero, and_not}
+use Rattle.ripple_column.proofs.Frames.{KeepsFrame-more}
 use Rattle.ripple_column.proofs.merge.merge_insertions.Goals as goal
 
 pub ripple_insert-requires-clause-room : goal.ripple_insert-requires-clause-room
@@ -12,11 +13,13 @@ ripple_insert-requires-clause-room g c =
     let x = c.swap_remove-row.result in
     let w : Test = has_score_in c.args.range.now in
     let in' : c.loop-i.i < length old = omega arith in
-    let same : x ≡ c.index-next.result.now = c.swap_remove-row.ensures.value ∙ get_or_default old c.loop-i.i x c.index-next.result.now in' ∙ sym c.index-next.ensures in
+    let y = c.index-list-i.result in
+    let here : y ≡ get_or old c.loop-i.i y = c.index-list-i.is ∙ ap (λ (z : List (ℤ × List ℕ)). get_or z c.loop-i.i y) c.list.ensures in
+    let same : x ≡ y = c.swap_remove-row.ensures.value ∙ get_or_default old c.loop-i.i x y in' ∙ sym here in
     let asked : w x ≡ true = ap w same ∙ sym c.if-is_within.ensures in
     let less = count_swapped_out w old c.swap_remove-row.new.self.items c.loop-i.i x in' c.swap_remove-row.ensures.value c.swap_remove-row.ensures.items in
     let one : cond {A = ℕ} (w x) 1 0 ≡ 1 = ap (λ (b : Bool). cond {A = ℕ} b 1 0) asked in
-    omega (arith, less, one, c.loop-i.invariant.room, c.loop-i.invariant.capacity)
+    omega (arith, less, one, c.loop-i.invariant.room, c.loop-i.invariant.frame.capacity)
 
 pub loop-i-preserved-then-is_within : goal.loop-i-preserved-then-is_within
 loop-i-preserved-then-is_within g c =
@@ -24,11 +27,13 @@ loop-i-preserved-then-is_within g c =
     let x = c.swap_remove-row.result in
     let old = c.loop-i.insertions.items in
     let left = c.swap_remove-row.new.self.items in
-    let rows = c.loop-i.rows.items in
+    let rows = c.loop-i.cracked.rows.items in
     let new = c.ripple_insert.new.rows.items in
     let w : Test = has_score_in c.args.range.now in
     let in' : c.loop-i.i < length old = omega arith in
-    let same : x ≡ c.index-next.result.now = c.swap_remove-row.ensures.value ∙ get_or_default old c.loop-i.i x c.index-next.result.now in' ∙ sym c.index-next.ensures in
+    let y = c.index-list-i.result in
+    let here : y ≡ get_or old c.loop-i.i y = c.index-list-i.is ∙ ap (λ (z : List (ℤ × List ℕ)). get_or z c.loop-i.i y) c.list.ensures in
+    let same : x ≡ y = c.swap_remove-row.ensures.value ∙ get_or_default old c.loop-i.i x y in' ∙ sym here in
     let asked : w x ≡ true = ap w same ∙ sym c.if-is_within.ensures in
     let out : (p : Test) → count_by p left + cond {A = ℕ} (p x) 1 0 ≡ count_by p old =
     λ p. count_swapped_out p old left c.loop-i.i x in' c.swap_remove-row.ensures.value c.swap_remove-row.ensures.items in
@@ -37,15 +42,11 @@ loop-i-preserved-then-is_within g c =
     let one : cond {A = ℕ} (w x) 1 0 ≡ 1 = ap (λ (b : Bool). cond {A = ℕ} b 1 0) asked in
     record {
       fits = omega arith;
-      law = c.ripple_insert.ensures.law;
       less = λ p. omega (arith, v.less p, out p);
-      values = c.ripple_insert.ensures.values ∙ v.values;
-      spare = c.ripple_insert.ensures.spare ∙ v.spare;
-      capacity = c.ripple_insert.ensures.capacity ∙ v.capacity;
-      capacity_insertions = c.swap_remove-row.ensures.capacity ∙ v.capacity_insertions;
+      frame = KeepsFrame-more v.frame c.ripple_insert.ensures.frame;
       room = let less = out w in omega (arith, less, one, long, v.room);
       content = λ p. omega (arith, v.content p, out p, put p);
-      passed = λ k d l h. rw (c.swap_remove-row.ensures.by_index.1 k d (λ e. absurd (omega arith)) (omega arith)) (v.passed k d l h);
+      passed = λ k d l h. rw (c.swap_remove-row.ensures.others k d (λ e. absurd (omega arith)) (omega arith)) (v.passed k d l h);
       waiting = λ p.
           let q : Test = λ r. p r && not (w r) in
           let denied : cond {A = ℕ} (q x) 1 0 ≡ 0 = count_zero q x (and_not (p x) (w x) asked) in

@@ -1,41 +1,48 @@
 use Rattle.std.proofs.Common.{◌∙◌, true, sym, arith}
 use Rattle.std.proofs.lemmas.Bool.{false≢true}
-use Rattle.crack_kernel.specs.Bags.{Test}
+use Rattle.crack_kernel.specs.RowBag.{Test}
 use Rattle.ripple_column.specs.Content.{has_score_in}
 use Rattle.ripple_column.proofs.Counts.{count_all, count_split}
+use Rattle.ripple_column.proofs.Frames.{KeepsFrame-more}
 use Rattle.ripple_column.proofs.merge.merge_range.Goals as goal
 
-pub merge_insertions-requires-clause-room : goal.merge_insertions-requires-clause-room
-merge_insertions-requires-clause-room g c =
+pub merge_insertions-requires : goal.merge_insertions-requires
+merge_insertions-requires g c =
     let w : Test = has_score_in c.args.range.now in
     let t : Test = λ r. true in
     let m = c.merge_many.ensures in
     let d = c.merge_deletions.ensures in
-    let all = m.content t in
+    let all = m.merges.content t in
     let gone = d.content t in
-    let less_m = m.less_deletions t in
+    let less_m = m.merges.less_deletions t in
     let less_d = d.less t in
-    let rows0 = count_all c.args.rows.now.items in
-    let rows2 = count_all c.merge_deletions.new.rows.items in
-    let split0 = count_split t w c.args.insertions.now.items in
-    let split1 = count_split t w c.merge_many.new.insertions.items in
+    let rows0 = count_all c.args.cracked.now.rows.items in
+    let rows2 = count_all c.merge_deletions.new.cracked.rows.items in
+    let split0 = count_split t w c.args.pending.now.insertions.items in
+    let split1 = count_split t w c.merge_many.new.pending.insertions.items in
     let waits = m.waiting_insertions t in
-    omega (arith, all, gone, less_m, less_d, rows0, rows2, split0, split1, waits, m.capacity, d.capacity, c.requires.room)
+    omega (arith, all, gone, less_m, less_d, rows0, rows2, split0, split1, waits, m.frame.capacity, d.frame.capacity, c.requires.room)
 
-pub returns-then-waits_within-clause-waiting_deletions : goal.returns-then-waits_within-clause-waiting_deletions
-returns-then-waits_within-clause-waiting_deletions g c p = c.merge_deletions.ensures.waiting p ∙ c.merge_many.ensures.waiting_deletions p
+pub returns-then-has_within-clause-merges : goal.returns-then-has_within-clause-merges
+returns-then-has_within-clause-merges g c =
+    let m = c.merge_many.ensures.merges in
+    let d = c.merge_deletions.ensures in
+    let i = c.merge_insertions.ensures in
+    record {
+      content = λ p. omega (arith, m.content p, d.content p, i.content p);
+      part = λ p. omega (arith, d.part p, i.content p, i.less p);
+      less_deletions = λ p. omega (arith, d.less p, m.less_deletions p);
+      less_insertions = λ p. omega (arith, i.less p, m.less_insertions p);
+    }
 
-pub returns-then-waits_within-clause-waiting_insertions : goal.returns-then-waits_within-clause-waiting_insertions
-returns-then-waits_within-clause-waiting_insertions g c p = c.merge_insertions.ensures.waiting p ∙ c.merge_many.ensures.waiting_insertions p
+pub returns-then-has_within-clause-waiting_deletions : goal.returns-then-has_within-clause-waiting_deletions
+returns-then-has_within-clause-waiting_deletions g c p = c.merge_deletions.ensures.waiting p ∙ c.merge_many.ensures.waiting_deletions p
 
-pub returns-then-waits_within-clause-less_deletions : goal.returns-then-waits_within-clause-less_deletions
-returns-then-waits_within-clause-less_deletions g c p = omega (arith, c.merge_deletions.ensures.less p, c.merge_many.ensures.less_deletions p)
+pub returns-then-has_within-clause-waiting_insertions : goal.returns-then-has_within-clause-waiting_insertions
+returns-then-has_within-clause-waiting_insertions g c p = c.merge_insertions.ensures.waiting p ∙ c.merge_many.ensures.waiting_insertions p
 
-pub returns-then-waits_within-clause-less_insertions : goal.returns-then-waits_within-clause-less_insertions
-returns-then-waits_within-clause-less_insertions g c p = omega (arith, c.merge_insertions.ensures.less p, c.merge_many.ensures.less_insertions p)
+pub returns-then-has_within-clause-frame : goal.returns-then-has_within-clause-frame
+returns-then-has_within-clause-frame g c = KeepsFrame-more c.merge_many.ensures.frame (KeepsFrame-more c.merge_deletions.ensures.frame c.merge_insertions.ensures.frame)
 
-pub returns-then-waits_within-clause-still_rows : goal.returns-then-waits_within-clause-still_rows
-returns-then-waits_within-clause-still_rows g c none_d none_i = absurd (false≢true (sym (c.waits_within.ensures.1 (rw c.deref.ensures.value none_d, rw c.deref-2.ensures.value none_i)) ∙ c.if-waits_within.true))
-
-pub returns-then-waits_within-clause-still_pivots : goal.returns-then-waits_within-clause-still_pivots
-returns-then-waits_within-clause-still_pivots g c none_d none_i = absurd (false≢true (sym (c.waits_within.ensures.1 (rw c.deref.ensures.value none_d, rw c.deref-2.ensures.value none_i)) ∙ c.if-waits_within.true))
+pub returns-then-has_within-clause-still : goal.returns-then-has_within-clause-still
+returns-then-has_within-clause-still g c none_d none_i = absurd (false≢true (sym (c.has_within.ensures.1 (none_d, none_i)) ∙ c.if-has_within.true))

@@ -2,7 +2,7 @@ use Rattle.std.proofs.Common.{◌≡◌, ◌≤◌, ◌+◌, ◌-◌, ◌++◌, 
 use Rattle.std.proofs.lemmas.Int.{ints}
 use Rattle.crack_kernel.specs.PivotList.{IsRising, RisesPast, shifted}
 use Rattle.crack_kernel.proofs.PivotOrder.{IsRising-shifted, length-shifted, values-shifted, RisesPast-same}
-use Rattle.ripple_column.specs.Gaps.{AllParted}
+use Rattle.ripple_column.specs.BlankGap.{AllParted}
 use Rattle.ripple_column.proofs.Hole.{Inserting, Inserting-start, Inserting-step, Inserting-end}
 use Rattle.ripple_column.proofs.ripple.ripple_insert.Goals as goal
 
@@ -52,5 +52,9 @@ returns-clause-law g c =
       few = omega (arith, length-shifted first true old, c.requires.law.few);
     })
 
-pub returns-clause-values : goal.returns-clause-values
-returns-clause-values g c = rw c.shift.ensures.list (values-shifted c.count_upto-first.result true c.args.pivots.now.list)
+pub returns-clause-frame : goal.returns-clause-frame
+returns-clause-frame g c = record {
+  values = rw c.shift.ensures.list (values-shifted c.count_upto-first.result true c.args.pivots.now.list);
+  spare = c.shift.ensures.spare;
+  capacity = c.loop-i.invariant.capacity;
+}

@@ -3,8 +3,8 @@ use Rattle.std.proofs.lemmas.Int.{ints}
 use Rattle.std.proofs.lemmas.List.{get_or_past, get_or-drop}
 use Rattle.crack_kernel.specs.PivotList.{IsRising, RisesPast, shifted}
 use Rattle.crack_kernel.proofs.PivotOrder.{IsRising-shifted, length-shifted, values-shifted, RisesPast-same}
-use Rattle.ripple_column.specs.Pieces.{StandsWithin}
-use Rattle.ripple_column.specs.Gaps.{AllParted}
+use Rattle.ripple_column.specs.RowPlace.{StandsWithin}
+use Rattle.ripple_column.specs.BlankGap.{AllParted}
 use Rattle.ripple_column.proofs.Hole.{Removing, Removing-start, Removing-step, Removing-end, StandsWithin-piece, start_from, Places, Places-from_law, bound_within, bound_from}
 use Rattle.ripple_column.proofs.ripple.ripple_remove.Goals as goal
 use Rattle.ripple_column.proofs.ripple.ripple_remove.Goals.{In-Some}
@@ -162,5 +162,9 @@ returns-clause-law g c =
       few = omega (arith, length-shifted first false old, c.requires.law.few);
     })
 
-pub returns-clause-values : goal.returns-clause-values
-returns-clause-values g c = rw c.shift.ensures.list (values-shifted c.count_upto-first.result false c.args.pivots.now.list)
+pub returns-clause-frame : goal.returns-clause-frame
+returns-clause-frame g c = record {
+  values = rw c.shift.ensures.list (values-shifted c.count_upto-first.result false c.args.pivots.now.list);
+  spare = c.shift.ensures.spare;
+  capacity = c.in-Some.ensures.capacity ∙ c.loop-i.invariant.capacity;
+}

@@ -1,7 +1,7 @@
 use Rattle.std.proofs.Common.{◌≡◌, ℕ, ◌≤◌, ◌+◌, ◌*◌, ◌++◌, length, drop, length-append, arith, rules, refl, sym, ◌∙◌, ap, inl, inr, List, Option, Some, None, Err}
-use Rattle.session_core.proofs.Underway.{begins, unserved, reads_on, ends_by, last_flush_fails}
+use Rattle.session_core.proofs.ServeProgress.{begins, unserved, reads_on, ends_by, last_flush_fails}
 use Rattle.std.proofs.lemmas.List.{length-take-le}
-use Rattle.session_core.proofs.Nexts.{err_is}
+use Rattle.resp_wire.proofs.CallerLemmas.{err_is}
 use Rattle.session_core.proofs.session.serve.Goals as goal
 
 pub returns-in-Err-clause-served : goal.returns-in-Err-clause-served
@@ -9,12 +9,12 @@ returns-in-Err-clause-served g c = unserved g.E.Exec.allows _ _ _
 
 pub reads-init : goal.reads-init
 reads-init g c = record {
-  way = rw c.new.ensures (begins g.E.Exec.allows _ _ _);
+  way = rw (c.new-session.ensures.decoder, c.new-session.ensures.progress) (begins g.E.Exec.allows _ _ _);
   slice = sym c.in-Ok.piece.ok.0 ∙ c.in-Ok.ensures.len;
   settled = c.requires.settled;
-  bytes = rw c.new.ensures (omega arith);
-  requests = omega arith;
-  out = omega arith;
+  bytes = rw c.new-session.ensures.decoder (omega arith);
+  requests = rw c.new-session.ensures.progress (omega arith);
+  out = rw c.new-session.ensures.progress (omega arith);
   few = omega arith;
   many = omega arith;
   source_good = refl;
@@ -42,9 +42,9 @@ reads-preserved g c =
       way = reads_on g.E.Exec.allows _ _ _ _ _ _ _ _ i.way _ refl _ cuts.requests_are cuts.rest_is cuts.fault_is _ _ _ _ (rw c.in_default.is at e.round);
       slice = length-take-le c.reads.piece.len (c.read_on.new.buffer ++ drop (length c.read_on.new.buffer) c.reads.piece.items) (omega (arith, kept, i.slice, c.reads.piece.ok.0, length-append c.read_on.new.buffer (drop (length c.read_on.new.buffer) c.reads.piece.items))) ∙ c.reads.piece.ok.0 ∙ i.slice;
       settled = e.settled;
-      bytes = omega (arith, e.bytes, i.bytes, ap length c.deref_mut.ensures.value, i.slice, c.requires.buffer);
-      requests = e.small.requests;
-      out = e.small.out;
+      bytes = omega (arith, e.small.bytes, i.bytes, ap length c.deref_mut.ensures.value, i.slice, c.requires.buffer);
+      requests = e.small.small.requests;
+      out = e.small.small.out;
       few = omega (arith, e.reads, i.few);
       many = omega (arith, e.once, i.many);
       source_good = e.source_failures ∙ i.source_good;

@@ -1,6 +1,6 @@
 use Rattle.std.proofs.Common.{◌≡◌, ◌≤◌, ◌+◌, ◌*◌, ◌-◌, ◌^◌, length}
 use Rattle.std.specs.Prelude.{min}
-use Rattle.session_core.specs.Serving.{Underway}
+use Rattle.session_core.specs.ServeSteps.{Underway}
 use Rattle.session_core.proofs.session.serve.Given as goal
 
 abbrev pub invariant-reads : goal.invariant-reads

@@ -11,7 +11,7 @@ returns-in-Err g c =
       file = Err cause.0;
       world = c.open_file.new.owner.world;
       opened = cause.2;
-      served = (refl, refl, refl, refl, refl, c.file_fault.ensures ∙ ap files.file_fault cause.1);
+      served = (refl, refl, c.file_fault.ensures ∙ ap files.file_fault cause.1);
     }
 
 pub returns : goal.returns

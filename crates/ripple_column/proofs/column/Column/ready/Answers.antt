@@ -1,14 +1,14 @@
-use Rattle.std.proofs.Common.{◌≡◌, true, false, length, sym, subst, ◌∙◌, arith}
-use Rattle.ripple_column.specs.Answers.{low_cut, high_cut, IsAnswer, IsSettled}
+use Rattle.std.proofs.Common.{◌≡◌, true, false, sym, subst, ◌∙◌}
+use Rattle.ripple_column.specs.RangeAnswer.{low_cut, high_cut, IsAnswer, IsSettled}
 use Rattle.ripple_column.specs.Content.{ColumnState}
-use Rattle.ripple_column.specs.Cuts.{is_before}
-use Rattle.ripple_column.specs.Sound.{state}
+use Rattle.ripple_column.specs.CutPivots.{is_before}
+use Rattle.ripple_column.specs.ColumnInvariant.{state}
 use Rattle.ripple_column.proofs.Selection.{CutsPart, HoldsRange-empty, HoldsRange-ready, IsAnswer-ready}
 use Rattle.ripple_column.proofs.column.Column.ready.Goals as goal
 
 pub returns-then-not-is_before-clause-rows : goal.returns-then-not-is_before-clause-rows
 returns-then-not-is_before-clause-rows g c =
-    let inv = c.self.invariant.0 in
+    let inv = c.self.invariant in
     let cuts = c.cuts-first.ensures in
     let range = c.args.range.now in
     let now : ColumnState = state {A = g.row.A.Denot} c.self.inside in
@@ -18,7 +18,7 @@ returns-then-not-is_before-clause-rows g c =
 
 pub returns-clause-rows : goal.returns-clause-rows
 returns-clause-rows g c =
-    let inv = c.self.invariant.0 in
+    let inv = c.self.invariant in
     let cuts = c.cuts-first.ensures in
     let range = c.args.range.now in
     let r = c.settled_places.result in
@@ -26,12 +26,11 @@ returns-clause-rows g c =
     let now : ColumnState = state {A = g.row.A.Denot} c.self.inside in
     let parts : CutsPart range = rw (cuts.first, cuts.second) at cuts.between in
     let order : is_before (low_cut range) (high_cut range) ≡ true = rw (cuts.first, cuts.second) at (sym c.is_before.ensures ∙ c.if-not-is_before.false) in
-    let long : c.len-len.result ≡ length c.self.inside.rows.items = omega arith in
-    let low = rw (cuts.first, long) at e.first in
-    let high = rw (cuts.second, long) at e.second in
-    let insertions = rw c.deref-2.ensures.value at e.insertions in
-    let deletions = rw c.deref.ensures.value at e.deletions in
-    rw (← c.self.view_is) (HoldsRange-ready r now range parts inv.law inv.scored_rows inv.scored_insertions (IsAnswer-ready r now range order low high insertions deletions))
+    let low = rw cuts.first at e.first in
+    let high = rw cuts.second at e.second in
+    let insertions = e.insertions in
+    let deletions = e.deletions in
+    rw (← c.self.view_is) (HoldsRange-ready r now range parts c.self.inside.cracked.law inv.scored_rows inv.scored_insertions (IsAnswer-ready r now range order low high insertions deletions))
 
 pub returns-clause-exact : goal.returns-clause-exact
 returns-clause-exact g c answer is =
@@ -41,5 +40,4 @@ returns-clause-exact g c answer is =
     let order : is_before (low_cut range) (high_cut range) ≡ true = rw (cuts.first, cuts.second) at (sym c.is_before.ensures ∙ c.if-not-is_before.false) in
     let here : IsAnswer now range answer = subst (λ (v : ColumnState). IsAnswer v range answer) (sym c.self.view_is) is in
     let settled : IsSettled now range answer = rw order at here in
-    let long : c.len-len.result ≡ length c.self.inside.rows.items = omega arith in
-    c.settled_places.ensures.exact answer (rw (cuts.first, long) settled.low) (rw (cuts.second, long) settled.high) (rw c.deref.ensures.value settled.deletions) (rw c.deref-2.ensures.value settled.insertions)
+    c.settled_places.ensures.exact answer (rw cuts.first settled.low) (rw cuts.second settled.high) settled.deletions settled.insertions

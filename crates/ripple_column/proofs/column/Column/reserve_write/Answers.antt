@@ -5,18 +5,15 @@ use Rattle.ripple_column.proofs.column.Column.reserve_write.Goals as goal
 
 pub invariant_of-self : goal.invariant_of-self
 invariant_of-self g c =
-    let inv = c.self.invariant.0 in
+    let inv = c.self.invariant in
     let old = c.self.inside in
     let new = c.reserve_write.new in
-    let e = c.reserve_write.ensures in
-    let scored = IsScored-merged old.rows.items new.rows.items old.insertions.items new.insertions.items old.deletions.items new.deletions.items inv.scored_rows inv.scored_insertions e.content e.less_deletions in (
-      record {
-        law = e.law;
-        part = e.part;
-        scored_rows = scored.0;
-        scored_insertions = scored.1;
-        few_insertions = omega (arith, inv.few_insertions, length-sub_bag new.insertions.items old.insertions.items e.less_insertions);
-        few_deletions = omega (arith, inv.few_deletions, length-sub_bag new.deletions.items old.deletions.items e.less_deletions);
-      },
-      record { insertions = e.covers_insertions; deletions = e.covers_deletions },
-    )
+    let m = c.reserve_write.ensures.merges in
+    let scored = IsScored-merged old.cracked.rows.items new.cracked.rows.items old.pending.insertions.items new.pending.insertions.items old.pending.deletions.items new.pending.deletions.items inv.scored_rows inv.scored_insertions m.content m.less_deletions in
+    record {
+      part = m.part;
+      scored_rows = scored.0;
+      scored_insertions = scored.1;
+      few_insertions = omega (arith, inv.few_insertions, length-sub_bag new.pending.insertions.items old.pending.insertions.items m.less_insertions);
+      few_deletions = omega (arith, inv.few_deletions, length-sub_bag new.pending.deletions.items old.pending.deletions.items m.less_deletions);
+    }

@@ -1,36 +1,34 @@
 use Rattle.std.proofs.Common.{arith}
 use Rattle.ripple_column.specs.Content.{ColumnState}
-use Rattle.ripple_column.specs.Sound.{state}
+use Rattle.ripple_column.specs.ColumnInvariant.{state}
 use Rattle.ripple_column.proofs.Counts.{length-sub_bag}
-use Rattle.ripple_column.proofs.Marking.{covers_less}
 use Rattle.ripple_column.proofs.Merged.{IsScored-merged}
 use Rattle.ripple_column.proofs.Selection.{CutsPart, IsSettled-selected, IsAnswer-selected, HoldsRange-selected, AddsCuts-selected}
 use Rattle.ripple_column.proofs.column.Column.select.Goals as goal
 
 pub invariant_of-self : goal.invariant_of-self
 invariant_of-self g c =
-    let inv = c.self.invariant.0 in
+    let inv = c.self.invariant in
     let old = c.self.inside in
     let new = c.select_between.new in
     let e = c.select_between.ensures in
-    let scored = IsScored-merged old.rows.items new.rows.items old.insertions.items new.insertions.items old.deletions.items new.deletions.items inv.scored_rows inv.scored_insertions e.content e.less_deletions in (
-      record {
-        law = e.law;
-        part = e.part;
-        scored_rows = scored.0;
-        scored_insertions = scored.1;
-        few_insertions = omega (arith, inv.few_insertions, length-sub_bag new.insertions.items old.insertions.items e.less_insertions);
-        few_deletions = omega (arith, inv.few_deletions, length-sub_bag new.deletions.items old.deletions.items e.less_deletions);
-      },
-      record { insertions = covers_less _ old.insertions.items new.insertions.items e.less_insertions c.self.invariant.1.insertions; deletions = covers_less _ old.deletions.items new.deletions.items e.less_deletions c.self.invariant.1.deletions },
-    )
+    let m = e.merges in
+    let scored = IsScored-merged old.cracked.rows.items new.cracked.rows.items old.pending.insertions.items new.pending.insertions.items old.pending.deletions.items new.pending.deletions.items inv.scored_rows inv.scored_insertions m.content m.less_deletions in
+    record {
+      part = m.part;
+      scored_rows = scored.0;
+      scored_insertions = scored.1;
+      few_insertions = omega (arith, inv.few_insertions, length-sub_bag new.pending.insertions.items old.pending.insertions.items m.less_insertions);
+      few_deletions = omega (arith, inv.few_deletions, length-sub_bag new.pending.deletions.items old.pending.deletions.items m.less_deletions);
+    }
 
 pub returns-clause-answer : goal.returns-clause-answer
 returns-clause-answer g c =
     let cuts = c.cuts-first.ensures in
     let new = c.select_between.new in
     let e = c.select_between.ensures in
-    let now : ColumnState = state {A = g.row.A.Denot} (record { rows = new.rows; pivots = new.pivots; insertions = new.insertions; insertion_marks = c.self.inside.insertion_marks; deletions = new.deletions; deletion_marks = c.self.inside.deletion_marks }) in
+    let m = e.merges in
+    let now : ColumnState = state {A = g.row.A.Denot} (record { cracked = new.cracked; pending = new.pending }) in
     let empty = rw (cuts.first, cuts.second) at e.empty in
     let first = rw (cuts.first, cuts.second) at e.first in
     let second = rw (cuts.first, cuts.second) at e.second in
@@ -41,28 +39,29 @@ returns-clause-answer g c =
 
 pub returns-clause-rows : goal.returns-clause-rows
 returns-clause-rows g c =
-    let inv = c.self.invariant.0 in
+    let inv = c.self.invariant in
     let old = c.self.inside in
     let cuts = c.cuts-first.ensures in
     let new = c.select_between.new in
     let e = c.select_between.ensures in
-    let scored = IsScored-merged old.rows.items new.rows.items old.insertions.items new.insertions.items old.deletions.items new.deletions.items inv.scored_rows inv.scored_insertions e.content e.less_deletions in
-    let now : ColumnState = state {A = g.row.A.Denot} (record { rows = new.rows; pivots = new.pivots; insertions = new.insertions; insertion_marks = c.self.inside.insertion_marks; deletions = new.deletions; deletion_marks = c.self.inside.deletion_marks }) in
+    let m = e.merges in
+    let scored = IsScored-merged old.cracked.rows.items new.cracked.rows.items old.pending.insertions.items new.pending.insertions.items old.pending.deletions.items new.pending.deletions.items inv.scored_rows inv.scored_insertions m.content m.less_deletions in
+    let now : ColumnState = state {A = g.row.A.Denot} (record { cracked = new.cracked; pending = new.pending }) in
     let parts : CutsPart c.args.range.now = rw (cuts.first, cuts.second) at cuts.between in
-    HoldsRange-selected c.select_between.result now c.args.range.now parts e.law scored.0 scored.1 (returns-clause-answer g c)
+    HoldsRange-selected c.select_between.result now c.args.range.now parts new.cracked.law scored.0 scored.1 (returns-clause-answer g c)
 
 pub returns-clause-waiting_insertions : goal.returns-clause-waiting_insertions
-returns-clause-waiting_insertions g c p = rw (← c.self.view_is) (c.select_between.ensures.waiting_insertions p)
+returns-clause-waiting_insertions g c p = rw (← c.self.view_is) (c.select_between.ensures.waiting.1 p)
 
 pub returns-clause-waiting_deletions : goal.returns-clause-waiting_deletions
-returns-clause-waiting_deletions g c p = rw (← c.self.view_is) (c.select_between.ensures.waiting_deletions p)
+returns-clause-waiting_deletions g c p = rw (← c.self.view_is) (c.select_between.ensures.waiting.0 p)
 
 pub returns-clause-pivots : goal.returns-clause-pivots
 returns-clause-pivots g c =
     let cuts = c.cuts-first.ensures in
     let kept = rw (cuts.first, cuts.second) at c.select_between.ensures.values_kept in
     let cleared = rw (cuts.first, cuts.second) at c.select_between.ensures.values_cleared in
-    rw (← c.self.view_is) (AddsCuts-selected c.select_between.result c.args.range.now c.self.inside.pivots.list c.select_between.new.pivots.list kept cleared)
+    rw (← c.self.view_is) (AddsCuts-selected c.select_between.result c.args.range.now c.self.inside.cracked.pivots.list c.select_between.new.cracked.pivots.list kept cleared)
 
 pub returns-clause-still : goal.returns-clause-still
 returns-clause-still g c =

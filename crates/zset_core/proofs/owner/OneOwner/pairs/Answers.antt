@@ -1,7 +1,8 @@
 use Rattle.std.proofs.Common.{◌∙◌, sym, ap}
-use Rattle.zset_core.specs.Sets.{whole}
+use Rattle.zset_core.specs.SortedSet.{whole}
 use Rattle.zset_core.proofs.Worlds.{if_ok_map}
-use Rattle.zset_core.proofs.OwnerViews.{set_shown, none_shown, whole_empty}
+use Rattle.zset_core.proofs.OwnerViews.{set_shown, none_shown}
+use Rattle.zset_core.proofs.Order.{whole_empty}
 use Rattle.zset_core.proofs.owner.OneOwner.pairs.Goals as goal
 
 pub pairs-requires : goal.pairs-requires

@@ -1,8 +1,8 @@
 use Rattle.std.proofs.Common.{◌∙◌, sym, ap, subst, List, ℕ, Option, Some, rules, IfSome}
-use Rattle.resp_wire.specs.Spelling.{IsWord}
-use Rattle.zset_core.specs.Meaning.{Asked, key_of}
-use Rattle.zset_core.specs.Owned.{world_of, next_at}
-use Rattle.zset_core.specs.Bounded.{IsBoundedWorld}
+use Rattle.resp_wire.specs.RequestEncoding.{IsArgument}
+use Rattle.zset_core.specs.CommandMeaning.{Asked, key_of}
+use Rattle.zset_core.specs.OwnerInvariant.{world_of, next_at}
+use Rattle.zset_core.specs.BoundedWorld.{IsBoundedWorld}
 use Rattle.zset_core.proofs.Bounds.{IsBoundedNext, ready_bounded_at}
 use Rattle.zset_core.proofs.OwnerBounds.{world_bounded}
 use Rattle.zset_core.proofs.owner.OneOwner.prepare.Goals as goal
@@ -19,6 +19,6 @@ invariant_of-self-in-Some g c =
       record {
         world = subst IsBoundedWorld (sym c.prepare_at.ensures.world) bounded;
         next = subst (λ (o : Option (List ℕ)). IsBoundedNext (next_at fs o)) asked_is
-            (ready_bounded_at (world_of es) c.args.command.now.meaning (next_at fs (Some k)) (Some k) bounded (subst (λ (o : Option (List ℕ)). IfSome o IsWord) (sym c.in-Some.ensures.key) meant.key) meant.puts c.in_ok-outline-in-Some.ensures.ready);
+            (ready_bounded_at (world_of es) c.args.command.now.meaning (next_at fs (Some k)) (Some k) bounded (subst (λ (o : Option (List ℕ)). IfSome o IsArgument) (sym c.in-Some.ensures.key) meant.key) meant.puts c.in_ok-outline-in-Some.ensures.ready);
       },
     )

@@ -1,5 +1,5 @@
-use Rattle.zset_core.specs.View.{IsSetAt, HasNoSet}
-use Rattle.zset_core.specs.Owned.{set_in}
+use Rattle.zset_core.specs.Views.{IsSetAt, HasNoSet}
+use Rattle.zset_core.specs.OwnerInvariant.{set_in}
 use Rattle.zset_core.proofs.OwnerViews.{match_of, view_some, view_none}
 use Rattle.zset_core.proofs.owner.OneOwner.set.Goals as goal
 

@@ -1,28 +1,28 @@
-use Rattle.zset_core.specs.Kept.{held, members_by}
-use Rattle.zset_core.specs.Step.{step}
+use Rattle.zset_core.specs.StagedEntries.{current_score, members_by}
+use Rattle.zset_core.specs.Semantics.{step}
 use Rattle.zset_core.proofs.Planning.{IsIdle-of, IsPlanned-made, members_idle, outline_left, few_added, column_shown, still_shown}
 use Rattle.zset_core.proofs.set.ZSet.prepare.Goals as goal
 
 pub invariant_of-self-2 : goal.invariant_of-self-2
 invariant_of-self-2 g c =
     let old = c.self.inside.members.entries in
-    IsPlanned-made old c.make_plan.new.members.entries c.self.inside.column c.make_plan.new.column c.in_ok-plan.plan (step (members_by held old) c.args.command.now.meaning)
+    IsPlanned-made old c.make_plan.new.members.entries c.self.inside.column c.make_plan.new.column c.in_ok-plan.plan (step (members_by current_score old) c.args.command.now.meaning)
     (IsIdle-of old c.self.inside.column c.self.inside.prepared c.args.self.now c.self.view_is c.requires.idle c.self.invariant)
     c.in_ok-plan.ensures.ok c.in_ok-plan.ensures.content c.in_ok-plan.ensures.room
 
 pub returns-clause-outline : goal.returns-clause-outline
 returns-clause-outline g c =
     let old = c.self.inside.members.entries in
-    outline_left old c.make_plan.new.members.entries c.in_ok-plan.plan (step (members_by held old) c.args.command.now.meaning) c.args.self.now.members
+    outline_left old c.make_plan.new.members.entries c.in_ok-plan.plan (step (members_by current_score old) c.args.command.now.meaning) c.args.self.now.members
     (members_idle old c.self.inside.column c.self.inside.prepared c.args.self.now c.self.view_is c.requires.idle) c.in_ok-plan.ensures.ok
 
 pub returns-clause-few : goal.returns-clause-few
-returns-clause-few g c = few_added c.self.inside.members.entries c.make_plan.new.members.entries c.in_ok-plan.plan (step (members_by held c.self.inside.members.entries) c.args.command.now.meaning) c.in_ok-plan.ensures.ok
+returns-clause-few g c = few_added c.self.inside.members.entries c.make_plan.new.members.entries c.in_ok-plan.plan (step (members_by current_score c.self.inside.members.entries) c.args.command.now.meaning) c.in_ok-plan.ensures.ok
 
 pub returns-clause-still : goal.returns-clause-still
 returns-clause-still g c named =
     let es = c.self.inside.members.entries in
     let column = c.self.inside.column in
     let shown = c.args.self.now in
-    still_shown column shown.column c.make_plan.new.column (members_by held es) shown.members c.args.command.now.meaning
+    still_shown column shown.column c.make_plan.new.column (members_by current_score es) shown.members c.args.command.now.meaning _
     (column_shown es column c.self.inside.prepared shown c.self.view_is) (members_idle es column c.self.inside.prepared shown c.self.view_is c.requires.idle) c.make_plan.ensures.still

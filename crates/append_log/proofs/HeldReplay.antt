@@ -1,0 +1,274 @@
+-- The steps of a reload over what a decoder holds.
+use Rattle.std.proofs.Common.{◌≡◌, ℕ, ◌+◌, ◌-◌, ◌<◌, ◌≤◌, List, [], ◌∷◌, ◌++◌, length, refl, sym, ◌∙◌, ap, subst, arith, append_assoc, length-append, None, Some, Result, Ok, Err}
+use Rattle.std.proofs.lemmas.List.{append-nil, append_cancel_left}
+use Rattle.std.proofs.lemmas.Grind.{flat_map-append}
+use Rattle.std.specs.List.{flat_map, AllByRecursion}
+use Rattle.resp_wire.specs.declared.fault.ProtocolFault.{ProtocolFault}
+use Rattle.resp_wire.specs.declared.fault.Stop.{Stop}
+use Rattle.resp_wire.specs.declared.fault.Stop.TheVariants.{Short, Wrong}
+use Rattle.resp_wire.specs.RequestEncoding.{Item, Ask, SkipZero, SkipMinus, IsItem, IsSkip, IsRequest, request, encoding_of}
+use Rattle.resp_wire.specs.Parser.{item_at, head_at, byte_at}
+use Rattle.resp_wire.specs.Stream.{fault_of, split_items, asked, items, requests, rest, fault}
+use Rattle.resp_wire.specs.DecoderView.{DecoderView, Gave, Waits}
+use Rattle.zset_core.specs.World.{World}
+use Rattle.append_log.specs.Records.{Record}
+use Rattle.append_log.specs.Replay.{after, replay}
+use Rattle.append_log.specs.Reload.{Replayed, Holds, IsLess, AllReplayed, IsLoaded, FaultAt}
+use Rattle.append_log.specs.declared.loading.Loaded.{Loaded}
+use Rattle.append_log.specs.declared.loading.ReloadFault.TheVariants.{NoMemory, Damaged, NotACommand}
+use Rattle.append_log.proofs.RecordTexts.{asked-append}
+use Rattle.append_log.proofs.ReplayLemmas.{replay-append, replay-one}
+
+nothing_asked : requests [] ≡ []
+unfolding requests items split_items
+nothing_asked = refl
+
+nothing_left : rest [] ≡ []
+unfolding rest split_items
+nothing_left = refl
+
+nothing_whole : items [] ≡ []
+unfolding items split_items
+nothing_whole = refl
+
+nothing_wrong : fault [] ≡ None
+unfolding fault rest split_items item_at head_at byte_at
+nothing_wrong = refl
+
+asks : (bytes : List ℕ) (others : List Item) → items bytes ≡ others → requests bytes ≡ asked others
+unfolding requests
+asks bytes others is = ap asked is
+
+wrong_at : (bytes : List ℕ) (f : ProtocolFault) → fault bytes ≡ Some f → fault_of (item_at (rest bytes)) ≡ Some f
+unfolding fault
+wrong_at bytes f is = is
+
+wrong_of : {X : Type 0} (r : Result X Stop) (f : ProtocolFault) → fault_of r ≡ Some f → r ≡ Err (Wrong f)
+wrong_of (Ok x) f is = absurd (let no : None ≡ Some f = is in cc)
+wrong_of (Err Short) f is = absurd (let no : None ≡ Some f = is in cc)
+wrong_of (Err (Wrong e)) f is = ap (λ (g : ProtocolFault). Err (Wrong g)) (let same : e ≡ f = cc in same)
+
+asked-skips : (skips : List Item) → AllByRecursion IsSkip skips → asked skips ≡ []
+asked-skips [] each = refl
+asked-skips (Ask words ∷ skips) each = absurd each.0
+asked-skips (SkipZero ∷ skips) each = asked-skips skips each.1
+asked-skips (SkipMinus ∷ skips) each = asked-skips skips each.1
+
+skips_are_items : (skips : List Item) → AllByRecursion IsSkip skips → AllByRecursion IsItem skips
+skips_are_items [] each = tt
+skips_are_items (Ask words ∷ skips) each = absurd each.0
+skips_are_items (SkipZero ∷ skips) each = (tt, skips_are_items skips each.1)
+skips_are_items (SkipMinus ∷ skips) each = (tt, skips_are_items skips each.1)
+
+items_push : (skips : List Item) (words : Record) → AllByRecursion IsItem skips → IsRequest words → AllByRecursion IsItem (skips ++ Ask words ∷ [])
+items_push [] words each is = (is, tt)
+items_push (item ∷ skips) words each is = (each.0, items_push skips words each.1 is)
+
+pub replayed_start : (start : World) → Holds start [] (record { held = []; taken = 0; fault = None }) start 0
+replayed_start start = record {
+  unfaulted = refl;
+  replayed = record {
+    front = [];
+    bytes_are = refl;
+    at_is = refl;
+    ends = nothing_left;
+    replayed = ap (replay start) nothing_asked;
+    count_is = ap length (sym nothing_asked);
+  };
+}
+
+pub less_nothing : IsLess []
+less_nothing = record { none = nothing_asked; all = nothing_left; unfaulted = nothing_wrong }
+
+-- the same, where its numbers and the bytes behind are written another way
+replayed_at : (start : World) (bytes : List ℕ) (at at' : ℕ) (behind behind' : List ℕ) (world : World) (count count' : ℕ) → at ≡ at' → behind ≡ behind' → count ≡ count' → Replayed start bytes at behind world count → Replayed start bytes at' behind' world count'
+replayed_at start bytes at at' behind behind' world count count' same_at same_behind same_count r = record {
+  front = r.front;
+  bytes_are = r.bytes_are ∙ ap (λ (l : List ℕ). r.front ++ l) same_behind;
+  at_is = r.at_is ∙ same_at;
+  ends = r.ends;
+  replayed = r.replayed;
+  count_is = sym same_count ∙ r.count_is;
+}
+
+-- one piece more is held
+pub holds_more : (start : World) (bytes piece : List ℕ) (old new : DecoderView) (world : World) (count : ℕ) → new ≡ record { held = old.held ++ piece; taken = old.taken; fault = None } → Holds start bytes old world count → Holds start (bytes ++ piece) new world count
+holds_more start bytes piece old new world count is h =
+    subst (λ (w : DecoderView). Holds start (bytes ++ piece) w world count) (sym is) (record {
+      unfaulted = refl;
+      replayed = record {
+        front = h.replayed.front;
+        bytes_are = ap (λ (b : List ℕ). b ++ piece) h.replayed.bytes_are ∙ append_assoc h.replayed.front old.held piece;
+        at_is = h.replayed.at_is;
+        ends = h.replayed.ends;
+        replayed = h.replayed.replayed;
+        count_is = h.replayed.count_is;
+      };
+    })
+
+-- a request took a byte or more
+pub gave_taken : (old new : DecoderView) (words : Record) → Gave old new words → new.taken + length new.held ≡ old.taken + length old.held → old.taken < new.taken
+gave_taken old new words gave bytes =
+    omega (arith, bytes, ap length gave.text, length-append (flat_map encoding_of gave.skips) (request words ++ new.held), length-append (request words) new.held)
+
+-- a piece found no room
+pub no_room : (start : World) (bytes piece : List ℕ) (wire : DecoderView) (world : World) (count : ℕ) → Holds start bytes wire world count → FaultAt NoMemory start (bytes ++ piece) world
+no_room start bytes piece wire world count h = (
+  wire.taken,
+  wire.held ++ piece,
+  count,
+  (holds_more start bytes piece wire (record { held = wire.held ++ piece; taken = wire.taken; fault = None }) world count refl h).replayed,
+)
+
+module _ (whole : (text : List ℕ) → (text ≡ flat_map encoding_of (items text) ++ rest text) × AllByRecursion IsItem (items text))
+    (most : (others : List Item) (more : List ℕ) → AllByRecursion IsItem others → items (flat_map encoding_of others ++ more) ≡ others ++ items more)
+    (cut_requests : (a b : List ℕ) → requests (a ++ b) ≡ requests a ++ requests (rest a ++ b))
+    (cut_rest : (a b : List ℕ) → rest (a ++ b) ≡ rest (rest a ++ b))
+    (cut_fault : (a b : List ℕ) → fault (a ++ b) ≡ fault (rest a ++ b)) where
+  -- a text of items alone
+  items_whole : (others : List Item) → AllByRecursion IsItem others → items (flat_map encoding_of others) ≡ others
+  items_whole others each =
+      ap items (sym (append-nil (flat_map encoding_of others))) ∙ most others [] each ∙ ap (λ (l : List Item). others ++ l) nothing_whole ∙ append-nil others
+
+  rest_whole : (others : List Item) → AllByRecursion IsItem others → rest (flat_map encoding_of others) ≡ []
+  rest_whole others each =
+      let text = flat_map encoding_of others in
+      let split : text ++ [] ≡ text ++ rest text =
+      append-nil text ∙ (whole text).0 ∙ ap (λ (l : List Item). flat_map encoding_of l ++ rest text) (items_whole others each) in
+      sym (append_cancel_left text [] (rest text) split)
+
+  -- whole records and skips, and then items alone
+  replayed_on : (start : World) (bytes : List ℕ) (at : ℕ) (held behind : List ℕ) (world next : World) (count : ℕ) (others : List Item) → Replayed start bytes at held world count → AllByRecursion IsItem others
+      → held ≡ flat_map encoding_of others ++ behind → replay world (asked others) ≡ Some next → Replayed start bytes (at + length (flat_map encoding_of others)) behind next (count + length (asked others))
+  replayed_on start bytes at held behind world next count others r each is leads =
+      let text = flat_map encoding_of others in
+      let joined : rest r.front ++ text ≡ text = ap (λ (l : List ℕ). l ++ text) r.ends in
+      let asks_all : requests (r.front ++ text) ≡ requests r.front ++ asked others =
+      cut_requests r.front text ∙ ap (λ (l : List ℕ). requests r.front ++ requests l) joined ∙ ap (λ (l : List Record). requests r.front ++ l) (asks text others (items_whole others each)) in
+      record {
+        front = r.front ++ text;
+        bytes_are = r.bytes_are ∙ ap (λ (l : List ℕ). r.front ++ l) is ∙ sym (append_assoc r.front text behind);
+        at_is = length-append r.front text ∙ ap (λ n. n + length text) r.at_is;
+        ends = cut_rest r.front text ∙ ap rest joined ∙ rest_whole others each;
+        replayed = ap (replay start) asks_all ∙ replay-append start (requests r.front) (asked others) world r.replayed ∙ leads;
+        count_is = omega (arith, r.count_is, ap length asks_all, length-append (requests r.front) (asked others));
+      }
+
+  -- skips were taken off, or nothing
+  pub waits_taken : (old new : DecoderView) → Waits old new → new.taken + length new.held ≡ old.taken + length old.held → old.taken ≤ new.taken
+  waits_taken old new w bytes =
+      let others = items old.held in
+      omega (arith, bytes, ap length w.held_is, ap length (whole old.held).0, length-append (flat_map encoding_of others) (rest old.held))
+
+  module _ (start : World) (bytes : List ℕ) (old new : DecoderView) (world : World) (count : ℕ) (h : Holds start bytes old world count) (bytes_stay : new.taken + length new.held ≡ old.taken + length old.held) where
+    -- the skips before what is no whole record were taken off
+    waits_replayed : Waits old new → Replayed start bytes new.taken new.held world count
+    waits_replayed w =
+        let others = items old.held in
+        let each = (whole old.held).1 in
+        let text = (whole old.held).0 in
+        let none : asked others ≡ [] = sym (asks old.held others refl) ∙ w.none in
+        let r = replayed_on start bytes old.taken old.held (rest old.held) world world count others h.replayed each text (ap (replay world) none) in
+        replayed_at start bytes _ new.taken _ new.held world _ count
+        (omega (arith, bytes_stay, ap length w.held_is, ap length text, length-append (flat_map encoding_of others) (rest old.held)))
+        (sym w.held_is)
+        (omega (arith, ap length none))
+        r
+
+    -- no record is whole
+    pub waits : Waits old new → fault old.held ≡ None → new.fault ≡ None → Holds start bytes new world count × IsLess new.held
+    waits w unfaulted good =
+        let held = old.held in
+        let flat : held ++ [] ≡ held = append-nil held in
+        let flat_rest : rest held ++ [] ≡ rest held = append-nil (rest held) in
+        let asks_none : requests held ++ requests (rest held ++ []) ≡ [] = sym (cut_requests held []) ∙ ap requests flat ∙ w.none in (
+          record { unfaulted = good; replayed = waits_replayed w },
+          subst IsLess (sym w.held_is) (record {
+            none = ap requests (sym flat_rest) ∙ ap (λ (l : List Record). l ++ requests (rest held ++ [])) (sym w.none) ∙ asks_none;
+            all = ap rest (sym flat_rest) ∙ sym (cut_rest held []) ∙ ap rest flat;
+            unfaulted = ap fault (sym flat_rest) ∙ sym (cut_fault held []) ∙ ap fault flat ∙ unfaulted;
+          }),
+        )
+
+    -- the next record has a wrong byte
+    pub damaged : (f : ProtocolFault) → Waits old new → fault old.held ≡ Some f → FaultAt (Damaged new.taken) start bytes world
+    damaged f w wrong =
+        (new.held, count, f, waits_replayed w, ap item_at w.held_is ∙ wrong_of (item_at (rest old.held)) f (wrong_at old.held f wrong))
+
+    module _ (words : Record) (is_record : IsRequest words) (gave : Gave old new words) where
+      each_skip : AllByRecursion IsItem gave.skips
+      each_skip = skips_are_items gave.skips gave.skipped
+
+      text_is : flat_map encoding_of (gave.skips ++ Ask words ∷ []) ≡ flat_map encoding_of gave.skips ++ request words
+      text_is = flat_map-append encoding_of gave.skips (Ask words ∷ []) ∙ ap (λ (l : List ℕ). flat_map encoding_of gave.skips ++ l) (append-nil (request words))
+
+      asks_one : asked (gave.skips ++ Ask words ∷ []) ≡ words ∷ []
+      asks_one = asked-append gave.skips (Ask words ∷ []) ∙ ap (λ (l : List Record). l ++ words ∷ []) (asked-skips gave.skips gave.skipped)
+
+      sizes : old.taken + (length (flat_map encoding_of gave.skips) + length (request words)) ≡ new.taken
+      sizes = omega (arith, bytes_stay, ap length gave.text, length-append (flat_map encoding_of gave.skips) (request words ++ new.held), length-append (request words) new.held)
+
+      -- a record was replayed
+      pub gives : (next : World) → new.fault ≡ None → after world words ≡ Some next → Holds start bytes new next (count + 1)
+      gives next good leads =
+          let others = gave.skips ++ Ask words ∷ [] in
+          let r = replayed_on start bytes old.taken old.held new.held world next count others h.replayed (items_push gave.skips words each_skip is_record)
+          (gave.text ∙ sym (append_assoc (flat_map encoding_of gave.skips) (request words) new.held) ∙ ap (λ (l : List ℕ). l ++ new.held) (sym text_is))
+          (ap (replay world) asks_one ∙ replay-one world words ∙ leads) in
+          record {
+            unfaulted = good;
+            replayed =
+                replayed_at start bytes _ new.taken _ new.held next _ (count + 1)
+                (omega (arith, sizes, ap length text_is, length-append (flat_map encoding_of gave.skips) (request words)))
+                refl
+                (omega (arith, ap length asks_one))
+                r;
+          }
+
+      -- a record is no command: it stands behind the skips
+      pub no_command : (size : ℕ) (world' : World) → size ≡ length (request words) → world' ≡ world → after world words ≡ None → FaultAt (NotACommand (new.taken - size)) start bytes world'
+      no_command size world' is_size same refused =
+          let none = asked-skips gave.skips gave.skipped in
+          let r = replayed_on start bytes old.taken old.held (request words ++ new.held) world world count gave.skips h.replayed each_skip gave.text (ap (replay world) none) in
+          subst (λ (w : World). FaultAt (NotACommand (new.taken - size)) start bytes w) (sym same) (
+            request words ++ new.held,
+            count,
+            replayed_at start bytes _ (new.taken - size) _ (request words ++ new.held) world _ count
+                (omega (arith, sizes, is_size))
+                refl
+                (omega (arith, ap length none))
+                r,
+            record { words = words; more = new.held; is_record = is_record; bytes_are = refl; refused = refused },
+          )
+
+-- what a reload has done between two reads
+module _ (cut_requests : (a b : List ℕ) → requests (a ++ b) ≡ requests a ++ requests (rest a ++ b))
+    (cut_rest : (a b : List ℕ) → rest (a ++ b) ≡ rest (rest a ++ b))
+    (cut_fault : (a b : List ℕ) → fault (a ++ b) ≡ fault (rest a ++ b))
+    (start : World) (bytes : List ℕ) (wire : DecoderView) (world : World) (count : ℕ) (h : Holds start bytes wire world count) (less : IsLess wire.held) where
+  joined : rest h.replayed.front ++ wire.held ≡ wire.held
+  joined = ap (λ (l : List ℕ). l ++ wire.held) h.replayed.ends
+
+  asks_all : requests bytes ≡ requests h.replayed.front
+  asks_all =
+      ap requests h.replayed.bytes_are ∙ cut_requests h.replayed.front wire.held
+      ∙ ap (λ (l : List ℕ). requests h.replayed.front ++ requests l) joined
+      ∙ ap (λ (l : List Record). requests h.replayed.front ++ l) less.none ∙ append-nil (requests h.replayed.front)
+
+  rest_all : rest bytes ≡ wire.held
+  rest_all = ap rest h.replayed.bytes_are ∙ cut_rest h.replayed.front wire.held ∙ ap rest joined ∙ less.all
+
+  pub all_replayed : AllReplayed start bytes world
+  all_replayed = record {
+    unfaulted = ap fault h.replayed.bytes_are ∙ cut_fault h.replayed.front wire.held ∙ ap fault joined ∙ less.unfaulted;
+    replayed = ap (replay start) asks_all ∙ h.replayed.replayed;
+  }
+
+  -- the file has ended
+  pub is_loaded : (loaded : Loaded) → loaded.records ≡ count → loaded.whole ≡ wire.taken → loaded.torn ≡ length wire.held → IsLoaded start bytes loaded world
+  is_loaded loaded records whole torn = record {
+    all = all_replayed;
+    records_are = records ∙ h.replayed.count_is ∙ ap length (sym asks_all);
+    torn_is = torn ∙ ap length (sym rest_all);
+    whole_is = omega (arith, whole, torn, h.replayed.at_is, ap length h.replayed.bytes_are, length-append h.replayed.front wire.held);
+  }

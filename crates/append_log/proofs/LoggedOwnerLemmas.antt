@@ -1,0 +1,122 @@
+-- What a logged owner keeps over a command.
+use Rattle.std.proofs.Common.{◌≡◌, ℕ, List, [], ◌∷◌, ◌++◌, refl, sym, ◌∙◌, ap, subst, Option, None, Some, Bool, true, false, cond, length, arith, Ok}
+use Rattle.std.specs.Prelude.{IfSome, IsTrue, option_map}
+use Rattle.resp_wire.specs.Response.{Response}
+use Rattle.zset_core.specs.SortedSet.{Members}
+use Rattle.zset_core.specs.CommandMeaning.{Meaning, Asked, key_of, is_writing, Ping, Add, Increase, Remove, Score, Card, Count, ListRange}
+use Rattle.zset_core.specs.CommandGrammar.{asked}
+use Rattle.zset_core.specs.Semantics.{step}
+use Rattle.zset_core.specs.Views.{Next, ShowsAt, IsPreparedAt}
+use Rattle.zset_core.specs.ChangeOutline.{IsOutline}
+use Rattle.zset_core.specs.declared.set.change_outline.Outline.{Outline}
+use Rattle.zset_core.specs.declared.refusal.Refusal.{Refusal}
+use Rattle.zset_core.specs.declared.refusal.Refusal.TheVariants.{NoMemory, ScoreOverflow}
+use Rattle.zset_core.specs.World.{World, set_at, put_set, act_at, act}
+use Rattle.append_log.specs.Records.{Record}
+use Rattle.append_log.specs.Replay.{after, after_reading}
+use Rattle.append_log.specs.Log.{LogView, HasRecords, IsLog, Ends}
+use Rattle.append_log.specs.LoggedOwner.{LoggedView, AreSame, Changes, NotAppended, NotRun, Replays}
+use Rattle.append_log.proofs.ReplayLemmas.{replay-append, replay-one}
+use Rattle.append_log.proofs.SameWorlds.{some_is, AreSame-put_back, set_at-put_set-same, act-same}
+use Rattle.append_log.proofs.OutlineLemmas.{unchanged}
+
+-- what a commit does, by the outline
+pub record Committed (world end : World) (outline : Outline) : Type 0 where
+  pub kept : outline.changed ≡ false → AreSame world end
+  pub moved : outline.changed ≡ true → AreSame world end → ⊥
+
+by_next : (world end : World) (outline : Outline) (next : List ℕ × Next) → end ≡ put_set world next.0 next.1.members → IsOutline outline (set_at world next.0) next.1.members → Committed world end outline
+by_next world end outline next made o = record {
+  kept = λ no_change. subst (λ (e : World). AreSame world e) (sym made) (AreSame-put_back world next.0 next.1.members (unchanged outline _ _ o no_change));
+  moved = λ change same. o.changed.0 change (sym (set_at-put_set-same world next.0 next.1.members) ∙ ap (λ (e : World). set_at e next.0) (sym made) ∙ sym (same next.0));
+}
+
+pub committed : (world end : World) (key : Option (List ℕ)) (meaning : Meaning) (outline : Outline) (next : Option (List ℕ × Next)) (reply : Response) → IsPreparedAt world key meaning next
+    → IfSome next (λ n. IsOutline outline (set_at world n.0) n.1.members) → IfSome next (λ n. (end ≡ put_set world n.0 n.1.members) × (reply ≡ n.1.reply)) → Committed world end outline
+committed world end None meaning outline next reply ready o made = absurd ready
+committed world end (Some k) meaning outline next reply ready o made = shown (step (set_at world k) meaning) ready
+  where
+    shown : (s : Option (Members × Response)) → ShowsAt k s meaning next → Committed world end outline
+    shown None is = absurd is
+    shown (Some done) is = by_next world end outline (k, record { meaning = meaning; members = done.0; reply = done.1 }) (subst (λ (n : Option (List ℕ × Next)). IfSome n (λ n. (end ≡ put_set world n.0 n.1.members) × (reply ≡ n.1.reply))) is made).0 (subst (λ (n : Option (List ℕ × Next)). IfSome n (λ n. IsOutline outline (set_at world n.0) n.1.members)) is o)
+
+-- a command that is prepared and whose outline says that it changes its set does so
+pub changes-ready : (world : World) (key : Option (List ℕ)) (meaning : Meaning) (outline : Outline) (next : Option (List ℕ × Next)) → IsPreparedAt world key meaning next
+    → IfSome next (λ n. IsOutline outline (set_at world n.0) n.1.members) → outline.changed ≡ true → Changes world (act_at world key meaning)
+changes-ready world None meaning outline next ready o change = absurd ready
+changes-ready world (Some k) meaning outline next ready o change = shown (step (set_at world k) meaning) ready
+  where
+    shown : (s : Option (Members × Response)) → ShowsAt k s meaning next → Changes world (option_map (λ done. (put_set world k done.0, done.1)) s)
+    shown None is = absurd is
+    shown (Some done) is = (by_next world (put_set world k done.0) outline (k, record { meaning = meaning; members = done.0; reply = done.1 }) refl (subst (λ (n : Option (List ℕ × Next)). IfSome n (λ n. IsOutline outline (set_at world n.0) n.1.members)) is o)).moved change
+
+-- a command that changes a set and whose record is not appended is not run
+pub not_run : (refusal : Refusal) (world : World) (made : Option (World × Response)) (bytes : List ℕ) (old new : LogView) → Changes world made → NotAppended refusal bytes old new → NotRun refusal world made bytes old new
+not_run NoMemory world made bytes old new changes cause = cause
+not_run ScoreOverflow world made bytes old new changes cause = absurd cause
+not_run refusal world made bytes old new changes cause = (changes, cause)
+
+after-writing : (world : World) (words : Record) (meaning : Meaning) → asked words ≡ Ok meaning → IsTrue (is_writing meaning) → after world words ≡ option_map (λ done. done.0) (act world meaning)
+after-writing world words meaning read writes =
+    ap (after_reading world) read ∙ ap (λ (b : Bool). cond b (option_map (λ done. done.0) (act world meaning)) None) writes
+
+-- a record more
+pub Replays-push : (start : World) (old new : LoggedView) (command : Asked) (reply : Response) → asked command.words ≡ Ok command.meaning → IsTrue (is_writing command.meaning)
+    → act old.world command.meaning ≡ Some (new.world, reply) → ((records : List Record) → HasRecords old.log records → HasRecords new.log (records ++ command.words ∷ [])) → Replays start old → Replays start new
+Replays-push start old new command reply read writes acted more r =
+    let a = act-same old.world r.world (key_of command.meaning) command.meaning new.world reply (λ q. sym (r.same q)) acted in
+    record {
+      records = r.records ++ command.words ∷ [];
+      stand = more r.records r.stand;
+      world = a.0;
+      replayed =
+          replay-append start r.records (command.words ∷ []) r.world r.replayed ∙ replay-one r.world command.words
+          ∙ after-writing r.world command.words command.meaning read writes ∙ ap (option_map (λ done. done.0)) a.1;
+      same = a.2;
+    }
+
+-- the same records
+pub Replays-stay : (start : World) (old new : LoggedView) → AreSame old.world new.world → ((records : List Record) → HasRecords old.log records → HasRecords new.log records) → Replays start old → Replays start new
+Replays-stay start old new same stay r = record {
+  records = r.records;
+  stand = stay r.records r.stand;
+  world = r.world;
+  replayed = r.replayed;
+  same = λ q. r.same q ∙ same q;
+}
+
+ends_at : (x : World × Response) (world end : World) (reply : Response) → AreSame world x.0 → Some x ≡ Some (end, reply) → AreSame world end
+ends_at x world end reply same is = subst (λ (e : World). AreSame world e) (ap (λ (y : World × Response). y.0) (some_is x (end, reply) is)) same
+
+put_back : (world : World) (k : List ℕ) → AreSame world (put_set world k (set_at world k))
+put_back world k = AreSame-put_back world k (set_at world k) refl
+
+-- a command that reads changes no set
+pub reading-stays : (world end : World) (meaning : Meaning) (reply : Response) → is_writing meaning ≡ false → act world meaning ≡ Some (end, reply) → AreSame world end
+reading-stays world end (Ping None) reply reads is = ends_at _ world end reply (λ q. refl) is
+reading-stays world end (Ping (Some text)) reply reads is = ends_at _ world end reply (λ q. refl) is
+reading-stays world end (Add key flags changed pairs) reply reads is = absurd (let no_way : true ≡ false = reads in cc)
+reading-stays world end (Increase key flags given member) reply reads is = absurd (let no_way : true ≡ false = reads in cc)
+reading-stays world end (Remove key members) reply reads is = absurd (let no_way : true ≡ false = reads in cc)
+reading-stays world end (Score key member) reply reads is = ends_at _ world end reply (put_back world key) is
+reading-stays world end (Card key) reply reads is = ends_at _ world end reply (put_back world key) is
+reading-stays world end (Count key range) reply reads is = ends_at _ world end reply (put_back world key) is
+reading-stays world end (ListRange key range with_scores limit) reply reads is = ends_at _ world end reply (put_back world key) is
+
+no_record : (records : List Record) → length records ≡ 0 → records ≡ []
+no_record [] e = refl
+no_record (entry ∷ records) e = absurd (omega (arith, e))
+
+fresh : (log : LogView) (records : List Record) (told : Option (List ℕ)) → IfSome told (λ bytes. Ends bytes records log.synced log.appended log.written log.broken) → log.appended ≡ 0 → IfSome told (λ bytes. Ends bytes [] log.synced log.appended log.written log.broken)
+fresh log records None stand none = tt
+fresh log records (Some bytes) stand none = subst (λ (l : List Record). Ends bytes l log.synced log.appended log.written log.broken) (no_record records (stand.count ∙ none)) stand
+
+-- a log of no records replays from a world to itself
+pub Replays-fresh : (state : LoggedView) → IsLog state.log → state.log.appended ≡ 0 → Replays state.world state
+Replays-fresh state log none = record {
+  records = [];
+  stand = fresh state.log log.records state.log.told log.stands none;
+  world = state.world;
+  replayed = refl;
+  same = λ q. refl;
+}

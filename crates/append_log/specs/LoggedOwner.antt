@@ -1,0 +1,62 @@
+-- An owner of sets whose changes are logged.
+use Rattle.std.specs.Prelude.{◌≡◌, ◌≢◌, ℕ, ◌+◌, true, false, List, Option, None, Some, IsSomeAnd}
+use Rattle.resp_wire.specs.Device.{Rose}
+use Rattle.resp_wire.specs.RequestEncoding.{request}
+use Rattle.resp_wire.specs.Response.{Response}
+use Rattle.zset_core.specs.World.{World, set_at, act}
+use Rattle.zset_core.specs.CommandMeaning.{Asked}
+use Rattle.zset_core.specs.declared.refusal.Refusal.{Refusal}
+use Rattle.zset_core.specs.declared.refusal.Refusal.TheVariants.{NoMemory, ScoreOverflow, LogBroken, LogFull, LogRefused}
+use Rattle.append_log.specs.Records.{Record}
+use Rattle.append_log.specs.Replay.{replay}
+use Rattle.append_log.specs.Log.{LogView, HasRecords, Appends, Breaks}
+
+-- its sets, its log, and how many records it appended
+pub record LoggedView : Type 0 where
+  pub world : World
+  pub log : LogView
+  pub share : ℕ
+
+-- worlds that have the same set at each key: a key whose set is empty is the same as a missing key
+abbrev pub AreSame : World → World → Type 0
+AreSame one other = (key : List ℕ) → set_at one key ≡ set_at other key
+
+-- the records at the end of its log's sink replay from a world to the owner's, where the sink tells its bytes
+pub record Replays (start : World) (state : LoggedView) : Type 0 where
+  pub records : List Record
+  pub stand : HasRecords state.log records
+  pub world : World
+  pub replayed : replay start records ≡ Some world
+  pub same : AreSame world state.world
+
+-- a command that makes this of a world changes a set of it
+abbrev pub Changes : World → Option (World × Response) → Type 0
+Changes world made = IsSomeAnd made (λ done. AreSame world done.0 → ⊥)
+
+-- why a record is not appended, and what becomes of the log
+abbrev pub NotAppended : Refusal → List ℕ → LogView → LogView → Type 0
+NotAppended NoMemory bytes old new = new ≡ old
+NotAppended LogBroken bytes old new = (new ≡ old) × (old.broken ≡ true)
+NotAppended LogFull bytes old new = (new ≡ old) × (old.broken ≡ false) × (old.appended ≡ old.limit)
+NotAppended LogRefused bytes old new =
+    Breaks old new bytes × Rose old.failures new.failures × (old.broken ≡ false) × (old.appended ≢ old.limit)
+NotAppended _ bytes old new = ⊥
+
+-- why a command is not run that would make this of a world, and what becomes of the log: out of memory, since a sum
+-- of INCR is no score, or, where it changes a set, since its record is not appended
+abbrev pub NotRun : Refusal → World → Option (World × Response) → List ℕ → LogView → LogView → Type 0
+NotRun NoMemory world made bytes old new = new ≡ old
+NotRun ScoreOverflow world made bytes old new = (new ≡ old) × (made ≡ None)
+NotRun refusal world made bytes old new = Changes world made × NotAppended refusal bytes old new
+
+-- a command was run: its record was appended exactly where a set changed
+pub record Ran (old new : LoggedView) (command : Asked) (reply : Response) : Type 0 where
+  pub acted : act old.world command.meaning ≡ Some (new.world, reply)
+  pub kept : AreSame old.world new.world → (new.log ≡ old.log) × (new.share ≡ old.share)
+  pub logged : (AreSame old.world new.world → ⊥) → Appends old.log new.log (request command.words) × (new.share ≡ old.share + 1)
+
+-- a command was refused: all sets stay
+pub record Refused (old new : LoggedView) (command : Asked) (refusal : Refusal) : Type 0 where
+  pub world_stays : new.world ≡ old.world
+  pub share_stays : new.share ≡ old.share
+  pub cause : NotRun refusal old.world (act old.world command.meaning) (request command.words) old.log new.log

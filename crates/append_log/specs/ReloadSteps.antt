@@ -1,0 +1,68 @@
+-- How far a reload came, between its steps.
+use Rattle.std.specs.Prelude.{◌≡◌, ℕ, ◌+◌, ◌≤◌, List, ◌++◌, Bool, true, false, Option, None, Some, Result, Ok, Err}
+use Rattle.resp_wire.specs.Device.{Rose}
+use Rattle.resp_wire.specs.DecoderView.{DecoderView}
+use Rattle.zset_core.specs.World.{World}
+use Rattle.append_log.specs.Reload.{Holds, IsLess, IsLoaded, FaultAt}
+use Rattle.append_log.specs.declared.loading.Loaded.{Loaded}
+use Rattle.std.specs.Io.KnownBytes.{prepend_known}
+use Rattle.append_log.specs.declared.loading.ReloadFault.{ReloadFault}
+use Rattle.append_log.specs.declared.loading.ReloadFault.TheVariants as faults
+use Rattle.append_log.specs.declared.loading.Unreplayed.{Unreplayed}
+use Rattle.append_log.specs.declared.loading.Unreplayed.TheVariants.{NoMemory, NotACommand}
+
+-- a reload between two of its steps: no fault was answered, and each record took a byte or more
+pub record IsBetweenReads (wire : DecoderView) (records : ℕ) : Type 0 where
+  pub unfaulted : wire.fault ≡ None
+  pub few : records ≤ wire.taken
+
+-- a record is not replayed out of memory, or where no replay takes it
+abbrev pub UnreplayedFor : Unreplayed → Option World → Type 0
+UnreplayedFor NoMemory next = Unit {0}
+UnreplayedFor NotACommand next = next ≡ None
+
+-- one record more was replayed; or none is whole; or the reload ends
+abbrev pub Stepped : Result Bool ReloadFault → World → List ℕ → ℕ → DecoderView → World → Type 0
+Stepped (Ok true) start bytes count new world = Holds start bytes new world (count + 1)
+Stepped (Ok false) start bytes count new world = Holds start bytes new world count × IsLess new.held
+Stepped (Err fault) start bytes count new world = FaultAt fault start bytes world
+
+-- all that is held was replayed as far as it is whole; or the reload ends
+abbrev pub Drained : {U : Type 0} → Result U ReloadFault → World → List ℕ → DecoderView → World → ℕ → Type 0
+Drained (Ok u) start bytes new world count = Holds start bytes new world count × IsLess new.held
+Drained (Err fault) start bytes new world count = FaultAt fault start bytes world
+
+-- one read, and what followed from it: the file ended; or it may go on; or the reload ends
+abbrev pub Rounded : Result (Option Loaded) ReloadFault → World → List ℕ → DecoderView → World → ℕ → Type 0
+Rounded (Ok (Some loaded)) start bytes wire world count = IsLoaded start bytes loaded world
+Rounded (Ok None) start bytes wire world count = Holds start bytes wire world count × IsLess wire.held
+Rounded (Err fault) start bytes wire world count = FaultAt fault start bytes world
+
+-- one read from where all was replayed as far as it is whole
+pub record ReadsOn (source₀ source₁ : Option (List ℕ)) (wire₀ wire₁ : DecoderView) (world₀ world₁ : World) (count₀ count₁ : ℕ) (result : Result (Option Loaded) ReloadFault) : Type 0 where
+  pub piece : List ℕ
+  pub read_is : source₀ ≡ prepend_known piece source₁
+  pub rounded : (start : World) (bytes : List ℕ) → Holds start bytes wire₀ world₀ count₀ → IsLess wire₀.held → Rounded result start (bytes ++ piece) wire₁ world₁ count₁
+
+-- faults that the bytes give, or out of memory
+abbrev pub IsOfBytes : ReloadFault → Type 0
+IsOfBytes faults.NoMemory = Unit {0}
+IsOfBytes (faults.Damaged at) = Unit {0}
+IsOfBytes faults.ReadFault = ⊥
+IsOfBytes (faults.NotACommand at) = Unit {0}
+IsOfBytes faults.TooManyReads = ⊥
+
+-- a source's count of failures rose exactly where a reload ends by a read fault
+abbrev pub SourceFailed : ReloadFault → ℕ → ℕ → Type 0
+SourceFailed faults.NoMemory old new = new ≡ old
+SourceFailed (faults.Damaged at) old new = new ≡ old
+SourceFailed faults.ReadFault old new = Rose old new
+SourceFailed (faults.NotACommand at) old new = new ≡ old
+SourceFailed faults.TooManyReads old new = new ≡ old
+
+-- all that was read is replayed as far as it is whole
+pub record Underway (source₀ source₁ : Option (List ℕ)) (start : World) (wire : DecoderView) (world : World) (count : ℕ) : Type 0 where
+  pub bytes : List ℕ
+  pub read_is : source₀ ≡ prepend_known bytes source₁
+  pub holds : Holds start bytes wire world count
+  pub less : IsLess wire.held

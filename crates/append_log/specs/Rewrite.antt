@@ -1,0 +1,27 @@
+-- How far a rewrite came, and what its bytes replay to.
+use Rattle.std.specs.Prelude.{◌≡◌, ℕ, List, [], ◌++◌, Option}
+use Rattle.std.specs.FinMap as fin
+use Rattle.std.specs.Io.KnownBytes.{append_known}
+use Rattle.resp_wire.specs.Device.{Rose}
+use Rattle.resp_wire.specs.Stream.{rest}
+use Rattle.zset_core.specs.World.{World}
+use Rattle.append_log.specs.Reload.{AllReplayed}
+use Rattle.append_log.specs.declared.renewing.RewriteFault.{RewriteFault}
+use Rattle.append_log.specs.declared.renewing.RewriteFault.TheVariants.{NoMemory, Sink}
+
+-- a prefix of these bytes was written, perhaps none or all of them
+pub record TakesPrefix (old new : Option (List ℕ)) (bytes : List ℕ) : Type 0 where
+  pub out : List ℕ
+  pub more : List ℕ
+  pub whole : out ++ more ≡ bytes
+  pub told : new ≡ append_known old out
+
+-- a sink's count of failures rose exactly where the rewrite ends by a fault of the sink
+abbrev pub SinkFailed : RewriteFault → ℕ → ℕ → Type 0
+SinkFailed NoMemory old new = new ≡ old
+SinkFailed Sink old new = Rose old new
+
+-- a reload of these bytes alone ends without a fault and with no torn end, and replays from no sets to this world
+pub record ReplaysTo (bytes : List ℕ) (world : World) : Type 0 where
+  pub all : AllReplayed fin.empty bytes world
+  pub whole : rest bytes ≡ []

@@ -1,0 +1,264 @@
+ghost use Rattle.std.specs.Prelude.{◌≡◌, ◌≤◌, ◌^◌, None};
+
+use append_log::{FuseSink, Loaded, Log, LoggedOwner, MemorySink, ReloadFault, reload, rewrite};
+use resp_wire::{Bytes, BytesList, MemorySource, Reply, Request, write_reply, write_request};
+use std::alloc::Global;
+use std::hash::RandomState;
+use std::marker::Brand;
+use std::sync::ledger::{Blank, Ledger};
+use std::test::*;
+use zset_core::{Command, OneOwner, Refusal};
+
+type Owner = OneOwner<RandomState, Global>;
+
+// The request of a text's arguments, which single spaces part.
+fn request(alloc: Global, text: &str) -> Result<Request<Global>, Fail> {
+    let mut arguments = Vec::new(alloc);
+    for argument in text.split(' ') {
+        arguments.push(Bytes::new(Vec::from_slice(alloc, argument.as_bytes())?))?;
+    }
+    Ok(Request::new(BytesList::new(arguments)).ok_or("no request")?)
+}
+
+fn command(alloc: Global, text: &str) -> Result<Command<Global>, Fail> {
+    match Command::read(alloc, request(alloc, text)?) {
+        Ok(command) => Ok(command),
+        Err(_) => Err("no command")?,
+    }
+}
+
+// The bytes of a reply, an end of line as `~`, or the number of a refusal behind `r`.
+fn shown(alloc: Global, answer: &Result<Reply<Global>, Refusal>) -> Result<String, Fail> {
+    match answer {
+        Err(refusal) => Ok(format!(in alloc; "r{}", refusal.number())?),
+        Ok(reply) => {
+            let mut bytes = Vec::new(alloc);
+            write_reply(reply, &mut bytes)?;
+            match std::str::from_utf8(bytes.as_slice()) {
+                Ok(text) => Ok(text.replace(alloc, "\r\n", "~")?),
+                Err(_) => Err("no text")?,
+            }
+        }
+    }
+}
+
+fn answer(alloc: Global, owner: &mut Owner, text: &str) -> Result<String, Fail>
+    requires { owner.old.next ≡ None }
+    ensures { owner.new.next ≡ None }
+{
+    let command = command(alloc, text)?;
+    let answer = owner.run(&command);
+    shown(alloc, &answer)
+}
+
+// What commands came to that were run one after the other.
+#[derive(Drop)]
+struct Played {
+    // The replies, a space behind each.
+    replies: String,
+    appended: u64,
+    is_broken: bool,
+    sink: FuseSink<MemorySink<Global>>,
+}
+
+fn play<L: Ledger>(
+    alloc: Global,
+    hasher: RandomState,
+    blank: Blank,
+    sink: FuseSink<MemorySink<Global>>,
+    max_records: u64,
+    commands: &[&str],
+) -> Result<Played, Fail>
+    requires name { blank.name ≡ L.name }
+    requires parts { blank.parts ≡ L.parts }
+    requires two { blank.parts ≡ 2 }
+    requires some { 1 ≤ max_records }
+    requires limited { max_records ≤ 2 ^ 40 }
+{
+    let log = Log::<_, L>::new(blank, sink, max_records);
+    let mut owner = LoggedOwner::new(alloc, OneOwner::new(alloc, hasher), log);
+    let mut replies = String::new(alloc);
+    for text in commands {
+        let command = command(alloc, text)?;
+        let answer = owner.run(&command);
+        replies.push_str(shown(alloc, &answer)?.as_str())?;
+        replies.push(' ')?;
+    }
+    let (_, log) = owner.into_parts();
+    let appended = log.appended();
+    let is_broken = log.is_broken();
+    Ok(Played {
+        replies,
+        appended,
+        is_broken,
+        sink: log.into_sink(),
+    })
+}
+
+// Whether a reload of these bytes gives that, and a command after it this reply.
+fn reloads_to(
+    rt: &HostRuntime,
+    bytes: &[u8],
+    wanted: Result<Loaded, ReloadFault>,
+    question: &str,
+    reply: &str,
+) -> Result<bool, Fail> {
+    let alloc = rt.alloc();
+    let mut owner = OneOwner::new(alloc, RandomState::new(rt)?);
+    let mut source = MemorySource::new(bytes, 65536);
+    let loaded = reload(alloc, &mut source, &mut owner, 35, 1000);
+    let told = answer(alloc, &mut owner, question)?;
+    Ok(loaded == wanted && told.as_str() == reply)
+}
+
+fn loaded(records: u64, whole: u64, torn: u64) -> Result<Loaded, ReloadFault> {
+    Ok(Loaded {
+        records,
+        whole,
+        torn,
+    })
+}
+
+// The second write fails: a prefix of a record stands in the sink, the sets stay, and the log is
+// broken for good.
+#[test]
+fn a_failed_write_breaks_the_log(rt: HostRuntime) -> Result<(), Fail> {
+    let commands = ["ZADD k 1 a", "ZCARD k", "ZADD k 1 a", "ZREM k z"];
+    let alloc = rt.alloc();
+    let sink = FuseSink::new(MemorySink::new(alloc, 7), 2);
+    let hasher = RandomState::new(&rt)?;
+    let torn = play::<Brand>(alloc, hasher, Blank::new(2), sink, 10, &commands)?;
+    assert_eq!(rt; torn.replies.as_str(), "r16 :0~ r14 :0~ ");
+    assert!(rt; torn.is_broken && torn.sink.calls() == 2);
+    let sink = torn.sink.into_inner();
+    assert_eq!(rt; sink.bytes(), b"*4\r\n$4\r".as_slice());
+    assert!(rt; reloads_to(&rt, sink.bytes(), loaded(0, 0, 7), "ZCARD k", ":0~")?);
+    Ok(())
+}
+
+// The sync fails: the refused record stands there whole.
+#[test]
+fn a_failed_sync_leaves_the_record(rt: HostRuntime) -> Result<(), Fail> {
+    let commands = ["ZADD k 1 a", "ZCARD k"];
+    let alloc = rt.alloc();
+    let sink = FuseSink::new(MemorySink::new(alloc, 64), 2);
+    let hasher = RandomState::new(&rt)?;
+    let unsynced = play::<Brand>(alloc, hasher, Blank::new(2), sink, 10, &commands)?;
+    assert_eq!(rt; unsynced.replies.as_str(), "r16 :0~ ");
+    let sink = unsynced.sink.into_inner();
+    assert!(rt; reloads_to(&rt, sink.bytes(), loaded(1, 35, 0), "ZSCORE k a", "$1~1~")?);
+    Ok(())
+}
+
+// One record alone may be appended: what a full log refuses leaves the sets.
+#[test]
+fn a_full_log_refuses_changes(rt: HostRuntime) -> Result<(), Fail> {
+    let commands = [
+        "ZADD k 1 a",
+        "ZADD k 2 b",
+        "ZADD k 1 a",
+        "ZREM k a",
+        "ZCARD k",
+    ];
+    let alloc = rt.alloc();
+    let sink = FuseSink::new(MemorySink::new(alloc, 64), 0);
+    let hasher = RandomState::new(&rt)?;
+    let full = play::<Brand>(alloc, hasher, Blank::new(2), sink, 1, &commands)?;
+    assert_eq!(rt; full.replies.as_str(), ":1~ r15 :0~ r15 :1~ ");
+    assert!(rt; !full.is_broken && full.appended == 1);
+    Ok(())
+}
+
+// The bytes of records.
+fn file(alloc: Global, records: &[&str]) -> Result<Vec<u8>, Fail> {
+    let mut bytes = Vec::new(alloc);
+    for text in records {
+        write_request(&request(alloc, text)?, &mut bytes)?;
+    }
+    Ok(bytes)
+}
+
+const LISTING: &str = "ZRANGEBYSCORE k -inf +inf WITHSCORES";
+
+/// ZADD k 1 a, ZADD k 2 b and ZREM k a: records of 35, 35 and 28 bytes.
+const THREE_RECORDS: &[u8] =
+    b"*4\r\n$4\r\nZADD\r\n$1\r\nk\r\n$1\r\n1\r\n$1\r\na\r\n*4\r\n$4\r\nZADD\r\n$1\r\nk\r\n$1\r\n2\r\n$1\r\nb\r\n*3\r\n$4\r\nZREM\r\n$1\r\nk\r\n$1\r\na\r\n";
+
+/// ZADD j -3 x and ZADD k 1 B 1 a 1 b: records of 36 and 63 bytes.
+const TWO_SETS: &[u8] =
+    b"*4\r\n$4\r\nZADD\r\n$1\r\nj\r\n$2\r\n-3\r\n$1\r\nx\r\n*8\r\n$4\r\nZADD\r\n$1\r\nk\r\n$1\r\n1\r\n$1\r\nB\r\n$1\r\n1\r\n$1\r\na\r\n$1\r\n1\r\n$1\r\nb\r\n";
+
+#[test]
+fn whole_records_are_reloaded(rt: HostRuntime) -> Result<(), Fail> {
+    let whole = file(rt.alloc(), &["ZADD k 1 a", "ZADD k 2 b", "ZREM k a"])?;
+    assert_eq!(rt; whole.as_slice(), THREE_RECORDS);
+    let listed = "*2~$1~b~$1~2~";
+    assert!(rt; reloads_to(&rt, THREE_RECORDS, loaded(3, 98, 0), LISTING, listed)?);
+    assert!(rt; reloads_to(&rt, b"", loaded(0, 0, 0), LISTING, "*0~")?);
+    Ok(())
+}
+
+#[test]
+fn a_torn_end_is_counted(rt: HostRuntime) -> Result<(), Fail> {
+    let cut = THREE_RECORDS.get(..80).unwrap_or(&[]);
+    let listed = "*4~$1~a~$1~1~$1~b~$1~2~";
+    assert!(rt; reloads_to(&rt, cut, loaded(2, 70, 10), LISTING, listed)?);
+    Ok(())
+}
+
+#[test]
+fn a_fault_of_reloading_is_told(rt: HostRuntime) -> Result<(), Fail> {
+    let mut damaged = Vec::from_slice(rt.alloc(), THREE_RECORDS)?;
+    if let Some(byte) = damaged.get_mut(39) {
+        *byte = b'!';
+    }
+    let fault = Err(ReloadFault::Damaged(35));
+    assert!(rt; reloads_to(&rt, damaged.as_slice(), fault, LISTING, "*2~$1~a~$1~1~")?);
+    let reads = file(rt.alloc(), &["ZADD k 1 a", "ZADD k 2 b", "ZCARD k"])?;
+    let no_command = Err(ReloadFault::NotACommand(70));
+    let listed = "*4~$1~a~$1~1~$1~b~$1~2~";
+    assert!(rt; reloads_to(&rt, reads.as_slice(), no_command, LISTING, listed)?);
+    Ok(())
+}
+
+// What stands for no request is passed over: it is no record, and counts among the whole bytes.
+#[test]
+fn skips_are_no_records(rt: HostRuntime) -> Result<(), Fail> {
+    assert!(rt; reloads_to(&rt, b"*0\r\n*-1\r\n", loaded(0, 9, 0), "ZCARD k", ":0~")?);
+    Ok(())
+}
+
+#[test]
+fn rewritten_sets(rt: HostRuntime) -> Result<(), Fail> {
+    let alloc = rt.alloc();
+    let mut owner = OneOwner::new(alloc, RandomState::new(&rt)?);
+    answer(alloc, &mut owner, "ZADD k 1 b 1 a 1 B")?;
+    answer(alloc, &mut owner, "ZADD j -3 x")?;
+    let mut sink = MemorySink::new(alloc, 7);
+    assert!(rt; rewrite(alloc, &owner, &mut sink) == Ok(2));
+    assert_eq!(rt; sink.bytes(), TWO_SETS);
+    let listed = "*6~$1~B~$1~1~$1~a~$1~1~$1~b~$1~1~";
+    assert!(rt; reloads_to(&rt, TWO_SETS, loaded(2, 99, 0), LISTING, listed)?);
+    Ok(())
+}
+
+// It takes only what threads may hold and share.
+fn is_shared<T: Send + Sync>(_value: &T) {}
+
+fn first_count<L: Ledger + Send + Sync>(blank: Blank, sink: MemorySink<Global>) -> u64
+    requires name { blank.name ≡ L.name }
+    requires parts { blank.parts ≡ L.parts }
+    requires two { blank.parts ≡ 2 }
+{
+    let mut log = Log::<_, L>::new(blank, sink, 10);
+    let share = log.split();
+    is_shared(&share);
+    share.count()
+}
+
+#[test]
+fn shared_counts(rt: HostRuntime) -> Result<(), Fail> {
+    let sink = MemorySink::new(rt.alloc(), 64);
+    assert_eq!(rt; first_count::<Brand>(Blank::new(2), sink), 0);
+    Ok(())
+}

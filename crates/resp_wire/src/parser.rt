@@ -1,0 +1,113 @@
+//! Parsing at the start of a slice: a value and the bytes behind it, or where parsing stops.
+
+ghost use Rattle.std.specs.Prelude.{◌≡◌, ℕ, ◌+◌, ◌*◌, ◌≤◌, ◌<◌, ◌^◌, List, length, Ok};
+ghost use Rattle.resp_wire.specs.ParserAgreement.{Gives, GivesUnlessFull};
+ghost use Rattle.resp_wire.specs.Parser.{byte_at, line_end_at, digits_at, number_at, head_at, body_at, argument_at};
+
+use crate::bytes::Bytes;
+use crate::fault::{Failure, ProtocolFault, Stop};
+use crate::request::{MAX_ARGUMENTS, MAX_LENGTH};
+use std::alloc::Allocator;
+
+#[tactic(auto, unfolding(crate::specs::Parser::byte_at))]
+fn after_byte(wanted: u8, fault: ProtocolFault, bytes: &[u8]) -> Result<&[u8], Stop>
+    ensures { Gives (λ rest. rest.now) result (byte_at wanted fault bytes.now) }
+{
+    match bytes {
+        [] => Err(Stop::Short),
+        [b, rest @ ..] if *b == wanted => Ok(rest),
+        _ => Err(Stop::Wrong(fault)),
+    }
+}
+
+#[tactic(auto, unfolding(crate::specs::Parser::line_end_at))]
+fn after_line_end(fault: ProtocolFault, bytes: &[u8]) -> Result<&[u8], Stop>
+    ensures { Gives (λ rest. rest.now) result (line_end_at fault bytes.now) }
+{
+    let rest = after_byte(b'\r', fault, bytes)?;
+    after_byte(b'\n', fault, rest)
+}
+
+/// A number up to the limit, and the bytes behind the end of its line. A number over the limit is
+/// told at the digit that makes it so, and a zero before a digit at that digit.
+#[tactic(auto, unfolding(crate::specs::Parser::digits_at, crate::specs::Parser::number_at))]
+fn number(limit: usize, over: ProtocolFault, bytes: &[u8]) -> Result<(usize, &[u8]), Stop>
+    requires { limit < 2 ^ 32 }
+    ensures { Gives (λ found. (found.0, found.1.now)) result (number_at limit over bytes.now) }
+{
+    let mut n = match bytes {
+        [] => return Err(Stop::Short),
+        [b, ..] if b.is_ascii_digit() => (*b - b'0') as usize,
+        _ => return Err(Stop::Wrong(ProtocolFault::BadNumber)),
+    };
+    let mut rest = &bytes[1..];
+    while let [b, behind @ ..] = rest {
+        if !b.is_ascii_digit() {
+            return Ok((n, after_line_end(ProtocolFault::BadNumber, rest)?));
+        }
+        if n == 0 {
+            return Err(Stop::Wrong(ProtocolFault::BadNumber));
+        }
+        n = n * 10 + (*b - b'0') as usize;
+        if limit < n {
+            return Err(Stop::Wrong(over));
+        }
+        rest = behind;
+    }
+    Err(Stop::Short)
+}
+
+/// The number behind `*`, where None is the -1, and the bytes behind the line.
+#[tactic(auto, unfolding(crate::specs::Parser::head_at, crate::specs::Parser::count_at))]
+pub fn head(bytes: &[u8]) -> Result<(Option<usize>, &[u8]), Stop>
+    ensures { Gives (λ found. (found.0, found.1.now)) result (head_at bytes.now) }
+{
+    let behind_star = after_byte(b'*', ProtocolFault::NotAnArray, bytes)?;
+    match behind_star {
+        [] => Err(Stop::Short),
+        [b'-', behind @ ..] => {
+            let rest = after_byte(b'1', ProtocolFault::BadNumber, behind)?;
+            let after = after_line_end(ProtocolFault::BadNumber, rest)?;
+            Ok((None, after))
+        }
+        _ => {
+            let (count, after) = number(
+                MAX_ARGUMENTS,
+                ProtocolFault::TooManyArguments,
+                behind_star,
+            )?;
+            Ok((Some(count), after))
+        }
+    }
+}
+
+/// So many bytes, and the bytes behind the line end after them.
+#[tactic(auto, unfolding(crate::specs::Parser::body_at))]
+fn body(len: usize, bytes: &[u8]) -> Result<(&[u8], &[u8]), Stop>
+    ensures { Gives (λ found. (found.0.now, found.1.now)) result (body_at len bytes.now) }
+{
+    if bytes.len() < len {
+        return Err(Stop::Short);
+    }
+    let (text, behind) = bytes.split_at(len);
+    let rest = after_line_end(ProtocolFault::BadBulk, behind)?;
+    Ok((text, rest))
+}
+
+/// An argument where it stands, and the bytes behind it.
+#[tactic(auto, unfolding(crate::specs::Parser::argument_at))]
+fn argument_text(bytes: &[u8]) -> Result<(&[u8], &[u8]), Stop>
+    ensures { Gives (λ found. (found.0.now, found.1.now)) result (argument_at bytes.now) }
+{
+    let behind_dollar = after_byte(b'$', ProtocolFault::BadBulk, bytes)?;
+    let (len, behind_line) = number(MAX_LENGTH, ProtocolFault::TooLong, behind_dollar)?;
+    body(len, behind_line)
+}
+
+/// An argument as a value of its own, and the bytes behind it.
+pub fn argument<A: Allocator>(alloc: A, bytes: &[u8]) -> Result<(Bytes<A>, &[u8]), Failure>
+    ensures { GivesUnlessFull (λ found. (found.0, found.1.now)) result (argument_at bytes.now) }
+{
+    let (text, rest) = argument_text(bytes)?;
+    Ok((Bytes::new(Vec::from_slice(alloc, text)?), rest))
+}

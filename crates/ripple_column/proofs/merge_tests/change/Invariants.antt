@@ -1,5 +1,0 @@
-use Rattle.ripple_column.specs.Content.{Holds}
-use Rattle.ripple_column.proofs.merge_tests.change.Given as goal
-
-abbrev pub invariant-loop-i : goal.invariant-loop-i
-invariant-loop-i l = Holds l.column l.held.items

@@ -1,0 +1,175 @@
+//! The merging of many rows at once, by passes over the pieces.
+//!
+//! The rows that are to leave and to come are lined up by score. While no more come than have left,
+//! a pass goes up over the pieces with the gap that was left. Where more come than have left, the
+//! rows that leave above make room: a pass goes down from the piece where they are as many, or from
+//! the end of the column, and then the next one goes on upwards from there. So each pivot moves
+//! once, by as many places as it has to.
+
+ghost use Rattle.std.specs.Prelude.{◌≡◌, ◌+◌, ◌-◌, ◌≤◌, ◌&&◌, not, true, false, length, take, count_by, IsPermutation, vec_len, vec_capacity};
+ghost use Rattle.std.specs.List.{AllWithin};
+ghost use Rattle.crack_kernel.specs.RowBag.{Test, IsSubBag};
+ghost use Rattle.ripple_column.specs.Content.{has_score_in, KeepsContent, SameOutside};
+ghost use Rattle.ripple_column.specs.BlankGap.{TakenFrom};
+ghost use Rattle.ripple_column.specs.Merge.{KeepsFrame, Merges};
+
+use crate::bloom_filter::ScoreFilter;
+use crate::cracked::Cracked;
+use crate::gap::Direction;
+use crate::merge_pass::{Pass, run_pass};
+use crate::pending::Pending;
+use crack_kernel::{Pivots, Row};
+use score_bounds::Range;
+use std::alloc::Allocator;
+
+/// From how many rows on a merge goes over the pieces once for all of them. The ripple moves of
+/// fewer rows take less time.
+const MANY: usize = 32;
+
+/// From which index on, from `from` on and at most `to`, scores are below `v` in a list in which
+/// they fall.
+fn tail_below<A: Allocator>(list: &[Row<A>], from: usize, to: usize, v: i64) -> usize
+    requires order { from ≤ to }
+    requires within { to ≤ length list.now }
+    ensures low { from ≤ result }
+    ensures high { result ≤ to }
+{
+    let mut i = to;
+    while i > from && list[i - 1].score() < v {
+        i -= 1;
+    }
+    i
+}
+
+/// Where, from the piece of a pass on, no more rows are to come than to leave: the pass that goes down
+/// from that piece, or from the last one, with blank rows from above. It is to take all insertions
+/// below that piece, and as many deletions.
+fn next_surplus<A: Allocator>(pivots: &[(i64, usize)], pending: &Pending<A>, up: Pass) -> Pass
+    requires piece { up.piece ≤ length pivots.now }
+    requires deletions { up.deletions ≤ length pending.now.deletions.items }
+    requires insertions { up.insertions ≤ length pending.now.insertions.items }
+    ensures piece { result.piece ≤ length pivots.now }
+    ensures deletions_low { up.deletions ≤ result.deletions }
+    ensures deletions_high { result.deletions ≤ length pending.now.deletions.items }
+    ensures insertions_low { up.insertions ≤ result.insertions }
+    ensures insertions_high { result.insertions ≤ length pending.now.insertions.items }
+{
+    let deletions = pending.deletions.list();
+    let insertions = pending.insertions.list();
+    let mut leaving = deletions.len();
+    let mut arriving = insertions.len();
+    for piece in up.piece..pivots.len() {
+        let v = pivots[piece].0;
+        let below = arriving;
+        leaving = tail_below(deletions, up.deletions, leaving, v);
+        arriving = tail_below(insertions, up.insertions, arriving, v);
+        if deletions.len() - leaving >= insertions.len() - arriving {
+            return Pass {
+                direction: Direction::Down,
+                piece,
+                deletions: deletions.len() - (insertions.len() - below),
+                insertions: below,
+            };
+        }
+    }
+    Pass {
+        direction: Direction::Down,
+        piece: pivots.len(),
+        ..up
+    }
+}
+
+/// The index of the piece of the lowest of the last rows of the two lists.
+fn lowest_piece<A: Allocator>(pivots: &Pivots<A>, pending: &Pending<A>) -> usize
+    ensures { result ≤ length pivots.now.list }
+{
+    let mut first = pivots.len();
+    if let Some(row) = pending.deletions.list().last() {
+        first = pivots.count_upto(row.score());
+    }
+    if let Some(row) = pending.insertions.list().last() {
+        first = first.min(pivots.count_upto(row.score()));
+    }
+    first
+}
+
+/// A filter with the scores of the rows.
+fn filter_of<A: Allocator>(rows: &[Row<A>]) -> ScoreFilter {
+    let mut filter = ScoreFilter::new();
+    for row in rows {
+        filter.add(row.score());
+    }
+    filter
+}
+
+/// Merges rows that wait in the two lists from some index on, where scores fall. What it leaves
+/// waits on.
+fn merge_tails<A: Allocator + Copy>(
+    cracked: &mut Cracked<A>,
+    pending: &mut Pending<A>,
+    deletions_from: usize,
+    insertions_from: usize,
+)
+    requires deletions { deletions_from ≤ length pending.old.deletions.items }
+    requires insertions { insertions_from ≤ length pending.old.insertions.items }
+    requires room { vec_len cracked.old.rows + length pending.old.insertions.items
+        ≤ vec_capacity cracked.old.rows + insertions_from }
+    ensures content { KeepsContent cracked.old.rows.items pending.old.insertions.items pending.old.deletions.items
+        cracked.new.rows.items pending.new.insertions.items pending.new.deletions.items }
+    ensures deletions { TakenFrom deletions_from pending.old.deletions.items pending.new.deletions.items }
+    ensures insertions { TakenFrom insertions_from pending.old.insertions.items pending.new.insertions.items }
+    ensures frame { KeepsFrame cracked.old.rows cracked.old.pivots cracked.new.rows cracked.new.pivots }
+{
+    cracked.rows.extend_fingerprints();
+    let filter = filter_of(&pending.deletions.list()[deletions_from..]);
+    let mut piece = lowest_piece(&cracked.pivots, pending);
+    // Each turn ends at a higher piece than the one before.
+    for _turn in 0..cracked.pivots.len() + 1 {
+        let up = Pass {
+            direction: Direction::Up,
+            piece,
+            deletions: deletions_from,
+            insertions: insertions_from,
+        };
+        piece = run_pass(&mut cracked.rows, &mut cracked.pivots, pending, up, &filter);
+        if pending.insertions.len() == insertions_from {
+            break;
+        }
+        let down = next_surplus(cracked.pivots.list(), pending, Pass { piece, ..up });
+        pending.deletions.reverse_from(down.deletions);
+        pending.insertions.reverse_from(down.insertions);
+        run_pass(
+            &mut cracked.rows,
+            &mut cracked.pivots,
+            pending,
+            down,
+            &filter,
+        );
+        piece = down.piece;
+    }
+}
+
+/// Merges rows that wait and have scores in the range by passes over the pieces, where many wait
+/// there. What it leaves is for the ripple moves.
+pub fn merge_many<A: Allocator + Copy>(
+    cracked: &mut Cracked<A>,
+    pending: &mut Pending<A>,
+    range: &Range,
+)
+    requires part { IsSubBag pending.old.deletions.items cracked.old.rows.items }
+    requires room { vec_len cracked.old.rows + count_by (has_score_in range.now) pending.old.insertions.items
+        ≤ vec_capacity cracked.old.rows }
+    ensures merges { Merges cracked.old cracked.new pending.old pending.new }
+    ensures waiting_deletions { SameOutside range.now pending.old.deletions.items pending.new.deletions.items }
+    ensures waiting_insertions { SameOutside range.now pending.old.insertions.items pending.new.insertions.items }
+    ensures frame { KeepsFrame cracked.old.rows cracked.old.pivots cracked.new.rows cracked.new.pivots }
+{
+    let deletions = pending.deletions.count_within(range);
+    let insertions = pending.insertions.count_within(range);
+    if deletions.saturating_add(insertions) < MANY {
+        return;
+    }
+    let deletions_from = pending.deletions.line_up(range);
+    let insertions_from = pending.insertions.line_up(range);
+    merge_tails(cracked, pending, deletions_from, insertions_from);
+}

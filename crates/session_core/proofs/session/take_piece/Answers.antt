@@ -1,5 +1,0 @@
-use Rattle.session_core.proofs.Held.{halted_unfed}
-use Rattle.session_core.proofs.session.take_piece.Goals as goal
-
-pub returns-then-is_err-clause-halted : goal.returns-then-is_err-clause-halted
-returns-then-is_err-clause-halted g c = halted_unfed g.E.Exec.allows _ _ _ _ _

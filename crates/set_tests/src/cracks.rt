@@ -1,0 +1,63 @@
+use crack_kernel::{Pivots, Row, crack_three, crack_two};
+use std::alloc::{AllocError, Global};
+use std::process::Abort;
+
+// Rows of these scores, each with a member of one byte.
+fn rows_of(alloc: Global, scores: &[i64]) -> Result<Vec<Row<Global>>, AllocError> {
+    let mut rows = Vec::new(alloc);
+    for score in scores {
+        rows.push(Row::new(*score, vec![in alloc; b'm']?))?;
+    }
+    Ok(rows)
+}
+
+#[test]
+fn rows_are_cracked(rt: HostRuntime) -> Result<(), AllocError> {
+    let alloc = rt.alloc();
+    let mut rows = rows_of(alloc, &[5, 1, 5, 9, 3])?;
+    assert_eq!(rt; crack_two(&mut rows, 5), 2);
+    let mut rows = rows_of(alloc, &[5, 1, 5, 9, 3])?;
+    assert_eq!(rt; crack_three(&mut rows, 3, 6), (1, 4));
+    let mut none = rows_of(alloc, &[])?;
+    assert_eq!(rt; crack_two(&mut none, 5), 0);
+    assert_eq!(rt; crack_three(&mut none, 3, 6), (0, 0));
+    Ok(())
+}
+
+#[test]
+fn pivots_are_kept(rt: HostRuntime) -> Result<(), AllocError> {
+    let mut pivots = Pivots::new(rt.alloc());
+    pivots.reserve(2)?;
+    assert!(rt; pivots.is_empty());
+    pivots.add(3, 2);
+    assert!(rt; pivots.find(7).is_none() && pivots.len() == 1);
+    pivots.add(7, 6);
+    assert_eq!(rt; pivots.list(), [(3, 2), (7, 6)].as_slice());
+    for (value, piece) in [(1, (0, 2)), (3, (2, 6)), (5, (2, 6)), (7, (6, 10))] {
+        assert_eq!(rt; pivots.piece_of(value, 10), piece, "at {value}");
+    }
+    assert_eq!(rt; pivots.find(3), Some(2));
+    assert_eq!(rt; pivots.find(4), None);
+    shift_some(&rt, &mut pivots, 1, true);
+    assert_eq!(rt; pivots.list(), [(3, 2), (7, 7)].as_slice());
+    shift_some(&rt, &mut pivots, 0, false);
+    assert_eq!(rt; pivots.list(), [(3, 1), (7, 6)].as_slice());
+    pivots.close_up(2, 4);
+    assert_eq!(rt; pivots.list(), [(3, 1), (7, 4)].as_slice());
+    pivots.close_up(0, 3);
+    assert_eq!(rt; pivots.list(), [(3, 0), (7, 1)].as_slice());
+    pivots.clear();
+    assert_eq!(rt; pivots.len(), 0);
+    Ok(())
+}
+
+// Shifts pivots that all have room below and above.
+fn shift_some<R: Abort>(rt: &R, pivots: &mut Pivots<Global>, from_index: usize, up: bool) {
+    assert!(rt; from_index <= pivots.len());
+    assert!(rt;
+        pivots.list()[from_index..]
+            .iter()
+            .all(|pivot| 0 < pivot.1 && pivot.1 < 100)
+    );
+    pivots.shift(from_index, up);
+}

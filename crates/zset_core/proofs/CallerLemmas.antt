@@ -1,0 +1,5 @@
+-- What other crates cite of these proofs: the orders of bytes and of pairs, worlds after a change, what a request is read as.
+pub use Rattle.zset_core.proofs.Bridge.{total, exact, tied}
+pub use Rattle.zset_core.proofs.Order.{pair_total, is_pair, is_same, is_equal, has_of_pairs, find_marks, whole_empty}
+pub use Rattle.zset_core.proofs.Worlds.{get_put_set, filled, placed}
+pub use Rattle.zset_core.proofs.Asked.{asked-ok}

@@ -1,0 +1,46 @@
+use Rattle.std.proofs.Common.{◌∙◌, ◌+◌, ◌*◌, sym, ap, rules, arith, ℤ, pos, drop, get_or, SFits, w64, to_z, of_z, to_z-of_z, true}
+use Rattle.zset_core.specs.ParsedArguments.{scored}
+use Rattle.zset_core.specs.Semantics.{counted, count_all}
+use Rattle.zset_core.specs.StagedEntries.{staged_score, members_by}
+use Rattle.zset_core.proofs.PairSteps.{pairs_step, put_step, count_step, counted_one}
+use Rattle.zset_core.proofs.Staging.{Grows-then}
+use Rattle.zset_core.proofs.Bags.{Notes-then, Notes-more}
+use Rattle.zset_core.proofs.set.draft.Draft.stage_all.Goals as goal
+
+pub loop-index-preserved : goal.loop-index-preserved
+loop-index-preserved g c =
+    let i = c.loop-index.index in
+    let ss = c.args.pairs.now.scores.now in
+    let ws = c.args.pairs.now.arguments.now in
+    let f : SFits w64 (get_or ss i (pos 0)) = search rules in
+    let z : ℤ = to_z w64 (of_z w64 (get_or ss i (pos 0))) in
+    let m = c.as_slice-member.result.now in
+    let ps = scored (drop i ss) (drop (2 * i) ws) in
+    let rest = scored (drop (i + 1) ss) (drop (2 * (i + 1)) ws) in
+    let old = members_by staged_score c.loop-index.members.entries in
+    let new = members_by staged_score c.stage_one.new.members.entries in
+    let within = c.loop-index-test.true in
+    let is = pairs_step ss ws i z m c.index-pairs-index.result within c.args.pairs.now.paired (to_z-of_z f) (c.as_slice-member.ensures ∙ sym c.index-pairs-index.is) c.index-pairs-index.is in
+    let noted = c.loop-index.invariant.edits in
+    let written = noted.0 in
+    let one = c.counted_in-count.ensures ∙ ap (counted c.args.changed) c.in_ok-what.ensures.outcome in
+    record {
+      few = omega (arith, c.loop-index.invariant.few, c.counted_in-count.ensures, counted_one c.args.changed c.in_ok-what.what);
+      count = count_step c.args.flags c.args.changed old new z m ps rest c.loop-index.count c.counted_in-count.result _ is c.in_ok-what.ensures.staged one c.loop-index.invariant.count;
+      staged = put_step c.args.flags old new z m ps rest _ is c.in_ok-what.ensures.staged c.loop-index.invariant.staged;
+      edits = (
+        written + counted true c.in_ok-what.what,
+        Notes-then written (counted true c.in_ok-what.what) (members_by staged_score c.args.members.now.entries) old new c.args.self.now.edits c.loop-index.self.edits c.stage_one.new.self.edits noted.1 c.in_ok-what.ensures.edits,
+        count_step c.args.flags true old new z m ps rest written (counted true c.in_ok-what.what) _ is c.in_ok-what.ensures.staged (ap (counted true) c.in_ok-what.ensures.outcome) noted.2,
+      );
+      kept = c.stage_one.ensures.kept ∙ c.loop-index.invariant.kept;
+      waiting = c.stage_one.ensures.waiting;
+      grows = Grows-then c.args.members.now.entries c.loop-index.members.entries c.stage_one.new.members.entries c.loop-index.invariant.grows c.stage_one.ensures.grows;
+    }
+
+pub returns-clause-edits : goal.returns-clause-edits
+returns-clause-edits g c =
+    let noted = c.loop-index.invariant.edits in
+    let old = members_by staged_score c.args.members.now.entries in
+    let written = count_all c.args.flags true old (scored c.args.pairs.now.scores.now c.args.pairs.now.arguments.now) in
+    Notes-more noted.0 written old (members_by staged_score c.loop-index.members.entries) c.args.self.now.edits c.loop-index.self.edits (omega (arith, noted.2)) noted.1

@@ -1,0 +1,18 @@
+use Rattle.std.proofs.Common.{◌≡◌, ◌+◌, ◌*◌, ◌≤◌, ℕ, true, drop}
+use Rattle.zset_core.specs.ParsedArguments.{scored}
+use Rattle.zset_core.specs.StagedEntries.{staged_score, members_by, IsWaiting, Grows}
+use Rattle.zset_core.specs.Semantics.{put_all, count_all}
+use Rattle.zset_core.specs.Edits.{Notes}
+use Rattle.zset_core.proofs.set.draft.Draft.stage_all.Given as goal
+
+abbrev pub invariant-loop-index : goal.invariant-loop-index
+invariant-loop-index g l = record {
+  few : l.count ≤ l.index;
+  edits : (written : ℕ) × Notes written (members_by staged_score l.initial.members.entries) (members_by staged_score l.members.entries) l.initial.self.edits l.self.edits
+      × (written + count_all l.flags true (members_by staged_score l.members.entries) (scored (drop l.index l.pairs.scores.now) (drop (2 * l.index) l.pairs.arguments.now)) ≡ count_all l.flags true (members_by staged_score l.initial.members.entries) (scored l.pairs.scores.now l.pairs.arguments.now));
+  count : l.count + count_all l.flags l.changed (members_by staged_score l.members.entries) (scored (drop l.index l.pairs.scores.now) (drop (2 * l.index) l.pairs.arguments.now)) ≡ count_all l.flags l.changed (members_by staged_score l.initial.members.entries) (scored l.pairs.scores.now l.pairs.arguments.now);
+  staged : put_all l.flags (members_by staged_score l.members.entries) (scored (drop l.index l.pairs.scores.now) (drop (2 * l.index) l.pairs.arguments.now)) ≡ put_all l.flags (members_by staged_score l.initial.members.entries) (scored l.pairs.scores.now l.pairs.arguments.now);
+  waiting : IsWaiting l.self.touched.items l.members.entries;
+  kept : l.self.kept ≡ l.initial.self.kept;
+  grows : Grows l.initial.members.entries l.members.entries;
+}

@@ -1,0 +1,35 @@
+use Rattle.std.proofs.Common.{◌∙◌, sym, ap, subst, refl, Some, ℤ, w64, to_z, of_z, to_z-of_z}
+use Rattle.std.specs.FinMap as map
+use Rattle.indexmap.proofs.CallerLemmas.{insert_entry-new}
+use Rattle.zset_core.specs.StagedEntries.{staged_score, members_by, slot_at, same_bytes, Grows, IsWaiting}
+use Rattle.zset_core.specs.declared.set.member_map.ScoreSlot.{ScoreSlot}
+use Rattle.zset_core.proofs.Bridge.{updates_bytes, one_put}
+use Rattle.zset_core.proofs.Staging.{Grows-push, IsWaiting-push}
+use Rattle.zset_core.proofs.set.draft.put_new.Goals as goal
+
+pub returns-clause-staged : goal.returns-clause-staged
+returns-clause-staged g c =
+    let key = c.in_ok-key.key in
+    let z : ℤ = to_z w64 (of_z w64 c.args.score) in
+    let slot : ScoreSlot = record { current = z; staged = z } in
+    one_put staged_score c.args.members.now.entries c.insert.new.self.entries key.items slot (updates_bytes key.items c.args.members.now c.insert.new.self (Some slot) c.in_ok-insert.ensures.updates)
+    ∙ ap (λ k. map.insert (members_by staged_score c.args.members.now.entries) k z) c.in_ok-key.ensures.items
+    ∙ ap (λ s. map.insert (members_by staged_score c.args.members.now.entries) c.args.member.now s) (to_z-of_z c.ranges.score)
+
+pub returns-clause-grows : goal.returns-clause-grows
+returns-clause-grows g c =
+    let old = c.args.members.now.entries in
+    let key = c.in_ok-key.key in
+    let z : ℤ = to_z w64 (of_z w64 c.args.score) in
+    let slot : ScoreSlot = record { current = z; staged = z } in
+    let absent = ap (slot_at old) c.in_ok-key.ensures.items ∙ c.requires.absent in
+    subst (Grows old) (sym (c.in_ok-insert.ensures.entries ∙ insert_entry-new same_bytes c.args.members.now key slot absent)) (Grows-push old (key, slot))
+
+pub returns-clause-waiting : goal.returns-clause-waiting
+returns-clause-waiting g c places w =
+    let old = c.args.members.now.entries in
+    let key = c.in_ok-key.key in
+    let z : ℤ = to_z w64 (of_z w64 c.args.score) in
+    let slot : ScoreSlot = record { current = z; staged = z } in
+    let absent = ap (slot_at old) c.in_ok-key.ensures.items ∙ c.requires.absent in
+    subst (IsWaiting places) (sym (c.in_ok-insert.ensures.entries ∙ insert_entry-new same_bytes c.args.members.now key slot absent)) (IsWaiting-push places old (key, slot) refl w)

@@ -1,0 +1,39 @@
+-- The rows by which one set becomes another.
+use Rattle.std.specs.Prelude.{◌≡◌, ◌≤◌, ◌+◌, ℕ, List, length, count_by}
+use Rattle.crack_kernel.specs.RowBag.{Test}
+use Rattle.ripple_column.specs.Content.{ColumnState, content_count}
+use Rattle.zset_core.specs.SortedSet.{Members, Pair, pairs}
+use Rattle.zset_core.specs.declared.set.row_edits.Edits.{Edits}
+
+-- the pairs of the old set, with those that come and without those that leave, are the pairs of the new one, as bags
+abbrev pub Turns : (old new : Members) (coming leaving : List Pair) → Type 0
+Turns old new coming leaving = (p : Test) → count_by p (pairs new) + count_by p leaving ≡ count_by p (pairs old) + count_by p coming
+
+-- as one set becomes another, the edits that were noted become those with at most this number more of each kind
+pub record Notes {A : Type 0} (most : ℕ) (old new : Members) (before after : Edits A) : Type 0 where
+  pub bags : (p : Test) → count_by p (pairs new) + count_by p after.leaving.items + count_by p before.coming.items
+      ≡ count_by p (pairs old) + count_by p after.coming.items + count_by p before.leaving.items
+  pub coming : length after.coming.items ≤ length before.coming.items + most
+  pub leaving : length after.leaving.items ≤ length before.leaving.items + most
+
+-- at most this number of edits of each kind
+pub record HasAtMost {A : Type 0} (most : ℕ) (edits : Edits A) : Type 0 where
+  pub coming : length edits.coming.items ≤ most
+  pub leaving : length edits.leaving.items ≤ most
+
+-- no command makes more edits of one kind than a request has words
+abbrev pub most_edits : ℕ
+most_edits = 1027
+
+pub record IsFew {A : Type 0} (edits : Edits A) : Type 0 where
+  pub coming : length edits.coming.items ≤ most_edits
+  pub leaving : length edits.leaving.items ≤ most_edits
+
+-- the pending lists of a column have room for the edits
+pub record HasRoom {A : Type 0} (c : ColumnState) (edits : Edits A) : Type 0 where
+  pub coming : length edits.coming.items ≤ c.insert_spare
+  pub leaving : length edits.leaving.items ≤ c.delete_spare
+
+-- the content of a column, with the rows that come and without those that leave, is the bag of a set's pairs
+abbrev pub TurnsInto : {A : Type 0} → ColumnState → Members → Edits A → Type 0
+TurnsInto c new edits = (p : Test) → count_by p (pairs new) + count_by p edits.leaving.items ≡ content_count p c + count_by p edits.coming.items

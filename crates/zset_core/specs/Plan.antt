@@ -1,0 +1,29 @@
+-- What a set has prepared, and what callers see of it.
+use Rattle.std.specs.Prelude.{◌≡◌, List, length, Option, None, Some}
+use Rattle.resp_wire.specs.Response.{Response, response_of}
+use Rattle.zset_core.specs.SortedSet.{Members}
+use Rattle.zset_core.specs.Semantics.{remove_all}
+use Rattle.zset_core.specs.StagedEntries.{Entry, current_score, staged_score, members_by, IsWaiting, Grows, bytes_of}
+use Rattle.zset_core.specs.ChangeOutline.{IsOutline}
+use Rattle.zset_core.specs.Edits.{Turns, IsFew}
+use Rattle.zset_core.specs.declared.set.plan.Plan.{Plan}
+
+-- the set that a commit leaves
+abbrev pub left_by : {A : Type 0} → List (Entry A) → Plan A → Members
+left_by entries plan = remove_all (members_by staged_score entries) (bytes_of plan.removed.items)
+
+-- from the old entries a plan was made whose commit leaves a set and gives a reply
+pub record Prepares {A : Type 0} (old new : List (Entry A)) (plan : Plan A) (members : Members) (reply : Response) : Type 0 where
+  pub kept : plan.draft.kept ≡ length old
+  pub grows : Grows old new
+  pub waiting : IsWaiting plan.draft.touched.items new
+  pub members_are : left_by new plan ≡ members
+  pub reply_is : response_of plan.reply ≡ reply
+  pub edits_are : Turns (members_by current_score old) members plan.draft.edits.coming.items plan.draft.edits.leaving.items
+  pub few_edits : IsFew plan.draft.edits
+  pub outline_is : IsOutline plan.outline (members_by current_score old) members
+
+-- the same of what a command makes of a set; no plan is made where it is refused
+abbrev pub Plans : {A : Type 0} → List (Entry A) → List (Entry A) → Plan A → Option (Members × Response) → Type 0
+Plans old new plan None = ⊥
+Plans old new plan (Some done) = Prepares old new plan done.0 done.1

@@ -1,0 +1,16 @@
+-- The members that a ZREM takes out, each once.
+use Rattle.std.specs.Prelude.{◌≡◌, ℕ, ◌+◌, List, length, slice_get, Some}
+use Rattle.std.specs.List.{list_any}
+use Rattle.std.specs.Ordering.{nat_cmp}
+use Rattle.std.specs.Str.{bytes_eq}
+use Rattle.std.specs.BTreeSet.{BTreeSet, contains}
+use Rattle.std.specs.FinMap as fin
+use Rattle.std.specs.declared.vec.Vec.{Vec}
+use Rattle.zset_core.specs.Semantics.{remove_all}
+use Rattle.zset_core.specs.StagedEntries.{Entry, current_score, members_by, slots, bytes_of}
+use Rattle.zset_core.specs.declared.set.member_map.ScoreSlot.{ScoreSlot}
+
+-- the places are those of the members found, each of which is one member less
+pub record AreFound {A : Type 0} (entries : List (Entry A)) (places : BTreeSet ℕ) (members : List (Vec ℕ A)) : Type 0 where
+  pub same : (place : ℕ) (q : List ℕ) (slot : ScoreSlot) → slice_get (slots entries) place ≡ Some (q, slot) → contains nat_cmp places place ≡ list_any (bytes_eq q) (bytes_of members)
+  pub count : length members + fin.len (remove_all (members_by current_score entries) (bytes_of members)) ≡ fin.len (members_by current_score entries)

@@ -1,0 +1,114 @@
+-- What a command makes of a sorted set, and its reply.
+use Rattle.std.specs.Prelude.{ℕ, ◌+◌, ◌-◌, Bool, true, false, if◌then◌else◌, ℤ, pos, negsuc, ◌+ℤ◌, List, [], ◌∷◌, map, length, take, drop, codes, Option, None, Some, option_map}
+use Rattle.std.specs.List.{flat_map}
+use Rattle.std.specs.Ordering.{int_eq}
+use Rattle.std.specs.FinMap as map_of
+use Rattle.resp_wire.specs.Response.{Response, Integer, BulkString, NullBulk, Array, SimpleString}
+use Rattle.score_bounds.specs.Bounds.{is_in}
+use Rattle.score_bounds.specs.Scores.{is_score, score_text}
+use Rattle.zset_core.specs.SortedSet.{Members, Pair, listing}
+use Rattle.zset_core.specs.CommandMeaning.{Meaning, Ping, Add, Increase, Remove, Score, Card, Count, ListRange}
+use Rattle.zset_core.specs.declared.set.pair_outcome.Flags.{Flags}
+use Rattle.zset_core.specs.declared.set.pair_outcome.Outcome.{Outcome}
+use Rattle.zset_core.specs.declared.set.pair_outcome.Outcome.TheVariants.{Stopped, Added, Changed, Same}
+use Rattle.zset_core.specs.declared.command.limit.Limit.{Limit}
+
+-- what a pair of ZADD comes to, by the score that its member has
+abbrev pub outcome_of : Flags → Option ℤ → ℤ → Outcome
+outcome_of flags None score = if flags.xx then Stopped else Added
+outcome_of flags (Some old) score = if flags.nx then Stopped else if int_eq score old then Same else Changed
+
+-- whether it is written
+abbrev pub writes : Outcome → Bool
+writes Stopped = false
+writes Added = true
+writes Changed = true
+writes Same = false
+
+-- the set after one pair
+abbrev pub put_one : Flags → Members → List ℕ → ℤ → Members
+put_one flags members member score =
+    if writes (outcome_of flags (map_of.get members member) score) then map_of.insert members member score else members
+
+-- the set after each pair in turn
+abbrev pub put_all : Flags → Members → List Pair → Members
+put_all flags members [] = members
+put_all flags members (p ∷ ps) = put_all flags (put_one flags members p.1 p.0) ps
+
+-- what a pair counts in the reply: those added, with CH also those whose score was changed
+abbrev pub counted : Bool → Outcome → ℕ
+counted changed Stopped = 0
+counted changed Added = 1
+counted changed Changed = if changed then 1 else 0
+counted changed Same = 0
+
+abbrev pub count_all : Flags → Bool → Members → List Pair → ℕ
+count_all flags changed members [] = 0
+count_all flags changed members (p ∷ ps) =
+    counted changed (outcome_of flags (map_of.get members p.1) p.0) + count_all flags changed (put_one flags members p.1 p.0) ps
+
+-- with INCR, NX stops the pair of a member that is there, and XX that of one that is not, before the sum is formed
+abbrev pub is_barred : Flags → Option ℤ → Bool
+is_barred flags None = flags.xx
+is_barred flags (Some old) = flags.nx
+
+-- the score that INCR gives a member, or none where the sum is no score
+abbrev pub sum_of : Option ℤ → ℤ → Option ℤ
+sum_of None given = Some given
+sum_of (Some old) given = if is_score (old +ℤ given) then Some (old +ℤ given) else None
+
+-- the reply to INCR
+abbrev pub increase_reply : Outcome → ℤ → Response
+increase_reply Stopped score = NullBulk
+increase_reply Added score = BulkString (score_text score)
+increase_reply Changed score = BulkString (score_text score)
+increase_reply Same score = BulkString (score_text score)
+
+abbrev pub increase : Flags → Members → List ℕ → ℤ → Option (Members × Response)
+increase flags members member given =
+    let old = map_of.get members member in
+    if is_barred flags old then Some (members, NullBulk)
+    else option_map (λ score. (put_one flags members member score, increase_reply (outcome_of flags old score) score)) (sum_of old given)
+
+-- the set without some members
+abbrev pub remove_all : Members → List (List ℕ) → Members
+remove_all members [] = members
+remove_all members (name ∷ names) = remove_all (map_of.remove members name) names
+
+-- the reply that tells a score, or that there is none
+abbrev pub score_reply : Option ℤ → Response
+score_reply None = NullBulk
+score_reply (Some score) = BulkString (score_text score)
+
+-- LIMIT: pairs from an offset on, none where it is negative
+abbrev pub from_offset : ℤ → List Pair → List Pair
+from_offset (pos n) ps = drop n ps
+from_offset (negsuc n) ps = []
+
+-- and as many of them as the count says, all where it is negative
+abbrev pub at_most : ℤ → List Pair → List Pair
+at_most (pos n) ps = take n ps
+at_most (negsuc n) ps = ps
+
+abbrev pub apply_limit : Option Limit → List Pair → List Pair
+apply_limit None ps = ps
+apply_limit (Some limit) ps = at_most limit.count (from_offset limit.offset ps)
+
+-- the elements of the reply: members, with WITHSCORES each followed by its score
+abbrev pub elements : Bool → List Pair → List (List ℕ)
+elements false ps = map (λ p. p.1) ps
+elements true ps = flat_map (λ p. p.1 ∷ score_text p.0 ∷ []) ps
+
+-- what a command leaves of the set that it asks for, and its reply; none where a sum of INCR is no score
+abbrev pub step : Members → Meaning → Option (Members × Response)
+step members (Ping None) = Some (members, SimpleString (codes "PONG"))
+step members (Ping (Some text)) = Some (members, BulkString text)
+step members (Add key flags changed pairs) = Some (put_all flags members pairs, Integer (pos (count_all flags changed members pairs)))
+step members (Increase key flags given member) = increase flags members member given
+step members (Remove key names) =
+    Some (remove_all members names, Integer (pos (map_of.len members - map_of.len (remove_all members names))))
+step members (Score key member) = Some (members, score_reply (map_of.get members member))
+step members (Card key) = Some (members, Integer (pos (map_of.len members)))
+step members (Count key range) = Some (members, Integer (pos (length (listing (is_in range) members))))
+step members (ListRange key range with_scores limit) =
+    Some (members, Array (elements with_scores (apply_limit limit (listing (is_in range) members))))

@@ -1,0 +1,165 @@
+//! Reading the arguments of ZADD.
+
+ghost use Rattle.std.specs.Prelude.{◌≡◌, ◌≢◌, ◌+◌, ◌*◌, ◌%◌, ◌<◌, ◌≤◌, true, false, ℕ, List, [], ◌∷◌, ◌++◌, length, codes, OnOk, IfOk, IfErr};
+ghost use Rattle.std.specs.List.{take_while};
+ghost use Rattle.zset_core.specs.CommandGrammar.{most_arguments, add_options, add_pairs, asked_flags, has_option, is_add_option, command_conditions, command_meaning, pairs_value};
+ghost use Rattle.zset_core.specs.Parsing.{AreAddParts, AreScores, IsReading, given_value};
+ghost use Rattle.zset_core.specs.declared.command.name.CommandName.TheVariants as names;
+ghost use Rattle.zset_core.specs.declared.refusal.Refusal.TheVariants as refusals;
+
+use crate::command::name::is_named;
+use crate::command::parse::{argument, behind};
+use crate::command::parsed::Form;
+use crate::refusal::Refusal;
+use crate::set::pair_outcome::Flags;
+use resp_wire::Bytes;
+use score_bounds::read_score;
+use std::alloc::{AllocError, Allocator};
+
+/// Reads ZADD: the options behind the key, and the pairs behind them.
+pub fn read_add<A: Allocator + Copy>(alloc: A, words: &[Bytes<A>]) -> Result<Form<A>, Refusal>
+    requires enough { 4 ≤ length words.now }
+    requires few { length words.now ≤ most_arguments }
+    ensures { IsReading words.now (command_conditions names.Add words.now)
+        (command_meaning names.Add words.now) result }
+{
+    let (options, pairs) = behind_key(words);
+    if pairs.is_empty() || pairs.len() % 2 != 0 {
+        return Err(Refusal::Syntax);
+    }
+    let flags = read_flags(options);
+    if flags.nx && flags.xx {
+        return Err(Refusal::NxAndXx);
+    }
+    if has_option(options, b"INCR") {
+        read_increase(options, pairs, flags)
+    } else {
+        read_pairs(alloc, options, pairs, flags)
+    }
+}
+
+// Reads ZADD with INCR, once its options and pairs are told apart.
+fn read_increase<A: Allocator>(
+    options: &[Bytes<A>],
+    pairs: &[Bytes<A>],
+    flags: Flags,
+) -> Result<Form<A>, Refusal>
+    requires few { length options.now ≤ most_arguments }
+    requires parts { AreAddParts options.now pairs.now flags }
+    requires increases { has_option (codes "INCR") options.now ≡ true }
+    ensures { (words : List (List ℕ)) → options.now ≡ add_options words → pairs.now
+        ≡ add_pairs words → IsReading words (command_conditions names.Add words)
+        (command_meaning names.Add words) result }
+{
+    let given = read_given(pairs)?;
+    Ok(Form::Increase {
+        flags,
+        given,
+        member: 2 + options.len() + 1,
+    })
+}
+
+// Reads ZADD without INCR, once its options and pairs are told apart.
+fn read_pairs<A: Allocator + Copy>(
+    alloc: A,
+    options: &[Bytes<A>],
+    pairs: &[Bytes<A>],
+    flags: Flags,
+) -> Result<Form<A>, Refusal>
+    requires few { length options.now ≤ most_arguments }
+    requires parts { AreAddParts options.now pairs.now flags }
+    requires puts { has_option (codes "INCR") options.now ≡ false }
+    ensures { (words : List (List ℕ)) → options.now ≡ add_options words → pairs.now
+        ≡ add_pairs words → IsReading words (command_conditions names.Add words)
+        (command_meaning names.Add words) result }
+{
+    let scores = read_scores(alloc, pairs)?;
+    Ok(Form::Add {
+        flags,
+        changed: has_option(options, b"CH"),
+        first: 2 + options.len(),
+        scores,
+    })
+}
+
+fn read_flags<A: Allocator>(options: &[Bytes<A>]) -> Flags
+    ensures { result ≡ asked_flags options.now }
+{
+    Flags {
+        nx: has_option(options, b"NX"),
+        xx: has_option(options, b"XX"),
+    }
+}
+
+// The options behind the key, and the arguments behind them.
+fn behind_key<A: Allocator>(words: &[Bytes<A>]) -> (&[Bytes<A>], &[Bytes<A>])
+    requires { 2 ≤ length words.now }
+    ensures options { result.0.now ≡ add_options words.now }
+    ensures pairs { result.1.now ≡ add_pairs words.now }
+    ensures counted { 2 + length result.0.now + length result.1.now ≡ length words.now }
+{
+    let rest = behind(words, 2);
+    rest.split_at(count_options(rest))
+}
+
+fn count_options<A: Allocator>(words: &[Bytes<A>]) -> usize
+    ensures { result ≡ length (take_while is_add_option words.now) }
+{
+    words
+        .iter()
+        .take_while(|word| is_add_option(word.as_slice()))
+        .count()
+}
+
+fn is_add_option(word: &[u8]) -> bool
+    ensures { result ≡ is_add_option word.now }
+{
+    is_named(b"NX", word)
+        || is_named(b"XX", word)
+        || is_named(b"CH", word)
+        || is_named(b"INCR", word)
+}
+
+fn has_option<A: Allocator>(options: &[Bytes<A>], name: &[u8]) -> bool
+    ensures { result ≡ has_option name.now options.now }
+{
+    options
+        .iter()
+        .any(|option| is_named(name, option.as_slice()))
+}
+
+// The score of INCR's one pair.
+#[tactic(auto, unfolding(crate::specs::Parsing::given_value))]
+fn read_given<A: Allocator>(pairs: &[Bytes<A>]) -> Result<i64, Refusal>
+    ensures { result ≡ given_value pairs.now }
+{
+    if pairs.len() != 2 {
+        return Err(Refusal::IncrPair);
+    }
+    read_score(argument(pairs, 0)).ok_or(Refusal::BadScore)
+}
+
+fn read_scores<A: Allocator + Copy>(alloc: A, pairs: &[Bytes<A>]) -> Result<Vec<i64, A>, Refusal>
+    requires { length pairs.now % 2 ≡ 0 }
+    ensures ok { IfOk result (λ scores. AreScores pairs.now scores.items) }
+    ensures err { IfErr result (λ refusal. refusal ≢ refusals.NoMemory
+        → (refusal ≡ refusals.BadScore) × (pairs_value pairs.now ≡ None)) }
+{
+    let mut scores = Vec::with_capacity(alloc, pairs.len() / 2)?;
+    let mut rest = pairs;
+    while !rest.is_empty() {
+        let Some(score) = read_score(argument(rest, 0)) else {
+            return Err(Refusal::BadScore);
+        };
+        push_score(&mut scores, score)?;
+        rest = behind(rest, 2);
+    }
+    Ok(scores)
+}
+
+fn push_score<A: Allocator>(scores: &mut Vec<i64, A>, score: i64) -> Result<(), AllocError>
+    ensures { OnOk result (scores.new.items ≡ scores.old.items ++ score ∷ []) }
+{
+    scores.push(score)?;
+    Ok(())
+}

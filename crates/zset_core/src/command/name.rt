@@ -1,0 +1,71 @@
+//! The names of the commands.
+
+ghost use Rattle.std.specs.Prelude.{◌≡◌};
+ghost use Rattle.zset_core.specs.CommandGrammar.{command_named, has_arity, is_named};
+
+/// A command by its name (Redis command pages).
+#[derive(Clone, Copy, Debug, PartialEq, Eq)]
+pub enum CommandName {
+    /// PING
+    Ping,
+    /// ZADD
+    Add,
+    /// ZREM
+    Remove,
+    /// ZSCORE
+    Score,
+    /// ZCARD
+    Card,
+    /// ZCOUNT
+    Count,
+    /// ZRANGEBYSCORE
+    ListRange,
+}
+
+impl CommandName {
+    /// The command that an argument names, letters in either case.
+    #[tactic(auto, unfolding(crate::specs::CommandGrammar::command_named))]
+    pub fn read(word: &[u8]) -> Option<Self>
+        ensures { result ≡ command_named word.now }
+    {
+        if is_named(b"PING", word) {
+            Some(CommandName::Ping)
+        } else if is_named(b"ZADD", word) {
+            Some(CommandName::Add)
+        } else if is_named(b"ZREM", word) {
+            Some(CommandName::Remove)
+        } else if is_named(b"ZSCORE", word) {
+            Some(CommandName::Score)
+        } else if is_named(b"ZCARD", word) {
+            Some(CommandName::Card)
+        } else if is_named(b"ZCOUNT", word) {
+            Some(CommandName::Count)
+        } else if is_named(b"ZRANGEBYSCORE", word) {
+            Some(CommandName::ListRange)
+        } else {
+            None
+        }
+    }
+
+    /// Whether the command takes this number of arguments, its name included.
+    pub fn takes(self, count: usize) -> bool
+        ensures { result ≡ has_arity self count }
+    {
+        match self {
+            CommandName::Ping => count == 1 || count == 2,
+            CommandName::Add => 4 <= count,
+            CommandName::Remove => 3 <= count,
+            CommandName::Score => count == 3,
+            CommandName::Card => count == 2,
+            CommandName::Count => count == 4,
+            CommandName::ListRange => 4 <= count,
+        }
+    }
+}
+
+/// Whether an argument is this name, letters in either case.
+pub fn is_named(name: &[u8], word: &[u8]) -> bool
+    ensures { result ≡ is_named name.now word.now }
+{
+    word.eq_ignore_ascii_case(name)
+}

@@ -1,0 +1,96 @@
+//! A command run on the set of its key.
+ghost use Rattle.std.specs.Prelude.{◌≡◌, None, Some, IfOk, IfErr, OnErr, IsSome};
+ghost use Rattle.resp_wire.specs.Response.{response_of};
+ghost use Rattle.zset_core.specs.CommandMeaning.{key_of};
+ghost use Rattle.zset_core.specs.OwnerInvariant.{world_of, set_in, AllRest};
+ghost use Rattle.zset_core.specs.Refusal.{IsRefused};
+ghost use Rattle.zset_core.specs.Semantics.{step};
+ghost use Rattle.zset_core.specs.World.{act_at};
+
+use crate::command::Command;
+use crate::owner::tree::{SetTree, insert_set};
+use crate::refusal::Refusal;
+use crate::set::ZSet;
+use resp_wire::Reply;
+use std::alloc::Allocator;
+use std::hash::BuildHasher;
+
+/// Runs a command on the set of its key.
+fn run_set<H: BuildHasher, A: Allocator + Copy>(
+    set: &mut ZSet<H, A>,
+    command: &Command<A>,
+) -> Result<Reply<A>, Refusal>
+    requires idle { set.old.next ≡ None }
+    requires keyed { IsSome (key_of command.now.meaning) }
+    ensures ok { IfOk result (λ reply. step set.old.members command.now.meaning
+        ≡ Some (set.new.members, response_of reply)) }
+    ensures err { OnErr result (set.new.members ≡ set.old.members) }
+    ensures refused { IfErr result
+        (λ refusal. IsRefused refusal (step set.old.members command.now.meaning)) }
+    ensures idle { set.new.next ≡ None }
+{
+    if command.writes() {
+        set.prepare(command)?;
+        Ok(set.commit())
+    } else {
+        Ok(set.answer(command)?)
+    }
+}
+
+/// Runs a command on the key of a missing set, which is put in if it is not empty then.
+fn run_absent<H: BuildHasher + Clone + Drop, A: Allocator + Copy>(
+    alloc: A,
+    hasher: &H,
+    sets: &mut SetTree<H, A>,
+    key: &[u8],
+    command: &Command<A>,
+) -> Result<Reply<A>, Refusal>
+    requires keyed { key_of command.now.meaning ≡ Some key.now }
+    requires absent { set_in sets.old.entries key.now ≡ None }
+    requires rest { AllRest sets.old.entries }
+    ensures ok { IfOk result (λ reply. act_at (world_of sets.old.entries) (Some key.now)
+        command.now.meaning ≡ Some (world_of sets.new.entries, response_of reply)) }
+    ensures err { OnErr result (world_of sets.new.entries ≡ world_of sets.old.entries) }
+    ensures refused { IfErr result
+        (λ refusal. IsRefused refusal
+        (act_at (world_of sets.old.entries) (Some key.now) command.now.meaning)) }
+    ensures rest { AllRest sets.new.entries }
+{
+    let mut set = ZSet::with_hasher(alloc, hasher.clone()?);
+    let reply = run_set(&mut set, command)?;
+    if set.card() == 0 {
+        return Ok(reply);
+    }
+    insert_set(alloc, sets, key, set)?;
+    Ok(reply)
+}
+
+/// Runs a command on the set of its key.
+pub fn run_at<H: BuildHasher + Clone + Drop, A: Allocator + Copy>(
+    alloc: A,
+    hasher: &H,
+    sets: &mut SetTree<H, A>,
+    key: &[u8],
+    command: &Command<A>,
+) -> Result<Reply<A>, Refusal>
+    requires keyed { key_of command.now.meaning ≡ Some key.now }
+    requires rest { AllRest sets.old.entries }
+    ensures ok { IfOk result (λ reply. act_at (world_of sets.old.entries) (Some key.now)
+        command.now.meaning ≡ Some (world_of sets.new.entries, response_of reply)) }
+    ensures err { OnErr result (world_of sets.new.entries ≡ world_of sets.old.entries) }
+    ensures refused { IfErr result
+        (λ refusal. IsRefused refusal
+        (act_at (world_of sets.old.entries) (Some key.now) command.now.meaning)) }
+    ensures rest { AllRest sets.new.entries }
+{
+    match sets.get_mut(key) {
+        None => run_absent(alloc, hasher, sets, key, command),
+        Some(set) => {
+            let ran = run_set(set, command);
+            if set.card() == 0 {
+                sets.remove(key);
+            }
+            ran
+        }
+    }
+}

@@ -1,0 +1,26 @@
+//! The tree of an owner's sets.
+ghost use Rattle.std.specs.Prelude.{◌≡◌, Some, OnOk, OnErr};
+ghost use Rattle.zset_core.specs.OwnerInvariant.{IsAfter};
+
+use crate::set::ZSet;
+use std::alloc::{AllocError, Allocator};
+use std::collections::BTreeMap;
+use std::hash::BuildHasher;
+
+/// Sets by key, in the byte order of their keys.
+pub type SetTree<H, A> = BTreeMap<Vec<u8, A>, ZSet<H, A>, A>;
+
+/// Puts a set in at a key.
+pub fn insert_set<H: BuildHasher + Drop, A: Allocator + Copy>(
+    alloc: A,
+    sets: &mut SetTree<H, A>,
+    key: &[u8],
+    set: ZSet<H, A>,
+) -> Result<(), AllocError>
+    ensures put { OnOk result (IsAfter sets.old.entries key.now (Some set) sets.new.entries) }
+    ensures err { OnErr result (sets.new.entries ≡ sets.old.entries) }
+{
+    let name = Vec::from_slice(alloc, key)?;
+    sets.insert(name, set)?;
+    Ok(())
+}

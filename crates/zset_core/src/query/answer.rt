@@ -1,0 +1,134 @@
+//! Commands that read a set.
+ghost use Rattle.std.specs.Prelude.{◌≡◌, ◌≤◌, ◌↔◌, ◌⊎◌, ℤ, pos, Bool, Some, None, false, length, filter, slice_get, slice_range, IfOk, IfSome, IsSome, OnErr, OnOk};
+ghost use Rattle.crack_kernel.specs.RowBag.{SameBag};
+ghost use Rattle.resp_wire.specs.Response.{Array, Integer, response_of};
+ghost use Rattle.ripple_column.specs.Content.{Holds, IsUnchanged, SameContent};
+ghost use Rattle.zset_core.specs.CommandMeaning.{is_writing, key_of};
+ghost use Rattle.zset_core.specs.ColumnEffects.{Reads};
+ghost use Rattle.zset_core.specs.ReadOnlyAnswer.{IsReadyFor};
+ghost use Rattle.zset_core.specs.SortedSet.{Members, listing, pairs};
+ghost use Rattle.zset_core.specs.Semantics.{elements, apply_limit, step};
+ghost use Rattle.zset_core.specs.StagedEntries.{current_score, members_by, IsSettled, same_bytes};
+
+use crate::command::Command;
+use crate::command::limit::Limit;
+use crate::command::parsed::Form;
+use crate::query::listing::elements_of;
+use crate::query::window::{piece_end, piece_start, ranks_of, shown_rows, window_of};
+use crate::replies::{count_reply, score_reply};
+use crate::set::member_map::{MemberMap, card_of, score_of};
+use resp_wire::Reply;
+use ripple_column::Column;
+use std::alloc::{AllocError, Allocator};
+use std::hash::BuildHasher;
+
+/// The reply to a command that reads the set of its key.
+pub fn answer_from<H: BuildHasher, A: Allocator + Copy>(
+    alloc: A,
+    members: &MemberMap<H, A>,
+    column: &mut Column<A>,
+    command: &Command<A>,
+) -> Result<Reply<A>, AllocError>
+    requires reading { is_writing command.now.meaning ≡ false }
+    requires keyed { IsSome (key_of command.now.meaning) }
+    requires content { Holds column.old (pairs (members_by current_score members.now.entries)) }
+    ensures content { SameContent column.old column.new }
+    ensures ready { OnOk result (IsReadyFor column.new command.now.meaning) }
+    ensures column { OnOk result (Reads command.now.meaning column.old column.new) }
+    ensures refused { OnErr result (IsUnchanged column.old column.new
+        ⊎ Reads command.now.meaning column.old column.new) }
+    ensures reply { IfOk result (λ reply. step (members_by current_score members.now.entries)
+        command.now.meaning ≡ Some (members_by current_score members.now.entries, response_of reply)) }
+{
+    let words = command.request().words();
+    match command.form() {
+        Form::Score => score_reply(alloc, score_of(members, words[2].as_slice())),
+        Form::Card => Ok(count_reply(card_of(members))),
+        Form::Count { range } => {
+            let rows = column.select(range)?;
+            Ok(count_rows(column, rows))
+        }
+        Form::ListRange {
+            range,
+            with_scores,
+            limit,
+        } => {
+            let rows = column.select(range)?;
+            list_rows(alloc, column, rows, limit, *with_scores)
+        }
+        _ => unreachable!(),
+    }
+}
+
+/// The reply to a command that reads the set of its key, where the column need not change for it.
+pub fn ready_from<H: BuildHasher, A: Allocator + Copy>(
+    alloc: A,
+    members: &MemberMap<H, A>,
+    column: &Column<A>,
+    command: &Command<A>,
+) -> Option<Result<Reply<A>, AllocError>>
+    requires content { Holds column.now (pairs (members_by current_score members.now.entries)) }
+    ensures reply { IfSome result
+        (λ answer. IfOk answer (λ reply. step (members_by current_score members.now.entries)
+        command.now.meaning ≡ Some (members_by current_score members.now.entries, response_of reply))) }
+    ensures exact { IsSome result ↔ IsReadyFor column.now command.now.meaning }
+{
+    let words = command.request().words();
+    match command.form() {
+        Form::Score => Some(score_reply(alloc, score_of(members, words[2].as_slice()))),
+        Form::Card => Some(Ok(count_reply(card_of(members)))),
+        Form::Count { range } => {
+            let rows = column.ready(range)?;
+            Some(Ok(count_rows(column, rows)))
+        }
+        Form::ListRange {
+            range,
+            with_scores,
+            limit,
+        } => {
+            let rows = column.ready(range)?;
+            Some(list_rows(alloc, column, rows, limit, *with_scores))
+        }
+        _ => None,
+    }
+}
+
+/// The reply to ZCOUNT from the places of its range's rows: the first, and the one behind the last.
+fn count_rows<A: Allocator + Copy>(column: &Column<A>, rows: (usize, usize)) -> Reply<A>
+    requires order { rows.0 ≤ rows.1 }
+    requires within { rows.1 ≤ length column.now.rows }
+    ensures { (test : ℤ → Bool) (members : Members)
+        → SameBag (slice_range column.now.rows rows.0 rows.1) (filter (λ p. test p.0) (pairs members))
+        → response_of result ≡ Integer (pos (length (listing test members))) }
+{
+    count_reply(column.rows(rows.0, rows.1).len())
+}
+
+/// The reply to ZRANGEBYSCORE from the places of its range's rows: the first, and the one behind
+/// the last. Only the pieces that the limit's window touches are looked into.
+fn list_rows<A: Allocator + Copy>(
+    alloc: A,
+    column: &Column<A>,
+    rows: (usize, usize),
+    limit: &Option<Limit>,
+    with_scores: bool,
+) -> Result<Reply<A>, AllocError>
+    requires order { rows.0 ≤ rows.1 }
+    requires within { rows.1 ≤ length column.now.rows }
+    ensures { IfOk result (λ reply. (test : ℤ → Bool) (members : Members)
+        → SameBag (slice_range column.now.rows rows.0 rows.1) (filter (λ p. test p.0) (pairs members))
+        → response_of reply ≡ Array (elements with_scores (apply_limit limit.now (listing test
+        members)))) }
+{
+    let (from, to) = rows;
+    let (start, end) = ranks_of(limit, to - from);
+    if start == end {
+        return Ok(Reply::List(elements_of(alloc, &[], with_scores)?));
+    }
+    let pivots = column.pivot_list();
+    let low = piece_start(pivots, from, from + start);
+    let high = piece_end(pivots, to, from + end);
+    let mut shown = shown_rows(alloc, column.rows(low, high))?;
+    let window = window_of(&mut shown, from + start - low, from + end - low);
+    Ok(Reply::List(elements_of(alloc, window, with_scores)?))
+}

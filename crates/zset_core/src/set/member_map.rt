@@ -1,0 +1,59 @@
+//! The members of one set, and the scores of each.
+ghost use Rattle.std.specs.Prelude.{◌≡◌, ◌<◌, ◌^◌, Some, slice_get, option_map, IfSome};
+ghost use Rattle.std.specs.FinMap as map;
+ghost use Rattle.indexmap.specs.IndexMap.{IsUnique};
+ghost use Rattle.zset_core.specs.StagedEntries.{current_score, staged_score, members_by, slot_at, slots, same_bytes};
+
+use indexmap::IndexMap;
+use std::alloc::Allocator;
+use std::hash::BuildHasher;
+
+/// The score of a member, and the one that it gets when what is prepared is committed.
+#[derive(Clone, Copy, Debug, PartialEq, Eq)]
+pub struct ScoreSlot {
+    pub current: i64,
+    pub staged: i64,
+}
+
+/// The members of a set by their bytes. Members that a prepared command adds stand last.
+pub type MemberMap<H, A> = IndexMap<Vec<u8, A>, ScoreSlot, H, A>;
+
+/// The place of a member among the entries, with its scores.
+pub fn find_slot<H: BuildHasher, A: Allocator + Copy>(
+    members: &MemberMap<H, A>,
+    member: &[u8],
+) -> Option<(usize, ScoreSlot)>
+    ensures slot { option_map (λ p. p.1) result ≡ slot_at members.now.entries member.now }
+    ensures score { option_map (λ p. p.1.staged) result
+        ≡ map.get (members_by staged_score members.now.entries) member.now }
+    ensures place { IfSome result
+        (λ p. slice_get (slots members.now.entries) p.0 ≡ Some (member.now, p.1)) }
+    ensures unique { IsUnique same_bytes members.now }
+{
+    let _count = members.len();
+    match members.get_full(member) {
+        None => None,
+        Some((place, _, slot)) => Some((place, *slot)),
+    }
+}
+
+/// The number of members.
+pub fn card_of<H: BuildHasher, A: Allocator + Copy>(members: &MemberMap<H, A>) -> usize
+    ensures card { result ≡ map.len (members_by current_score members.now.entries) }
+    ensures few { result < 2 ^ 63 }
+{
+    members.len()
+}
+
+/// The score of a member.
+pub fn score_of<H: BuildHasher, A: Allocator + Copy>(
+    members: &MemberMap<H, A>,
+    member: &[u8],
+) -> Option<i64>
+    ensures { result ≡ map.get (members_by current_score members.now.entries) member.now }
+{
+    match members.get(member) {
+        None => None,
+        Some(slot) => Some(slot.current),
+    }
+}

@@ -1,0 +1,84 @@
+//! What ZADD does with one score and its member.
+ghost use Rattle.std.specs.Prelude.{◌≡◌};
+ghost use Rattle.zset_core.specs.Semantics.{outcome_of, counted, is_barred, sum_of};
+
+/// The options of ZADD that stop pairs.
+#[derive(Clone, Copy, Debug, PartialEq, Eq)]
+pub struct Flags {
+    /// NX: members that are there stay as they are.
+    pub nx: bool,
+    /// XX: no member is added.
+    pub xx: bool,
+}
+
+impl Flags {
+    /// Whether a pair of ZADD with INCR is stopped, by the score that its member has.
+    pub fn bars(self, old: Option<i64>) -> bool
+        ensures { result ≡ is_barred self old }
+    {
+        match old {
+            None => self.xx,
+            Some(_) => self.nx,
+        }
+    }
+}
+
+/// The score that INCR gives a member. None where it is outside 64 bits.
+pub fn sum(old: Option<i64>, given: i64) -> Option<i64>
+    ensures { result ≡ sum_of old given }
+{
+    match old {
+        None => Some(given),
+        Some(old) => old.checked_add(given),
+    }
+}
+
+/// What became of a pair of ZADD.
+#[derive(Clone, Copy, Debug, PartialEq, Eq)]
+pub enum Outcome {
+    /// NX or XX stopped it.
+    Stopped,
+    /// The member was not there, and was added.
+    Added,
+    /// The member had another score.
+    Changed,
+    /// The member had this score already.
+    Same,
+}
+
+impl Outcome {
+    /// What becomes of a pair, by the score that its member has.
+    pub fn of(flags: Flags, old: Option<i64>, new: i64) -> Self
+        ensures { result ≡ outcome_of flags old new }
+    {
+        match old {
+            None => {
+                if flags.xx {
+                    Outcome::Stopped
+                } else {
+                    Outcome::Added
+                }
+            }
+            Some(old) => {
+                if flags.nx {
+                    Outcome::Stopped
+                } else if old == new {
+                    Outcome::Same
+                } else {
+                    Outcome::Changed
+                }
+            }
+        }
+    }
+
+    /// What the pair adds to the reply; `changed` is the option CH.
+    pub fn counted_in(self, changed: bool) -> u64
+        ensures { result ≡ counted changed self }
+    {
+        match self {
+            Outcome::Added => 1,
+            Outcome::Changed => u64::from(changed),
+            Outcome::Stopped | Outcome::Same => 0,
+        }
+    }
+}
