@@ -33,7 +33,7 @@ pub record Replays (start : World) (state : LoggedView) : Type 0 where
 abbrev pub Changes : World → Option (World × Response) → Type 0
 Changes world made = IsSomeAnd made (λ done. AreSame world done.0 → ⊥)
 
--- why a record is not appended, and what becomes of the log
+-- why a record is not appended, and what becomes of the log: it stays but for LogRefused, which breaks it
 abbrev pub NotAppended : Refusal → List ℕ → LogView → LogView → Type 0
 NotAppended NoMemory bytes old new = new ≡ old
 NotAppended LogBroken bytes old new = (new ≡ old) × (old.broken ≡ true)
@@ -42,8 +42,9 @@ NotAppended LogRefused bytes old new =
     Breaks old new bytes × Rose old.failures new.failures × (old.broken ≡ false) × (old.appended ≢ old.limit)
 NotAppended _ bytes old new = ⊥
 
--- why a command is not run that would make this of a world, and what becomes of the log: out of memory, since a sum
--- of INCR is no score, or, where it changes a set, since its record is not appended
+-- why a command is not run that would make this of a world, and what becomes of the log:
+-- out of memory, the log stays; so it does where the sum of INCR is no score and so nothing is made of the world;
+-- else the command would change a set, and its record is not appended
 abbrev pub NotRun : Refusal → World → Option (World × Response) → List ℕ → LogView → LogView → Type 0
 NotRun NoMemory world made bytes old new = new ≡ old
 NotRun ScoreOverflow world made bytes old new = (new ≡ old) × (made ≡ None)

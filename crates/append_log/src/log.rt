@@ -168,7 +168,8 @@ impl<S: LogSink, L: Ledger> Log<S, L> {
         self.appended
     }
 
-    /// Writes a record out whole, and syncs it. Takes no memory of its own.
+    /// Writes a record out whole, and syncs it; `share` counts it for its holder. Takes no memory of
+    /// its own.
     ///
     /// # Errors
     ///
@@ -197,7 +198,7 @@ impl<S: LogSink, L: Ledger> Log<S, L> {
         ensures no_other { IsErr result → IsErrOf result Refusal.LogBroken
             ⊎ IsErrOf result Refusal.LogFull ⊎ IsErrOf result Refusal.LogRefused }
         // Whichever records end the sink, they do so again, this one behind them where it was
-        // appended.
+        // appended; on Err they may have a prefix of it behind them.
         ensures records { (records : _) → HasRecords self.old records
             → HasRecords self.new (records_after records entry.now result) }
     {

@@ -155,6 +155,8 @@ impl<A: Allocator + Copy> Column<A> {
     /// column is unchanged.
     pub fn select(&mut self, range: &Range) -> Result<(usize, usize), AllocError>
         ensures content { SameContent self.old self.new }
+
+        // The cuts of the range are pivots at these places, or ends of the column, and nothing waits in it.
         ensures answer { IfOk result (λ answer. IsAnswer self.new range.now answer) }
         ensures rows { IfOk result (λ answer. HoldsRange self.new range.now answer) }
         ensures refused { OnErr result (IsUnchanged self.old self.new) }
@@ -165,7 +167,7 @@ impl<A: Allocator + Copy> Column<A> {
         ensures pivots { OnOk result (is_before (low_cut range.now) (high_cut range.now) ≡ true
             → AddsCuts range.now self.old.pivots self.new.pivots) }
 
-        // With nothing to merge and no pivot dropped, a row moves only within a piece that is cracked.
+        // With nothing to merge and no pivot dropped, rows outside the pieces in which a cut falls stand still.
         ensures still { OnOk result (pivots_with_cuts range.now self.old.pivots ≤ MAX_PIVOTS
             → NoneIn range.now self.old.insertions → NoneIn range.now self.old.deletions
             → StandsStill range.now self.old self.new) }

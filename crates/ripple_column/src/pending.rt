@@ -15,7 +15,8 @@ use std::marker::Model;
 /// The greatest number of rows in each of the two lists of rows that wait.
 pub const MAX_PENDING: usize = 2048;
 
-/// The greatest number of insertions, and of deletions, for which room is made at once.
+/// The greatest number of insertions, and of deletions, for which room is made at once: as many as a
+/// request has arguments.
 pub const MAX_RESERVED: usize = 1027;
 
 /// From how many rows on a list gets marks. Fewer rows are as quickly looked through.

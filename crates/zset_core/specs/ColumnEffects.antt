@@ -14,7 +14,8 @@ use Rattle.zset_core.specs.declared.set.pair_outcome.Flags.{Flags}
 abbrev pub most_pivots : ℕ
 most_pivots = 4096
 
--- whether a command changes members that it names: ZADD and ZREM
+-- whether a command changes members that it names: ZADD and ZREM. The same as writing today; a command that takes out a
+-- range will write without naming members
 abbrev pub changes_named : Meaning → Bool
 changes_named (Ping text) = false
 changes_named (Add key flags changed pairs) = true

@@ -9,7 +9,8 @@ use Rattle.zset_core.specs.CommandMeaning.{Meaning, Ping, Add, Increase, Remove,
 abbrev pub HasAnswer : ColumnState → Range → Type 0
 HasAnswer c range = (answer : ℕ × ℕ) × IsAnswer c range answer
 
--- a command that names no range and changes nothing always is, and one that names a range where the column has its answer
+-- a command that reads a member or counts all of them always is, one that names a range where the column has its answer;
+-- one that asks no set, or changes one, never
 abbrev pub IsReadyFor : ColumnState → Meaning → Type 0
 IsReadyFor c (Ping text) = ⊥
 IsReadyFor c (Add key flags changed pairs) = ⊥

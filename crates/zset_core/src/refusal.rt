@@ -23,7 +23,7 @@ pub enum Refusal {
     Syntax,
     /// NX and XX in one command.
     NxAndXx,
-    /// Two of GT, LT and NX in one command.
+    /// Two of GT, LT and NX in one command. No command has GT and LT yet.
     GtLtNx,
     /// INCR with another number of pairs than one.
     IncrPair,
@@ -33,9 +33,9 @@ pub enum Refusal {
     BadBound,
     /// An argument of LIMIT that is no integer.
     BadInteger,
-    /// Every place of the table bears another key's name.
+    /// Every place of the table of sets bears another key's name. There is no such table yet.
     TableFull,
-    /// The place has had all the runs that it is given.
+    /// The key's place in the table has had all the runs that it is given. Not told yet.
     Spent,
     /// An increased score would lie outside 64 bits.
     ScoreOverflow,
@@ -45,7 +45,7 @@ pub enum Refusal {
     LogFull,
     /// The append failed in this call.
     LogRefused,
-    /// A place and the pass that asks it do not belong together.
+    /// A place of the table and the pass that asks it do not belong together. Not told yet.
     OutOfStep,
 }
 

@@ -239,7 +239,7 @@ fn plan_for<H: BuildHasher, A: Allocator + Copy>(
 }
 
 /// Makes room in the column for the edits of a plan. Where it is refused the entries are what they
-/// were before it, and the column holds what it current_score.
+/// were before it, and the column holds what it held.
 fn make_room<H: BuildHasher, A: Allocator + Copy>(
     members: &mut MemberMap<H, A>,
     column: &mut Column<A>,
@@ -268,7 +268,7 @@ fn make_room<H: BuildHasher, A: Allocator + Copy>(
 }
 
 /// The plan of a command that changes sets, with room in the column for its edits. Where it is
-/// refused the entries are what they were, and the column holds what it current_score.
+/// refused the entries are what they were, and the column holds what it held.
 pub fn make_plan<H: BuildHasher, A: Allocator + Copy>(
     alloc: A,
     members: &mut MemberMap<H, A>,
