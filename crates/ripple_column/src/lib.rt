@@ -22,8 +22,3 @@ mod select;
 
 pub use column::Column;
 pub use pending::{MAX_PENDING, MAX_RESERVED};
-
-#[cfg(test)]
-mod merge_tests;
-#[cfg(test)]
-mod tests;

@@ -1,6 +1,6 @@
 use Rattle.std.proofs.Common.{sym}
 use Rattle.ripple_column.proofs.CallerLemmas.{HasRow-held, Holds-taken, Holds-same}
-use Rattle.set_tests.proofs.column_merges.take.Goals as goal
+use Rattle.column_tests.proofs.merges.take.Goals as goal
 
 pub delete-requires-clause-there : goal.delete-requires-clause-there
 delete-requires-clause-there c =

@@ -1,5 +1,5 @@
 use Rattle.std.proofs.Common.{◌≡◌, ℕ, Bool, pos, cond, [], ◌∷◌, ap, arith}
-use Rattle.set_tests.proofs.column_rows.a_row_moves_between_pieces.Goals as goal
+use Rattle.column_tests.proofs.columns.a_row_moves_between_pieces.Goals as goal
 
 pub take-requires : goal.take-requires
 take-requires g c p is =

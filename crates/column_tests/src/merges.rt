@@ -1,8 +1,8 @@
 ghost use Rattle.std.specs.Prelude.{◌≡◌, ◌<◌, length, IfOk, OnOk};
-ghost use Rattle.ripple_column.specs.Content.{Holds};
+ghost use Rattle.ripple_column.specs.Content.{Holds, SameContent};
 
-use super::*;
 use crack_kernel::Row;
+use ripple_column::Column;
 use score_bounds::{Bound, Range};
 use std::alloc::{AllocError, Global};
 use std::process::Abort;
@@ -144,47 +144,108 @@ fn expect_alike<R: Abort>(
     Ok(())
 }
 
+// A column, the rows that it holds, and the numbers that drive it.
+#[derive(Drop)]
+struct Driven {
+    column: Column<Global>,
+    held: Vec<Row<Global>>,
+    numbers: Numbers,
+}
+
+impl Driven {
+    fn new(alloc: Global, state: u64) -> Self
+        ensures { Holds result.column result.held.items }
+    {
+        Driven {
+            column: Column::new(alloc),
+            held: Vec::new(alloc),
+            numbers: Numbers { state },
+        }
+    }
+}
+
+// Changes a column, and selects a range where the numbers say: the range's lower end, and how many
+// rows it has.
+fn drive(
+    alloc: Global,
+    column: &mut Column<Global>,
+    held: &mut Vec<Row<Global>>,
+    numbers: &mut Numbers,
+    adds: u32,
+    often: bool,
+) -> Result<(i64, usize), AllocError>
+    requires { Holds column.old held.old.items }
+    ensures { OnOk result (Holds column.new held.new.items) }
+{
+    change(alloc, column, held, numbers, adds, often)?;
+    let low = numbers.score();
+    let range = Range {
+        min: Bound::Incl(low),
+        max: Bound::Excl(low.saturating_add(30)),
+    };
+    let (from, to) = column.select(&range)?;
+    Ok((low, to - from))
+}
+
+// Merges all that waits in both columns, which are then alike.
+fn merge_alike<R: Abort>(
+    rt: &R,
+    alloc: Global,
+    one: &mut Column<Global>,
+    other: &mut Column<Global>,
+) -> Result<(), AllocError>
+    ensures one { SameContent one.old one.new }
+    ensures other { SameContent other.old other.new }
+{
+    one.merge_all()?;
+    other.merge_all()?;
+    expect_alike(rt, alloc, one, other)
+}
+
+// The columns are driven once, by numbers of the same state, and their ranges are the same.
+fn drive_both<R: Abort>(
+    rt: &R,
+    alloc: Global,
+    one: &mut Driven,
+    other: &mut Driven,
+    adds: u32,
+) -> Result<(), AllocError>
+    requires one { Holds one.old.column one.old.held.items }
+    requires other { Holds other.old.column other.old.held.items }
+    ensures one { OnOk result (Holds one.new.column one.new.held.items) }
+    ensures other { OnOk result (Holds other.new.column other.new.held.items) }
+{
+    let at_once = drive(
+        alloc,
+        &mut one.column,
+        &mut one.held,
+        &mut one.numbers,
+        adds,
+        false,
+    )?;
+    let by_row = drive(
+        alloc,
+        &mut other.column,
+        &mut other.held,
+        &mut other.numbers,
+        adds,
+        true,
+    )?;
+    assert_eq!(rt; at_once, by_row);
+    Ok(())
+}
+
 // Random changes, merges and selects lead to the same whether many rows are merged at once or each
 // by its own ripple move: the same numbers drive both columns.
 fn run_both<R: Abort>(rt: &R, alloc: Global, state: u64) -> Result<(), AllocError> {
-    let mut numbers = Numbers { state };
-    let mut same_numbers = Numbers { state };
-    let mut seldom = Column::new(alloc);
-    let mut often = Column::new(alloc);
-    let mut seldom_held = Vec::new(alloc);
-    let mut often_held = Vec::new(alloc);
+    let mut seldom = Driven::new(alloc, state);
+    let mut often = Driven::new(alloc, state);
     for round in 0..40u32 {
         // Rounds in which rows come, stay as many, go, and come and go.
         let adds = [4, 2, 1, 2][round as usize % 4];
-        change(
-            alloc,
-            &mut seldom,
-            &mut seldom_held,
-            &mut numbers,
-            adds,
-            false,
-        )?;
-        change(
-            alloc,
-            &mut often,
-            &mut often_held,
-            &mut same_numbers,
-            adds,
-            true,
-        )?;
-        let low = numbers.score();
-        assert_eq!(rt; same_numbers.score(), low);
-        let range = Range {
-            min: Bound::Incl(low),
-            max: Bound::Excl(low.saturating_add(30)),
-        };
-        let (from, to) = seldom.select(&range)?;
-        let (often_from, often_to) = often.select(&range)?;
-        assert_eq!(rt; to - from, often_to - often_from);
+        drive_both(rt, alloc, &mut seldom, &mut often, adds)?;
         if round % 3 == 0 {
-            seldom.merge_all()?;
-            often.merge_all()?;
-            expect_alike(rt, alloc, &seldom, &often)?;
+            merge_alike(rt, alloc, &mut seldom.column, &mut often.column)?;
         }
     }
     Ok(())

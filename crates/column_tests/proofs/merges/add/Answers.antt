@@ -2,7 +2,7 @@ use Rattle.std.proofs.Common.{◌≡◌, ◌++◌, ◌∷◌, [], arith}
 use Rattle.std.proofs.lemmas.Int.{ints}
 use Rattle.ripple_column.specs.Content.{Holds}
 use Rattle.ripple_column.proofs.CallerLemmas.{Holds-added, Holds-same, row-same}
-use Rattle.set_tests.proofs.column_merges.add.Goals as goal
+use Rattle.column_tests.proofs.merges.add.Goals as goal
 
 pub returns : goal.returns
 returns c =

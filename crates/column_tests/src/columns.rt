@@ -2,8 +2,8 @@ ghost use Rattle.std.specs.Prelude.{◌≡◌, ◌+◌, ◌∷◌, [], count_by,
 ghost use Rattle.crack_kernel.specs.RowBag.{Test};
 ghost use Rattle.ripple_column.specs.Content.{HasRow, SameContent, content_count};
 
-use super::*;
 use crack_kernel::Row;
+use ripple_column::Column;
 use score_bounds::{Bound, Range};
 use std::alloc::{AllocError, Global};
 use std::process::Abort;

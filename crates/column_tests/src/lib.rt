@@ -1,0 +1,8 @@
+//! Tests of columns over their public calls: worked examples, and two columns driven by the same
+//! changes, one merged at once and one row by row. This crate has nothing but tests.
+#![tactic(auto)]
+
+#[cfg(test)]
+mod columns;
+#[cfg(test)]
+mod merges;
