@@ -96,9 +96,9 @@ impl Work {
     }
 }
 
-/// How often work is done whose cost grows with the set in one of the servers.
-fn slow_times(members: u64) -> u64 {
-    (20_000_000 / members).clamp(100, 1000)
+/// How often an update and a read take turns: a hundred times where the first ones of a set are measured.
+fn turns_of(name: &str) -> u64 {
+    if name.starts_with("first_") { 100 } else { 10_000 }
 }
 
 /// How often one member is changed where members share scores: enough for the pending lists to be merged.
@@ -106,8 +106,7 @@ const CHANGES: u64 = 10_000;
 
 /// Puts the requests of the work behind those that load the set.
 fn put_work(work: &mut Work, name: &str) {
-    let (times, slow) = (100_000.min(10 * work.members), slow_times(work.members));
-    for _ in 0..times {
+    for _ in 0..100_000.min(10 * work.members) {
         match name {
             "updates" | "updates_after_ranges" => work.update(SCORES),
             "mix" => work.one_of_a_mix(),
@@ -118,8 +117,8 @@ fn put_work(work: &mut Work, name: &str) {
             _ => break,
         }
     }
-    for _ in 0..slow {
-        match name {
+    for _ in 0..turns_of(name) {
+        match name.trim_start_matches("first_") {
             "update_and_top_ten" => {
                 work.update(SCORES);
                 work.put(&["ZRANGEBYSCORE", "board", "-inf", "+inf", "WITHSCORES", "LIMIT", "0", "10"]);
@@ -163,7 +162,7 @@ fn prepare(work: &mut Work, server: &mut Server, name: &str) -> io::Result<()> {
     if name.ends_with("_after_ranges") || name.starts_with("ranges_of_100") {
         (0..1000).for_each(|_| work.count_at_new_bounds());
     }
-    if name == "update_and_top_ten" {
+    if name.ends_with("update_and_top_ten") {
         work.put(&["ZRANGEBYSCORE", "board", "-inf", "+inf", "WITHSCORES", "LIMIT", "0", "10"]);
     }
     work.send(server).map(|_| ())

@@ -17,3 +17,4 @@ pub mod DumpReplay
 pub mod DumpRequests
 pub mod KeyWalk
 mod LedgerShareSend
+pub mod CallerLemmas

@@ -174,3 +174,56 @@ fn a_full_list_is_merged(rt: HostRuntime) -> Result<(), AllocError> {
     expect_state(&rt, &column, &[], 2049, (0, 0));
     Ok(())
 }
+
+// A column of 4,096 rows with the scores from 0 on, in no order.
+fn filled(alloc: Global) -> Result<Column<Global>, AllocError> {
+    let mut column = Column::new(alloc);
+    for i in 0..4096u16 {
+        add(alloc, &mut column, i64::from(i) * 1021 % 4096, b"m")?;
+    }
+    column.merge_all()?;
+    Ok(column)
+}
+
+#[test]
+fn a_search_cracks_a_long_piece(rt: HostRuntime) -> Result<(), AllocError> {
+    let alloc = rt.alloc();
+    let mut column = filled(alloc)?;
+    add(alloc, &mut column, 2000, b"n")?;
+    expect_count(&rt, &mut column, Bound::NegInf, Bound::PosInf, 4097)?;
+    assert_eq!(rt; column.piece_list().len(), 0);
+    take(alloc, &mut column, 2000, b"n")?;
+    expect_count(&rt, &mut column, Bound::NegInf, Bound::PosInf, 4096)?;
+    assert_eq!(rt; column.piece_list().len(), 1);
+    expect_state(&rt, &column, &[], 4096, (0, 0));
+    Ok(())
+}
+
+#[test]
+fn a_window_gets_short_pieces(rt: HostRuntime) -> Result<(), AllocError> {
+    let alloc = rt.alloc();
+    let mut column = filled(alloc)?;
+    let all = Range {
+        min: Bound::NegInf,
+        max: Bound::PosInf,
+    };
+    column.narrow(&all, 0, 10);
+    assert!(rt;
+        column
+            .piece_list()
+            .iter()
+            .any(|pivot| pivot.1 > 10 && pivot.1 < 512)
+    );
+    expect_state(&rt, &column, &[], 4096, (0, 0));
+    expect_count(&rt, &mut column, Bound::Incl(100), Bound::Excl(200), 100)?;
+    add(alloc, &mut column, 50, b"n")?;
+    expect_count(&rt, &mut column, Bound::NegInf, Bound::Incl(150), 152)?;
+    expect_state(
+        &rt,
+        &column,
+        &[(100, 101), (151, 152), (200, 201)],
+        4097,
+        (0, 0),
+    );
+    Ok(())
+}

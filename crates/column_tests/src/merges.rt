@@ -7,10 +7,12 @@ use score_bounds::{Bound, Range};
 use std::alloc::{AllocError, Global};
 use std::process::Abort;
 
-// A linear congruential generator with the constants of Knuth's MMIX.
+// A linear congruential generator with the constants of Knuth's MMIX, and how many scores its rows
+// have.
 #[derive(Drop)]
 struct Numbers {
     state: u64,
+    scores: u32,
 }
 
 impl Numbers {
@@ -30,9 +32,10 @@ impl Numbers {
         self.next() as usize % count
     }
 
-    // Few scores, so that many rows have the same one, below 0 and above.
+    // A score below 0 or above.
     fn score(&mut self) -> i64 {
-        i64::from(self.next() % 200) - 100
+        let number = self.next().checked_rem(self.scores).unwrap_or(0);
+        i64::from(number) - i64::from(self.scores / 2)
     }
 }
 
@@ -111,10 +114,10 @@ fn change(
     Ok(())
 }
 
-// The rows of a column by score and member.
-fn sorted(alloc: Global, column: &Column<Global>) -> Result<Vec<&Row<Global>>, AllocError> {
+// Rows by score and member.
+fn sorted(alloc: Global, list: &[Row<Global>]) -> Result<Vec<&Row<Global>>, AllocError> {
     let mut rows = Vec::new(alloc);
-    for row in column.rows(0, column.len()) {
+    for row in list {
         rows.push(row)?;
     }
     rows.sort_unstable_by(|x, y| {
@@ -125,7 +128,23 @@ fn sorted(alloc: Global, column: &Column<Global>) -> Result<Vec<&Row<Global>>, A
     Ok(rows)
 }
 
-// Two columns have the same rows as sorted lists, and the same pivots at the same places.
+// Two lists have the same rows when they are sorted.
+fn expect_same_rows<R: Abort>(
+    rt: &R,
+    alloc: Global,
+    one: &[Row<Global>],
+    other: &[Row<Global>],
+) -> Result<(), AllocError> {
+    let rows = sorted(alloc, one)?;
+    let others = sorted(alloc, other)?;
+    assert_eq!(rt; rows.len(), others.len());
+    for (row, like) in rows.iter().zip(others.iter()) {
+        assert!(rt; row.is_same(*like));
+    }
+    Ok(())
+}
+
+// In two columns nothing waits, and they have the same rows and the same pivots at the same places.
 fn expect_alike<R: Abort>(
     rt: &R,
     alloc: Global,
@@ -135,13 +154,8 @@ fn expect_alike<R: Abort>(
     assert_eq!(rt; one.pivot_list(), other.pivot_list());
     assert_eq!(rt; one.pending(), (0, 0));
     assert_eq!(rt; other.pending(), (0, 0));
-    let rows = sorted(alloc, one)?;
-    let others = sorted(alloc, other)?;
-    assert_eq!(rt; rows.len(), others.len());
-    for (row, like) in rows.iter().zip(others.iter()) {
-        assert!(rt; row.is_same(*like));
-    }
-    Ok(())
+    let rows = one.rows(0, one.len());
+    expect_same_rows(rt, alloc, rows, other.rows(0, other.len()))
 }
 
 // A column, the rows that it holds, and the numbers that drive it.
@@ -153,19 +167,19 @@ struct Driven {
 }
 
 impl Driven {
-    fn new(alloc: Global, state: u64) -> Self
+    fn new(alloc: Global, numbers: Numbers) -> Self
         ensures { Holds result.column result.held.items }
     {
         Driven {
             column: Column::new(alloc),
             held: Vec::new(alloc),
-            numbers: Numbers { state },
+            numbers,
         }
     }
 }
 
-// Changes a column, and selects a range where the numbers say: the range's lower end, and how many
-// rows it has.
+// Changes a column, and selects a range where the numbers say, of which a window of ten ranks is
+// then wanted: the range's lower end, and how many rows it has.
 fn drive(
     alloc: Global,
     column: &mut Column<Global>,
@@ -184,6 +198,8 @@ fn drive(
         max: Bound::Excl(low.saturating_add(30)),
     };
     let (from, to) = column.select(&range)?;
+    let start = from.saturating_add(numbers.below(1000)).min(to);
+    column.narrow(&range, start, start.saturating_add(10).min(to));
     Ok((low, to - from))
 }
 
@@ -235,26 +251,56 @@ fn drive_both<R: Abort>(
     Ok(())
 }
 
+// How many scores rows have, and of four changes how many add a row, in rounds in turn.
+#[derive(Clone, Copy)]
+struct Course {
+    scores: u32,
+    adds: [u32; 4],
+}
+
 // Random changes, merges and selects lead to the same whether many rows are merged at once or each
-// by its own ripple move: the same numbers drive both columns.
-fn run_both<R: Abort>(rt: &R, alloc: Global, state: u64) -> Result<(), AllocError> {
-    let mut seldom = Driven::new(alloc, state);
-    let mut often = Driven::new(alloc, state);
+// by its own ripple move, and to the rows of a plain list: the same numbers drive both columns.
+fn run_both<R: Abort>(rt: &R, alloc: Global, state: u64, course: Course) -> Result<(), AllocError> {
+    let Course { scores, adds } = course;
+    let mut seldom = Driven::new(alloc, Numbers { state, scores });
+    let mut often = Driven::new(alloc, Numbers { state, scores });
     for round in 0..40u32 {
-        // Rounds in which rows come, stay as many, go, and come and go.
-        let adds = [4, 2, 1, 2][round as usize % 4];
-        drive_both(rt, alloc, &mut seldom, &mut often, adds)?;
+        drive_both(rt, alloc, &mut seldom, &mut often, adds[round as usize % 4])?;
         if round % 3 == 0 {
             merge_alike(rt, alloc, &mut seldom.column, &mut often.column)?;
+            let rows = seldom.column.rows(0, seldom.column.len());
+            expect_same_rows(rt, alloc, rows, seldom.held.as_slice())?;
         }
     }
     Ok(())
 }
 
+// Rows come, stay as many, go, and come and go.
+const TO_AND_FRO: [u32; 4] = [4, 2, 1, 2];
+
+// Past 10,000 rows.
+const MORE_AND_MORE: [u32; 4] = [4, 4, 2, 3];
+
 #[test]
 fn merging_at_once_is_merging_row_by_row(rt: HostRuntime) -> Result<(), AllocError> {
-    for state in 0..4u64 {
-        run_both(&rt, rt.alloc(), state)?;
+    for (state, scores) in [(0, 200), (1, 200), (2, 3), (3, 1)] {
+        let course = Course {
+            scores,
+            adds: TO_AND_FRO,
+        };
+        run_both(&rt, rt.alloc(), state, course)?;
+    }
+    Ok(())
+}
+
+#[test]
+fn many_rows_are_merged_alike(rt: HostRuntime) -> Result<(), AllocError> {
+    for (state, scores) in [(4, 1_000_000), (5, 2)] {
+        let course = Course {
+            scores,
+            adds: MORE_AND_MORE,
+        };
+        run_both(&rt, rt.alloc(), state, course)?;
     }
     Ok(())
 }

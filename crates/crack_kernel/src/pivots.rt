@@ -138,6 +138,17 @@ impl<A: Allocator> Pivots<A> {
         set_place(&mut self.list, i, place);
     }
 
+    /// Takes the pivots of another list in the place of its own. It takes no memory.
+    pub fn copy_from(&mut self, other: &Pivots<A>)
+        requires { length other.now.list ≤ self.old.spare + length self.old.list }
+        ensures list { self.new.list ≡ other.now.list }
+        ensures rising { IsRising self.new.list }
+        ensures few { length self.new.list ≤ MAX_PIVOTS }
+        ensures spare { self.new.spare + length other.now.list ≡ self.old.spare + length self.old.list }
+    {
+        copy_from(&mut self.list, &other.list);
+    }
+
     /// Drops all pivots. The room stays.
     pub fn clear(&mut self)
         ensures list { self.new.list ≡ [] }
@@ -196,6 +207,18 @@ fn add<A: Allocator>(list: &mut Vec<(i64, usize), A>, v: i64, place: usize)
     let index = count_upto(list, v);
     if list.insert(index, (v, place)).is_err() {
         unreachable!();
+    }
+}
+
+/// Takes other pivots in the place of those in the list.
+fn copy_from<A: Allocator>(list: &mut Vec<(i64, usize), A>, other: &[(i64, usize)])
+    requires { length other.now ≤ vec_capacity list.old }
+    ensures list { list.new.items ≡ other.now }
+    ensures capacity { vec_capacity list.new ≡ vec_capacity list.old }
+{
+    list.clear();
+    for pivot in other {
+        list.push_reserved(*pivot);
     }
 }
 

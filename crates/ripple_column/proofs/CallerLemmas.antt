@@ -1,10 +1,11 @@
--- Lemmas for callers: of a column that holds a list of rows, and of counts of rows.
+-- Lemmas for callers: of a column that holds a list of rows, of counts of rows, and of rows that wait.
 use Rattle.std.proofs.Common.{◌≡◌, ℕ, ℤ, Bool, true, cond, ◌+◌, ◌<◌, ◌≤◌, List, [], ◌∷◌, ◌++◌, length, get_or, set, count_by, Result, Ok, Err, OnOk, ap, ◌∙◌, arith}
 use Rattle.std.proofs.lemmas.List.Sums.{get_or-le-sum_by, sum_by-set, sum_by_push}
 use Rattle.crack_kernel.specs.RowBag.{Test}
 use Rattle.std.specs.List.{swap_remove}
-use Rattle.ripple_column.proofs.Counts.{count_swapped_out, count_all as all_counted, count_push as push_counted}
-use Rattle.ripple_column.specs.Content.{ColumnState, HasRow, Holds, SameContent, content_count}
+use Rattle.score_bounds.specs.declared.bounds.Range.{Range}
+use Rattle.ripple_column.proofs.Counts.{count_and_le, count_none, count_split, count_swapped_out, count_all as all_counted, count_push as push_counted}
+use Rattle.ripple_column.specs.Content.{ColumnState, HasRow, Holds, NoneIn, SameContent, SameOutside, content_count, has_score_in}
 
 -- the test that each row passes counts all of them
 pub count_all : (xs : List (ℤ × List ℕ)) → count_by (λ r. true) xs ≡ length xs
@@ -56,3 +57,15 @@ row-same x row score is same = is ∙ ap (λ (s : ℤ). (s, row.1)) same
 pub OnOk-always : {T E : Type 0} {P : Type 0} (r : Result T E) → P → OnOk r P
 OnOk-always (Ok x) holds = holds
 OnOk-always (Err e) holds = tt
+
+-- with no row in the range on either side, as many rows wait as before
+pub length_outside : (range : Range) (xs ys : List (ℤ × List ℕ)) → SameOutside range xs ys → NoneIn range xs → NoneIn range ys → length ys ≡ length xs
+length_outside range xs ys same none none' =
+    let all : Test = λ r. true in
+    let split = count_split all (has_score_in range) xs in
+    let split' = count_split all (has_score_in range) ys in
+    let inside = count_and_le all (has_score_in range) xs in
+    let inside' = count_and_le all (has_score_in range) ys in
+    let nothing = count_none (has_score_in range) xs none in
+    let nothing' = count_none (has_score_in range) ys none' in
+    omega (arith, all_counted xs, all_counted ys, split, split', inside, inside', nothing, nothing', same all)

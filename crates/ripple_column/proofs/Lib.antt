@@ -10,6 +10,9 @@ pub mod Gaps
 pub mod Tails
 pub mod Taken
 pub mod Marking
+pub mod MarkBits
 pub mod CallerLemmas
 pub mod Fours
 pub mod Frames
+pub mod InnerPivots
+pub mod PieceCracks

@@ -15,8 +15,10 @@ use Rattle.crack_kernel.specs.RowBag.{Test}
 use Rattle.crack_kernel.specs.Parts.{IsBelow, IsFrom, IsParted}
 use Rattle.crack_kernel.specs.PivotList.{IsNewValue, IsRising, ObeysPivots}
 use Rattle.ripple_column.specs.Content.{ColumnState, IsScored, has_score_in, NoneIn}
-use Rattle.ripple_column.specs.CutPivots.{is_before, values, cut_values, new_values, StandsAt}
+use Rattle.ripple_column.specs.Cuts.{is_before, values, cut_values, new_values, StandsAt}
+use Rattle.ripple_column.specs.InnerPivots.{IsAmong}
 use Rattle.ripple_column.specs.RangeAnswer.{low_cut, high_cut, pivots_with_cuts, IsSettled, IsAnswer, HoldsRange, AddsCuts}
+use Rattle.ripple_column.proofs.Values.{StandsAt-kept}
 use Rattle.ripple_column.proofs.Counts.{count_none, count_alike, count_and_le}
 
 -- the rows before a place are below a cut, and the others are not
@@ -115,14 +117,14 @@ none_in p range xs none =
 abbrev pub CutsPart : Range → Type 0
 CutsPart range = (s : ℤ) → s ≤ℤ greatest → is_in range s ≡ (not (is_below s (low_cut range)) && is_below s (high_cut range))
 
-pub HoldsRange-settled : (c : ColumnState) (range : Range) (answer : ℕ × ℕ) → CutsPart range → ObeysPivots c.pivots c.rows → IsScored c.rows
+pub HoldsRange-settled : (c : ColumnState) (all : List (ℤ × ℕ)) (range : Range) (answer : ℕ × ℕ) → CutsPart range → IsAmong c.pivots all → ObeysPivots all c.rows → IsScored c.rows
     → is_before (low_cut range) (high_cut range) ≡ true → IsSettled c range answer → HoldsRange c range answer
-HoldsRange-settled c range answer cuts law scored below settled =
+HoldsRange-settled c all range answer cuts among law scored below settled =
     let rows = c.rows in
     let from : ℕ = answer.0 in
     let to : ℕ = answer.1 in
-    let low : LiesAt (low_cut range) rows from = LiesAt-stands (low_cut range) c.pivots rows from law settled.low in
-    let high : LiesAt (high_cut range) rows to = LiesAt-stands (high_cut range) c.pivots rows to law settled.high in
+    let low : LiesAt (low_cut range) rows from = LiesAt-stands (low_cut range) all rows from law (StandsAt-kept (low_cut range) c.pivots all (length rows) (length rows) from refl among settled.low) in
+    let high : LiesAt (high_cut range) rows to = LiesAt-stands (high_cut range) all rows to law (StandsAt-kept (high_cut range) c.pivots all (length rows) (length rows) to refl among settled.high) in
     let from_in : from ≤ length rows = low.within in
     let to_in : to ≤ length rows = high.within in
     let order : from ≤ to =
@@ -231,19 +233,19 @@ IsAnswer-selected (Ok a) c range empty settled =
     ]
 
 -- what an answer tells of the rows
-pub HoldsRange-answer : (c : ColumnState) (range : Range) (a : ℕ × ℕ) → CutsPart range → ObeysPivots c.pivots c.rows → IsScored c.rows → IsScored c.insertions → IsAnswer c range a → HoldsRange c range a
-HoldsRange-answer c range a cuts law scored_rows scored_insertions answer =
+pub HoldsRange-answer : (c : ColumnState) (all : List (ℤ × ℕ)) (range : Range) (a : ℕ × ℕ) → CutsPart range → IsAmong c.pivots all → ObeysPivots all c.rows → IsScored c.rows → IsScored c.insertions → IsAnswer c range a → HoldsRange c range a
+HoldsRange-answer c all range a cuts among law scored_rows scored_insertions answer =
     elim (cases_Bool (is_before (low_cut range) (high_cut range))) [
-      | inl order ↦ let s : IsSettled c range a = rw order at answer in HoldsRange-settled c range a cuts law scored_rows order s
+      | inl order ↦ let s : IsSettled c range a = rw order at answer in HoldsRange-settled c all range a cuts among law scored_rows order s
       | inr reversed ↦
           let same : a ≡ (0, 0) = rw reversed at answer in
           subst (λ (b : ℕ × ℕ). HoldsRange c range b) (sym same) (HoldsRange-empty c range cuts scored_rows scored_insertions reversed)
     ]
 
-pub HoldsRange-selected : {E : Type 0} (r : Result (ℕ × ℕ) E) (c : ColumnState) (range : Range) → CutsPart range → ObeysPivots c.pivots c.rows → IsScored c.rows → IsScored c.insertions
+pub HoldsRange-selected : {E : Type 0} (r : Result (ℕ × ℕ) E) (c : ColumnState) (all : List (ℤ × ℕ)) (range : Range) → CutsPart range → IsAmong c.pivots all → ObeysPivots all c.rows → IsScored c.rows → IsScored c.insertions
     → IfOk r (λ a. IsAnswer c range a) → IfOk r (λ a. HoldsRange c range a)
-HoldsRange-selected (Err e) c range cuts law scored_rows scored_insertions answer = tt
-HoldsRange-selected (Ok a) c range cuts law scored_rows scored_insertions answer = HoldsRange-answer c range a cuts law scored_rows scored_insertions answer
+HoldsRange-selected (Err e) c all range cuts among law scored_rows scored_insertions answer = tt
+HoldsRange-selected (Ok a) c all range cuts among law scored_rows scored_insertions answer = HoldsRange-answer c all range a cuts among law scored_rows scored_insertions answer
 
 -- the answer of a column whose cuts have their places and where nothing waits in the range
 pub IsAnswer-ready : (r : Option (ℕ × ℕ)) (c : ColumnState) (range : Range) → is_before (low_cut range) (high_cut range) ≡ true
@@ -254,10 +256,10 @@ IsAnswer-ready (Some a) c range order low high insertions deletions =
     let s : IsSettled c range a = record { low = low; high = high; insertions = insertions; deletions = deletions } in
     rw order s
 
-pub HoldsRange-ready : (r : Option (ℕ × ℕ)) (c : ColumnState) (range : Range) → CutsPart range → ObeysPivots c.pivots c.rows → IsScored c.rows → IsScored c.insertions
+pub HoldsRange-ready : (r : Option (ℕ × ℕ)) (c : ColumnState) (all : List (ℤ × ℕ)) (range : Range) → CutsPart range → IsAmong c.pivots all → ObeysPivots all c.rows → IsScored c.rows → IsScored c.insertions
     → IfSome r (λ a. IsAnswer c range a) → IfSome r (λ a. HoldsRange c range a)
-HoldsRange-ready None c range cuts law scored_rows scored_insertions answer = tt
-HoldsRange-ready (Some a) c range cuts law scored_rows scored_insertions answer = HoldsRange-answer c range a cuts law scored_rows scored_insertions answer
+HoldsRange-ready None c all range cuts among law scored_rows scored_insertions answer = tt
+HoldsRange-ready (Some a) c all range cuts among law scored_rows scored_insertions answer = HoldsRange-answer c all range a cuts among law scored_rows scored_insertions answer
 
 -- the pivots of a selection
 pub AddsCuts-selected : {E : Type 0} (r : Result (ℕ × ℕ) E) (range : Range) (old new : List (ℤ × ℕ))

@@ -2,13 +2,14 @@
 use Rattle.std.specs.Prelude.{◌≤◌, ◌-◌, min, length, vec_len, vec_capacity}
 use Rattle.crack_kernel.specs.RowBag.{IsSubBag}
 use Rattle.ripple_column.specs.Content.{ColumnState, IsScored, max_pending}
+use Rattle.ripple_column.specs.PieceCracks.{shown}
 use Rattle.ripple_column.specs.declared.column.Column.TheInside.{Inside}
 
 -- the fields, and the room in the two lists of pending rows, which never pass max_pending rows
 abbrev pub state : {A : Type 0} → Inside A → ColumnState
 state c = record {
-  rows = c.cracked.rows.items;
-  pivots = c.cracked.pivots.list;
+  rows = c.pieces.cracked.rows.items;
+  pivots = shown c.pieces;
   insertions = c.pending.insertions.items;
   deletions = c.pending.deletions.items;
   insert_spare = min (vec_capacity c.pending.insertions) max_pending - vec_len c.pending.insertions;

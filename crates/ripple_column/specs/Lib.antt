@@ -1,8 +1,11 @@
 pub mod RowPlace
 pub mod Content
-pub mod CutPivots
+pub mod Cuts
 pub mod ColumnInvariant
 pub mod RangeAnswer
 pub mod BlankGap
 pub mod Merge
-pub mod ScoreMarks
+pub mod RowHash
+pub mod RowMarks
+pub mod InnerPivots
+pub mod PieceCracks

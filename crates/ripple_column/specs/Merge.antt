@@ -4,7 +4,7 @@ use Rattle.std.specs.declared.vec.Vec.{Vec}
 use Rattle.crack_kernel.specs.RowBag.{IsSubBag}
 use Rattle.crack_kernel.specs.PivotList.{PivotList}
 use Rattle.ripple_column.specs.Content.{KeepsContent}
-use Rattle.ripple_column.specs.CutPivots.{values}
+use Rattle.ripple_column.specs.Cuts.{values}
 use Rattle.ripple_column.specs.declared.cracked.Cracked.{Cracked}
 use Rattle.ripple_column.specs.declared.pending.Pending.{Pending}
 

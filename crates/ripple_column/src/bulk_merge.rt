@@ -13,8 +13,8 @@ ghost use Rattle.ripple_column.specs.Content.{has_score_in, KeepsContent, SameOu
 ghost use Rattle.ripple_column.specs.BlankGap.{TakenFrom};
 ghost use Rattle.ripple_column.specs.Merge.{KeepsFrame, Merges};
 
-use crate::bloom_filter::ScoreFilter;
 use crate::cracked::Cracked;
+use crate::deletion_filter::DeletionFilter;
 use crate::gap::Direction;
 use crate::merge_pass::{Pass, run_pass};
 use crate::pending::Pending;
@@ -93,11 +93,11 @@ fn lowest_piece<A: Allocator>(pivots: &Pivots<A>, pending: &Pending<A>) -> usize
     first
 }
 
-/// A filter with the scores of the rows.
-fn filter_of<A: Allocator>(rows: &[Row<A>]) -> ScoreFilter {
-    let mut filter = ScoreFilter::new();
+/// A filter with the rows.
+fn filter_of<A: Allocator>(rows: &[Row<A>]) -> DeletionFilter {
+    let mut filter = DeletionFilter::new();
     for row in rows {
-        filter.add(row.score());
+        filter.add(row);
     }
     filter
 }

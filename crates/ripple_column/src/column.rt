@@ -1,16 +1,17 @@
 //! The column.
 
-ghost use Rattle.std.specs.Prelude.{◌≡◌, ◌+◌, ◌<◌, ◌≤◌, ℕ, [], ◌∷◌, true, false, length, count_by, slice_range, IfOk, IfSome, OnOk, OnErr};
+ghost use Rattle.std.specs.Prelude.{◌≡◌, ◌+◌, ◌<◌, ◌≤◌, ℕ, [], ◌∷◌, true, false, length, count_by, slice_range, IsPermutation, IfOk, IfSome, OnOk, OnErr};
 ghost use Rattle.crack_kernel.specs.RowBag.{IsSubBag, Test};
 ghost use Rattle.crack_kernel.specs.PivotList.{ObeysPivots};
 ghost use Rattle.ripple_column.specs.RangeAnswer.{AddsCuts, HoldsRange, IsAnswer, StandsStill, low_cut, high_cut, pivots_with_cuts};
 ghost use Rattle.ripple_column.specs.Content.{HasRow, IsUnchanged, NoneIn, Pends, SameContent, SameOutside, content_count, most_pending};
-ghost use Rattle.ripple_column.specs.CutPivots.{is_before, values};
+ghost use Rattle.ripple_column.specs.Cuts.{is_before, values};
+ghost use Rattle.ripple_column.specs.InnerPivots.{IsAmong};
 
-use crate::cracked::Cracked;
 use crate::cracking::is_before;
-use crate::merge::{merge_all, reserve_write};
+use crate::inner_pivots::narrow;
 use crate::pending::{MAX_PENDING, MAX_RESERVED, Pending};
+use crate::pieces::Pieces;
 use crate::select::{select_between, settled_places};
 use crack_kernel::{MAX_PIVOTS, Row};
 use score_bounds::Range;
@@ -21,9 +22,12 @@ use std::marker::Model;
 ///
 /// Its content is a bag of rows: those that stand in the column and those that wait to be inserted,
 /// but for those that wait to be deleted. Between neighbouring pivots the rows stand in no order.
+///
+/// Contracts see the pivots that are shown, the cuts of the ranges asked for. Inner pivots beside
+/// them part long pieces.
 #[derive(Drop)]
 pub struct Column<A: Allocator> {
-    cracked: Cracked<A>,
+    pieces: Pieces<A>,
     pending: Pending<A>,
 }
 
@@ -48,7 +52,7 @@ impl<A: Allocator + Copy> Column<A> {
         ensures deletions { result.deletions ≡ [] }
     {
         Column {
-            cracked: Cracked::new(alloc),
+            pieces: Pieces::new(alloc),
             pending: Pending::new(alloc),
         }
     }
@@ -57,7 +61,7 @@ impl<A: Allocator + Copy> Column<A> {
     pub fn len(&self) -> usize
         ensures { result ≡ length self.now.rows }
     {
-        self.cracked.rows.len()
+        self.pieces.cracked.rows.len()
     }
 
     /// How many insertions and how many deletions wait: at most 2,048 of each. The rows that wait to
@@ -77,7 +81,15 @@ impl<A: Allocator + Copy> Column<A> {
         ensures pivots { result.now ≡ self.now.pivots }
         ensures law { ObeysPivots self.now.pivots self.now.rows }
     {
-        self.cracked.pivots.list()
+        self.pieces.shown().list()
+    }
+
+    /// The pivots in order with the inner ones beside them, each a value and a place.
+    pub fn piece_list(&self) -> &[(i64, usize)]
+        ensures law { ObeysPivots result.now self.now.rows }
+        ensures among { IsAmong self.now.pivots result.now }
+    {
+        self.pieces.cracked.pivots.list()
     }
 
     /// The rows from the place `from` on and before the place `to`.
@@ -86,7 +98,7 @@ impl<A: Allocator + Copy> Column<A> {
         requires within { to ≤ length self.now.rows }
         ensures { result.now ≡ slice_range self.now.rows from to }
     {
-        &self.cracked.rows.list()[from..to]
+        &self.pieces.cracked.rows.list()[from..to]
     }
 
     /// Makes room for `n` more pending insertions and `n` more pending deletions. Where either
@@ -101,7 +113,7 @@ impl<A: Allocator + Copy> Column<A> {
         ensures merged_insertions { OnOk result (MAX_PENDING < most_pending self.old + n → self.new.insertions ≡ []) }
         ensures merged_deletions { OnOk result (MAX_PENDING < most_pending self.old + n → self.new.deletions ≡ []) }
     {
-        reserve_write(&mut self.cracked, &mut self.pending, n)
+        self.pieces.reserve_write(&mut self.pending, n)
     }
 
     /// Adds `row` to the content: it waits as an insertion, or withdraws a deletion of it that
@@ -145,7 +157,7 @@ impl<A: Allocator + Copy> Column<A> {
         ensures deletions { OnOk result (self.new.deletions ≡ []) }
         ensures refused { OnErr result (IsUnchanged self.old self.new) }
     {
-        merge_all(&mut self.cracked, &mut self.pending)
+        self.pieces.merge_all(&mut self.pending)
     }
 
     /// Where the rows with scores in the range stand: from the first place on and before the
@@ -173,7 +185,26 @@ impl<A: Allocator + Copy> Column<A> {
             → StandsStill range.now self.old self.new) }
     {
         let (first, second) = range.cuts();
-        select_between(&mut self.cracked, &mut self.pending, range, &first, &second)
+        select_between(&mut self.pieces, &mut self.pending, range, &first, &second)
+    }
+
+    /// Lets rows change places, so that few stand between each of two places and the pivots around
+    /// it, of which some may be new inner ones. Rows stay between the pivots that are shown, and the
+    /// answers of the range stay. Without memory it leaves all as it is.
+    pub fn narrow(&mut self, range: &Range, from: usize, to: usize)
+        ensures content { SameContent self.old self.new }
+        ensures pivots { self.new.pivots ≡ self.old.pivots }
+        ensures insertions { self.new.insertions ≡ self.old.insertions }
+        ensures deletions { self.new.deletions ≡ self.old.deletions }
+        ensures spare { self.new.insert_spare ≡ self.old.insert_spare }
+        ensures spare_deletions { self.new.delete_spare ≡ self.old.delete_spare }
+        ensures permutation { IsPermutation self.old.rows self.new.rows }
+        ensures answer { (answer : ℕ × ℕ) → IsAnswer self.old range.now answer → IsAnswer self.new range.now answer }
+        ensures rows { (answer : ℕ × ℕ) → IsAnswer self.old range.now answer → HoldsRange self.new range.now answer }
+    {
+        let _cuts = range.cuts();
+        narrow(&mut self.pieces, from);
+        narrow(&mut self.pieces, to);
     }
 
     /// The answer of `select`, where the column is ready for it: nothing waits in the range, and
@@ -184,11 +215,11 @@ impl<A: Allocator + Copy> Column<A> {
         ensures rows { IfSome result (λ answer. HoldsRange self.now range.now answer) }
         ensures exact { (answer : ℕ × ℕ) → IsAnswer self.now range.now answer → result ≡ Some answer }
     {
-        let cracked = &self.cracked;
+        let pieces = &self.pieces;
         let (first, second) = range.cuts();
         if !is_before(&first, &second) {
             return Some((0, 0));
         }
-        settled_places(cracked, &self.pending, range, &first, &second)
+        settled_places(pieces, &self.pending, range, &first, &second)
     }
 }

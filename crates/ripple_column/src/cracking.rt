@@ -1,8 +1,9 @@
 //! The cracking of a column at a cut.
 
-ghost use Rattle.std.specs.Prelude.{◌≡◌, ◌+◌, ◌<◌, ◌≤◌, ℕ, ℤ, List, ◌∷◌, ◌++◌, true, length, Contains, IsPermutation, slice_index_or};
+ghost use Rattle.std.specs.Prelude.{◌≡◌, ◌+◌, ◌<◌, ◌≤◌, ℕ, ℤ, List, ◌∷◌, ◌++◌, true, length, IsPermutation, slice_index_or, vec_capacity};
 ghost use Rattle.crack_kernel.specs.PivotList.{IsNewValue};
-ghost use Rattle.ripple_column.specs.CutPivots.{is_before, values, count_with_cuts, new_values, values_with_cuts, StandsAt, IsApart, IsUncracked};
+ghost use Rattle.ripple_column.specs.Cuts.{is_before, values, count_with_cuts, new_values, values_with_cuts, StandsAt, IsApart, IsUncracked};
+ghost use Rattle.ripple_column.specs.InnerPivots.{IsAmong};
 
 use crate::cracked::Cracked;
 use crack_kernel::{MAX_PIVOTS, Pivots};
@@ -47,6 +48,7 @@ pub fn crack_between<A: Allocator>(
     ensures second { StandsAt second.now cracked.new.pivots.list (length cracked.new.rows.items) result.1 }
     ensures values { IsPermutation (values_with_cuts first.now second.now (values cracked.old.pivots.list))
         (values cracked.new.pivots.list) }
+    ensures kept { IsAmong cracked.old.pivots.list cracked.new.pivots.list }
     ensures still { (k : ℕ) (d : ℤ × List ℕ) → IsUncracked first.now cracked.old.pivots.list k
         → IsUncracked second.now cracked.old.pivots.list k → slice_index_or cracked.new.rows.items k d
         ≡ slice_index_or cracked.old.rows.items k d }
@@ -64,7 +66,7 @@ fn crack_at_cut<A: Allocator>(cracked: &mut Cracked<A>, cut: &Cut) -> usize
     ensures place { StandsAt cut.now cracked.new.pivots.list (length cracked.new.rows.items) result }
     ensures values { IsPermutation (new_values cut.now (values cracked.old.pivots.list)
         ++ values cracked.old.pivots.list) (values cracked.new.pivots.list) }
-    ensures kept { (p : ℤ × ℕ) → Contains cracked.old.pivots.list p → Contains cracked.new.pivots.list p }
+    ensures kept { IsAmong cracked.old.pivots.list cracked.new.pivots.list }
     ensures spare { cracked.old.pivots.spare ≡ cracked.new.pivots.spare + length (new_values cut.now (values cracked.old.pivots.list)) }
     ensures still { (k : ℕ) (d : ℤ × List ℕ) → IsUncracked cut.now cracked.old.pivots.list k
         → slice_index_or cracked.new.rows.items k d ≡ slice_index_or cracked.old.rows.items k d }
@@ -80,13 +82,14 @@ fn crack_at_cut<A: Allocator>(cracked: &mut Cracked<A>, cut: &Cut) -> usize
 }
 
 /// Cracks the piece of `v`, which becomes a pivot, and answers its place.
-fn crack_at<A: Allocator>(cracked: &mut Cracked<A>, v: i64) -> usize
+pub fn crack_at<A: Allocator>(cracked: &mut Cracked<A>, v: i64) -> usize
     requires new { IsNewValue v cracked.old.pivots.list }
     requires room { 0 < cracked.old.pivots.spare }
     requires few { length cracked.old.pivots.list < MAX_PIVOTS }
     ensures rows { IsPermutation cracked.old.rows.items cracked.new.rows.items }
     ensures pivots { IsPermutation ((v, result) ∷ cracked.old.pivots.list) cracked.new.pivots.list }
     ensures spare { cracked.old.pivots.spare ≡ cracked.new.pivots.spare + 1 }
+    ensures capacity { vec_capacity cracked.new.rows ≡ vec_capacity cracked.old.rows }
     ensures still { (k : ℕ) (d : ℤ × List ℕ) → IsApart v cracked.old.pivots.list k
         → slice_index_or cracked.new.rows.items k d ≡ slice_index_or cracked.old.rows.items k d }
 {

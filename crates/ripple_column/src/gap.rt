@@ -11,8 +11,8 @@ ghost use Rattle.crack_kernel.specs.PivotList.{ObeysPivots, RisesPast};
 ghost use Rattle.ripple_column.specs.BlankGap.{AllParted, ChangedPlaces, HasGap, HasGapAt, StandFrom, TakenFrom, blank};
 ghost use Rattle.ripple_column.specs.Merge.{KeepsFrame};
 
-use crate::bloom_filter::ScoreFilter;
-use crate::pending::PendingList;
+use crate::deletion_filter::DeletionFilter;
+use crate::pending::{PendingList, row_cmp};
 use crate::ripple::{place_or, start_below};
 use crate::rows::Rows;
 use crack_kernel::{Pivots, Row};
@@ -28,14 +28,15 @@ pub struct Gap {
 }
 
 /// Which way a gap goes over the pieces. Rows that wait are taken from the ends of their lists:
-/// where the gap goes up, scores fall there, and where it goes down, they rise.
+/// where the gap goes up, rows fall there by score and member, and where it goes down, they rise.
 #[derive(Clone, Copy)]
 pub enum Direction {
     Up,
     Down,
 }
 
-/// The rows of a list from an index on, where scores fall, or where the gap goes down, rise.
+/// The rows of a list from an index on, which fall by score and member, or where the gap goes down,
+/// rise.
 #[derive(Clone, Copy)]
 pub struct Tail {
     pub from: usize,
@@ -204,23 +205,18 @@ fn find_waiting<A: Allocator>(list: &PendingList<A>, tail: Tail, row: &Row<A>) -
     ensures within { IfSome result (λ i. i < length list.now.items) }
     ensures here { IfSome result (λ i. HoldsAt (λ r. r ≡ row.now) list.now.items i) }
 {
-    let score = row.score();
     let rows = list.list();
     let last = &rows[tail.from..];
     let before = match tail.direction {
-        Direction::Up => last.partition_point(|waiting| waiting.score() > score),
-        Direction::Down => last.partition_point(|waiting| waiting.score() < score),
+        Direction::Up => last.partition_point(|waiting| row_cmp(waiting, row).is_gt()),
+        Direction::Down => last.partition_point(|waiting| row_cmp(waiting, row).is_lt()),
     };
-    for i in tail.from + before..rows.len() {
-        let waiting = &rows[i];
-        if waiting.score() != score {
-            return None;
-        }
-        if waiting.is_same(row) {
-            return Some(i);
-        }
+    let at = tail.from + before;
+    if at < rows.len() && rows[at].is_same(row) {
+        Some(at)
+    } else {
+        None
     }
-    None
 }
 
 /// Takes the row at the place `at` above the gap out of the column, if it waits in the tail
@@ -260,14 +256,14 @@ fn take_out_at<A: Allocator + Copy>(
 /// Takes rows that wait in the tail of the deletions out of the piece above the gap, which ends at
 /// `end`, and answers where the gap ends then. Blank rows take their places.
 ///
-/// The filter has the scores of these deletions, so that few rows are looked up.
+/// The filter has these deletions, so that few other rows are looked up.
 pub fn take_out<A: Allocator + Copy>(
     rows: &mut Rows<A>,
     high: usize,
     end: usize,
     deletions: &mut PendingList<A>,
     tail: Tail,
-    filter: &ScoreFilter,
+    filter: &DeletionFilter,
 ) -> usize
     requires above { high ≤ end }
     requires within { end ≤ length rows.old.items }

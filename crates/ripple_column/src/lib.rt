@@ -6,19 +6,23 @@
 //! most one row a piece.
 #![tactic(auto)]
 
-mod bloom_filter;
 mod bulk_merge;
 mod column;
 mod cracked;
 mod cracking;
+mod deletion_filter;
 mod gap;
+mod inner_pivots;
 mod merge;
 mod merge_pass;
 mod pending;
+mod pieces;
 mod ripple;
+mod row_hash;
+mod row_marks;
 mod rows;
-mod score_marks;
 mod select;
+mod shown_pivots;
 
 pub use column::Column;
 pub use pending::{MAX_PENDING, MAX_RESERVED};

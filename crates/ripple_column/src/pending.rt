@@ -5,11 +5,14 @@ ghost use Rattle.std.specs.List.{AllWithin, HoldsAt, list_any, remove, swap_remo
 ghost use Rattle.score_bounds.specs.Scores.{greatest};
 ghost use Rattle.crack_kernel.specs.RowBag.{Test};
 ghost use Rattle.ripple_column.specs.Content.{has_score_in, NoneIn, Pends};
+ghost use Rattle.ripple_column.specs.RowHash.{hash_of};
 
-use crate::score_marks::ScoreMarks;
+use crate::row_hash::hash_of;
+use crate::row_marks::RowMarks;
 use crack_kernel::Row;
 use score_bounds::Range;
 use std::alloc::{AllocError, Allocator};
+use std::cmp::Ordering;
 use std::marker::Model;
 
 /// The greatest number of rows in each of the two lists of rows that wait.
@@ -20,28 +23,28 @@ pub const MAX_PENDING: usize = 2048;
 pub const MAX_RESERVED: usize = 1027;
 
 /// From how many rows on a list gets marks. Fewer rows are as quickly looked through.
-const MARKED_FROM: usize = 64;
+const MARKED_FROM: usize = 128;
 
-/// Rows that wait, in no order, beside marks of their scores, so that mostly no row is looked at
-/// where the one that is looked for does not wait.
+/// Rows that wait, in no order, beside their marks, so that mostly no row is looked at where the one
+/// that is looked for does not wait.
 ///
 /// Contracts see the rows alone, as a `Vec`.
 #[derive(Drop)]
 pub struct PendingList<A: Allocator> {
     rows: Vec<Row<A>, A>,
-    marks: ScoreMarks<A>,
+    marks: RowMarks<A>,
 }
 
 impl<A: Allocator> Model for PendingList<A> {
     ghost use Rattle.std.specs.Prelude.{ℤ, ℕ, List};
     ghost use Rattle.std.specs.declared.vec.Vec.{Vec as VecValue};
-    ghost use Rattle.ripple_column.specs.ScoreMarks.{Covers};
+    ghost use Rattle.ripple_column.specs.RowMarks.{Covers};
 
     ghost Value = { VecValue (ℤ × List ℕ) A };
 
     ghost view = { λ l. l.rows };
 
-    ghost invariant = { λ l. Covers l.marks.marks.items l.rows.items };
+    ghost invariant = { λ l. Covers l.marks.words.items l.rows.items };
 }
 
 impl<A: Allocator + Copy> PendingList<A> {
@@ -51,7 +54,7 @@ impl<A: Allocator + Copy> PendingList<A> {
     {
         PendingList {
             rows: Vec::new(alloc),
-            marks: ScoreMarks::new(alloc),
+            marks: RowMarks::new(alloc),
         }
     }
 }
@@ -88,13 +91,13 @@ impl<A: Allocator> PendingList<A> {
             .count()
     }
 
-    /// The index at which `row` waits, if it does.
-    pub fn find(&self, row: &Row<A>) -> Option<usize>
+    /// The index at which `row`, of which the hash is given, waits, if it does.
+    fn find(&self, row: &Row<A>, hash: u64) -> Option<usize>
+        requires { hash ≡ hash_of row.now }
         ensures found { MatchOption result (¬ Contains self.now.items row.now) (λ i. HoldsAt (λ r. r
             ≡ row.now) self.now.items i × (i < length self.now.items)) }
-        ensures score { row.now.0 ≤ℤ greatest }
     {
-        if self.marks.may_have(row.score()) {
+        if self.marks.may_have(hash) {
             position_of(&self.rows, row)
         } else {
             None
@@ -116,14 +119,15 @@ impl<A: Allocator> PendingList<A> {
         self.rows.reserve(n)
     }
 
-    /// Puts a row behind the last one. It takes no memory.
-    pub fn push_reserved(&mut self, row: Row<A>)
-        requires { vec_len self.old < vec_capacity self.old }
+    /// Puts a row, of which the hash is given, behind the last one. It takes no memory.
+    fn push_reserved(&mut self, row: Row<A>, hash: u64)
+        requires hash { hash ≡ hash_of row }
+        requires room { vec_len self.old < vec_capacity self.old }
         ensures items { self.new.items ≡ self.old.items ++ row ∷ [] }
         ensures len { vec_len self.new ≡ vec_len self.old + 1 }
         ensures capacity { vec_capacity self.new ≡ vec_capacity self.old }
     {
-        self.marks.mark(&row);
+        self.marks.mark(hash);
         self.rows.push_reserved(row);
     }
 
@@ -198,11 +202,12 @@ impl<A: Allocator> PendingList<A> {
         ensures capacity { vec_capacity self.new ≡ vec_capacity self.old }
         ensures capacity_other { vec_capacity other.new ≡ vec_capacity other.old }
     {
-        match other.find(&row) {
+        let hash = hash_of(&row);
+        match other.find(&row, hash) {
             Some(i) => {
                 let _withdrawn = other.swap_remove(i);
             }
-            None => self.push_reserved(row),
+            None => self.push_reserved(row, hash),
         }
     }
 }
@@ -281,7 +286,6 @@ fn skip_others<A: Allocator>(rows: &[Row<A>], from: usize, score: i64) -> usize
 pub fn position_of<A: Allocator>(rows: &[Row<A>], row: &Row<A>) -> Option<usize>
     ensures found { MatchOption result (¬ Contains rows.now row.now) (λ i. HoldsAt (λ r. r
         ≡ row.now) rows.now i × (i < length rows.now)) }
-    ensures score { row.now.0 ≤ℤ greatest }
 {
     let score = row.score();
     let mut i = skip_others(rows, 0, score);
@@ -313,11 +317,19 @@ fn partition_within<A: Allocator>(list: &mut Vec<Row<A>, A>, range: &Range) -> u
     others
 }
 
-/// Sorts rows by falling scores.
+/// How two rows stand to one another: by their scores, and where these are the same, by their members.
+pub fn row_cmp<A: Allocator>(x: &Row<A>, y: &Row<A>) -> Ordering {
+    match x.score().cmp(&y.score()) {
+        Ordering::Equal => x.member().cmp(y.member()),
+        apart => apart,
+    }
+}
+
+/// Sorts rows by falling scores, and those of one score by falling members.
 fn sort_falling<A: Allocator>(rows: &mut [Row<A>])
     ensures { IsPermutation rows.old rows.new }
 {
-    rows.sort_unstable_by(|x, y| y.score().cmp(&x.score()));
+    rows.sort_unstable_by(|x, y| row_cmp(y, x));
 }
 
 /// Sorts the rows from the index `from` on by falling scores.

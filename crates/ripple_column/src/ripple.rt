@@ -22,6 +22,19 @@ pub fn ripple_insert<A: Allocator>(rows: &mut Rows<A>, pivots: &mut Pivots<A>, r
     ensures law { ObeysPivots pivots.new.list rows.new.items }
     ensures frame { KeepsFrame rows.old pivots.old rows.new pivots.new }
 {
+    let above = pivots.len() - pivots.count_upto(row.score());
+    rows.expect_moves(above, pivots.len());
+    carry_in(rows, pivots, row);
+}
+
+/// Puts `row` behind all others and carries it into its piece.
+fn carry_in<A: Allocator>(rows: &mut Rows<A>, pivots: &mut Pivots<A>, row: Row<A>)
+    requires law { ObeysPivots pivots.old.list rows.old.items }
+    requires room { vec_len rows.old < vec_capacity rows.old }
+    ensures rows { IsPermutation (rows.old.items ++ row ∷ []) rows.new.items }
+    ensures law { ObeysPivots pivots.new.list rows.new.items }
+    ensures frame { KeepsFrame rows.old pivots.old rows.new pivots.new }
+{
     let first = pivots.count_upto(row.score());
     let mut hole = rows.len();
     rows.push_reserved(row);
@@ -30,7 +43,7 @@ pub fn ripple_insert<A: Allocator>(rows: &mut Rows<A>, pivots: &mut Pivots<A>, r
     while i > first {
         i -= 1;
         let place = list[i].1;
-        rows.ripple_swap(place, hole);
+        rows.swap(place, hole);
         hole = place;
     }
     pivots.shift(first, true);
@@ -50,18 +63,40 @@ pub fn ripple_remove<A: Allocator>(
     ensures law { ObeysPivots pivots.new.list rows.new.items }
     ensures frame { KeepsFrame rows.old pivots.old rows.new pivots.new }
 {
+    let first = pivots.count_upto(row.score());
+    rows.expect_moves(pivots.len() - first, pivots.len());
+    let from = start_below(pivots.list(), first);
+    let to = place_or(pivots.list(), first, rows.len()).min(rows.len());
+    let likely = rows.find_between(from, to, row);
+    carry_out(rows, pivots, row, likely)
+}
+
+/// Takes `row`, which likely stands at a place, out of its piece, and gives it back.
+fn carry_out<A: Allocator>(
+    rows: &mut Rows<A>,
+    pivots: &mut Pivots<A>,
+    row: &Row<A>,
+    likely: usize,
+) -> Row<A>
+    requires law { ObeysPivots pivots.old.list rows.old.items }
+    requires there { Contains rows.old.items row.now }
+    ensures gone { result ≡ row.now }
+    ensures rows { IsPermutation rows.old.items (rows.new.items ++ row.now ∷ []) }
+    ensures law { ObeysPivots pivots.new.list rows.new.items }
+    ensures frame { KeepsFrame rows.old pivots.old rows.new pivots.new }
+{
     let list = pivots.list();
     let first = pivots.count_upto(row.score());
     let from = start_below(list, first);
     let to = place_or(list, first, rows.len());
-    let at = place_between(rows.list(), from, to, row);
+    let at = place_between(rows.list(), likely, from, to, row);
     let mut hole = to - 1;
-    rows.ripple_swap(hole, at);
+    rows.swap(hole, at);
     let mut i = first;
     while i < list.len() {
         i += 1;
         let last = place_or(list, i, rows.len()) - 1;
-        rows.ripple_swap(last, hole);
+        rows.swap(last, hole);
         hole = last;
     }
     pivots.shift(first, false);
@@ -71,8 +106,30 @@ pub fn ripple_remove<A: Allocator>(
     }
 }
 
+/// A place from `from` on, and before `to`, at which `row` stands: the one where it likely does, or the
+/// first.
+fn place_between<A: Allocator>(
+    rows: &[Row<A>],
+    likely: usize,
+    from: usize,
+    to: usize,
+    row: &Row<A>,
+) -> usize
+    requires there { StandsWithin row.now rows.now from to }
+    requires within { to ≤ length rows.now }
+    ensures low { from ≤ result }
+    ensures high { result < to }
+    ensures here { HoldsAt (λ r. r ≡ row.now) rows.now result }
+{
+    if from <= likely && likely < to && rows[likely].is_same(row) {
+        likely
+    } else {
+        first_between(rows, from, to, row)
+    }
+}
+
 /// The first place from `from` on, and before `to`, at which `row` stands.
-fn place_between<A: Allocator>(rows: &[Row<A>], from: usize, to: usize, row: &Row<A>) -> usize
+fn first_between<A: Allocator>(rows: &[Row<A>], from: usize, to: usize, row: &Row<A>) -> usize
     requires there { StandsWithin row.now rows.now from to }
     requires within { to ≤ length rows.now }
     ensures low { from ≤ result }

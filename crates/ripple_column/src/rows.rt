@@ -1,20 +1,32 @@
-//! The rows of a column, beside fingerprints of their scores.
+//! The rows of a column, beside their fingerprints.
 
 ghost use Rattle.std.specs.Prelude.{◌≡◌, ◌+◌, ◌-◌, ◌<◌, ◌≤◌, ◌++◌, ◌∷◌, ℕ, ℤ, List, [], take, length, slice_set, Some, IsSome, ◌↔◌, IsPermutation, OnOk, vec_len, vec_capacity, option_to_list, slice_index_or};
 ghost use Rattle.std.specs.List.{AllWithin, SwappedAt, swap};
 ghost use Rattle.crack_kernel.specs.Parts.{ChangesWithin, IsBelow, IsFrom};
 
-use crate::bloom_filter::{ScoreFilter, fingerprint_of};
+use crate::deletion_filter::{DeletionFilter, is_of_score, row_fingerprint, score_fingerprint};
 use crack_kernel::{Row, crack_piece};
 use std::alloc::{AllocError, Allocator};
 use std::marker::Model;
 
-/// Rows, and fingerprints of their scores, so that a walk over many rows reads 4 bytes of each one
-/// and not 32.
+/// To look at a row by its fingerprint saves about an eighth of what it costs to carry one along in a
+/// ripple move, by the clock.
+const CARRIED: usize = 8;
+
+/// The fingerprints that a row may have: that of its score and its own.
+#[derive(Clone, Copy)]
+struct Wanted {
+    of_score: u32,
+    of_row: u32,
+}
+
+/// Rows, and their fingerprints, so that a walk over many rows reads 4 bytes of each one and not 32
+/// and a member.
 ///
 /// A row's fingerprint stands at its place, where the list reaches so far, or 0 where none is made
-/// yet. Contracts see the rows alone, as a `Vec`: a wrong fingerprint would only let a pass leave its
-/// row to the ripple moves.
+/// yet. It is first that of the row's score, which needs no look at the member; where that tells
+/// nothing, that of score and member takes its place. Contracts see the rows alone, as a `Vec`: a wrong
+/// fingerprint would only let a pass leave its row to the ripple moves.
 #[derive(Drop)]
 pub struct Rows<A: Allocator> {
     rows: Vec<Row<A>, A>,
@@ -64,7 +76,7 @@ impl<A: Allocator> Rows<A> {
         ensures capacity { vec_capacity self.new ≡ vec_capacity self.old }
     {
         let place = self.rows.len();
-        self.note(place, fingerprint_of(row.score()));
+        self.note(place, score_fingerprint(row.score()));
         self.rows.push_reserved(row);
     }
 
@@ -93,7 +105,7 @@ impl<A: Allocator> Rows<A> {
         ensures items { self.new.items ≡ slice_set self.old.items at row }
         ensures capacity { vec_capacity self.new ≡ vec_capacity self.old }
     {
-        self.note(at, fingerprint_of(row.score()));
+        self.note(at, score_fingerprint(row.score()));
         self.rows[at] = row;
     }
 
@@ -112,19 +124,6 @@ impl<A: Allocator> Rows<A> {
         }
     }
 
-    /// Lets two rows change places in a ripple move. It forgets all fingerprints: each would be as far
-    /// to fetch as its row.
-    pub fn ripple_swap(&mut self, i: usize, j: usize)
-        requires i_in_bounds { i < vec_len self.old }
-        requires j_in_bounds { j < vec_len self.old }
-        ensures items { self.new.items ≡ swap self.old.items i j }
-        ensures capacity { vec_capacity self.new ≡ vec_capacity self.old }
-        ensures by_index { SwappedAt self.old.items self.new.items i j }
-    {
-        self.rows.swap(i, j);
-        self.fingerprints.clear();
-    }
-
     /// Cracks the rows from the place `from` on and before the place `to`, and answers where those
     /// with a score of `v` or more begin. The other rows stay where they are.
     pub fn crack(&mut self, from: usize, to: usize, v: i64) -> usize
@@ -137,6 +136,7 @@ impl<A: Allocator> Rows<A> {
         ensures high { result ≤ to }
         ensures before { AllWithin (IsBelow v) self.new.items from result }
         ensures behind { AllWithin (IsFrom v) self.new.items result to }
+        ensures capacity { vec_capacity self.new ≡ vec_capacity self.old }
     {
         self.forget(from, to);
         crack_piece(&mut self.rows, from, to, v)
@@ -148,6 +148,15 @@ impl<A: Allocator> Rows<A> {
     {
         if at < self.fingerprints.len() {
             self.fingerprints[at] = fingerprint;
+        }
+    }
+
+    /// The fingerprint of the row at a place, or 0 where none is made.
+    fn fingerprint(&self, at: usize) -> u32 {
+        if at < self.fingerprints.len() {
+            self.fingerprints[at]
+        } else {
+            0
         }
     }
 
@@ -169,41 +178,101 @@ impl<A: Allocator> Rows<A> {
         let _in_room = self.fingerprints.resize(self.rows.capacity(), 0);
     }
 
-    /// The first place from `from` on and before `to` of a row whose score the filter may have, or
-    /// `to`. The fingerprints up to it are made.
-    fn renew(&mut self, from: usize, to: usize, filter: &ScoreFilter) -> usize
-        requires order { from ≤ to }
-        requires within { to ≤ length self.old.items }
-        ensures same { self.new ≡ self.old }
-        ensures low { from ≤ result }
-        ensures high { result ≤ to }
+    /// Gets the fingerprints ready for a ripple move over the pieces above one, of the pieces that so
+    /// many pivots make. Over many pieces all are forgotten: each would be as far to fetch as its row.
+    /// With few pivots they are kept from then on.
+    pub fn expect_moves(&mut self, above: usize, pivots: usize)
+        ensures { self.new ≡ self.old }
     {
-        for at in from..to {
-            let fingerprint = fingerprint_of(self.rows[at].score());
-            if at < self.fingerprints.len() {
-                self.fingerprints[at] = fingerprint;
-            }
-            if filter.may_have(fingerprint) {
+        if !self.is_carried_over(above) {
+            self.fingerprints.clear();
+        } else if self.is_carried_over(pivots) {
+            self.extend_fingerprints();
+        }
+    }
+
+    /// Whether a ripple move over so many pieces carries the fingerprints along: to find a row by them
+    /// in a piece of their mean length saves more than that takes.
+    fn is_carried_over(&self, pieces: usize) -> bool {
+        pieces.saturating_mul(pieces) <= self.rows.len() / CARRIED
+    }
+
+    /// Whether the row stands at a place. Where the fingerprint there does not tell it from this row,
+    /// one that does is made.
+    fn is_at(&mut self, at: usize, row: &Row<A>) -> bool
+        requires { at < length self.old.items }
+        ensures { self.new ≡ self.old }
+    {
+        let found = &self.rows[at];
+        if found.is_same(row) {
+            return true;
+        }
+        let fingerprint = if found.score() == row.score() {
+            row_fingerprint(found)
+        } else {
+            score_fingerprint(found.score())
+        };
+        self.note(at, fingerprint);
+        false
+    }
+
+    /// A place from `from` on and before `to` at which the row stands, or `to` where none is found. Each
+    /// answer is to be tested: fingerprints alone tell where to look.
+    pub fn find_between(&mut self, from: usize, to: usize, row: &Row<A>) -> usize
+        requires within { to ≤ length self.old.items }
+        ensures { self.new ≡ self.old }
+    {
+        let wanted = Wanted {
+            of_score: score_fingerprint(row.score()),
+            of_row: row_fingerprint(row),
+        };
+        if self.fingerprints.is_empty() {
+            return to;
+        }
+        let mut at = next_like(&self.fingerprints, from, to, wanted);
+        while at < to {
+            if self.is_at(at, row) {
                 return at;
             }
+            at = next_like(&self.fingerprints, at + 1, to, wanted);
         }
         to
     }
 
-    /// The first place from `from` on and before `to` of a row whose score the filter may have, or
-    /// `to`.
-    pub fn next_within(&mut self, from: usize, to: usize, filter: &ScoreFilter) -> usize
+    /// Whether the filter may have the row at a place. Its fingerprint is made: that of its score where
+    /// this tells.
+    fn may_leave(&mut self, at: usize, filter: &DeletionFilter) -> bool
+        requires { at < length self.old.items }
+        ensures { self.new ≡ self.old }
+    {
+        let mut fingerprint = self.fingerprint(at);
+        if fingerprint == 0 {
+            fingerprint = score_fingerprint(self.rows[at].score());
+        }
+        if is_of_score(fingerprint) && filter.may_have(fingerprint) {
+            fingerprint = row_fingerprint(&self.rows[at]);
+        }
+        self.note(at, fingerprint);
+        filter.may_have(fingerprint)
+    }
+
+    /// The first place from `from` on and before `to` of a row that the filter may have, or `to`. The
+    /// fingerprints up to it are made.
+    pub fn next_within(&mut self, from: usize, to: usize, filter: &DeletionFilter) -> usize
         requires order { from ≤ to }
         requires within { to ≤ length self.old.items }
         ensures same { self.new ≡ self.old }
         ensures low { from ≤ result }
         ensures high { result ≤ to }
     {
-        let at = next_within(&self.fingerprints, from, to, filter);
-        if at < self.fingerprints.len() && self.fingerprints[at] != 0 {
-            return at;
+        let mut at = next_within(&self.fingerprints, from, to, filter);
+        while at < to {
+            if self.may_leave(at, filter) {
+                return at;
+            }
+            at = next_within(&self.fingerprints, at + 1, to, filter);
         }
-        self.renew(at, to, filter)
+        to
     }
 }
 
@@ -226,7 +295,7 @@ impl<A: Allocator + Copy> Rows<A> {
 
 /// The first place from `from` on and before `to` of which the filter may have the fingerprint, or
 /// which has none, or `to`.
-fn next_within(fingerprints: &[u32], from: usize, to: usize, filter: &ScoreFilter) -> usize
+fn next_within(fingerprints: &[u32], from: usize, to: usize, filter: &DeletionFilter) -> usize
     requires { from ≤ to }
     ensures low { from ≤ result }
     ensures high { result ≤ to }
@@ -238,4 +307,52 @@ fn next_within(fingerprints: &[u32], from: usize, to: usize, filter: &ScoreFilte
         }
     }
     known.max(from)
+}
+
+/// Whether a row with the fingerprint may be the one that is wanted.
+fn is_like(fingerprint: u32, wanted: Wanted) -> bool {
+    (fingerprint == wanted.of_row) | (fingerprint == wanted.of_score) | (fingerprint == 0)
+}
+
+/// Whether one of the four fingerprints from the index `from` on is like that of the row that is
+/// wanted.
+fn four_like(fingerprints: &[u32], from: usize, wanted: Wanted) -> bool
+    requires { from + 4 ≤ length fingerprints.now }
+{
+    is_like(fingerprints[from], wanted)
+        | is_like(fingerprints[from + 1], wanted)
+        | is_like(fingerprints[from + 2], wanted)
+        | is_like(fingerprints[from + 3], wanted)
+}
+
+/// Goes on from `from` over fingerprints that are not like that of the row that is wanted, by four at a
+/// time.
+fn skip_unlike(fingerprints: &[u32], from: usize, to: usize, wanted: Wanted) -> usize
+    requires order { from ≤ to }
+    requires within { to ≤ length fingerprints.now }
+    ensures low { from ≤ result }
+    ensures high { result ≤ to }
+{
+    let mut at = from;
+    while to - at >= 4 && !four_like(fingerprints, at, wanted) {
+        at += 4;
+    }
+    at
+}
+
+/// The first place from `from` on and before `to` of which the fingerprint is like that of the row that
+/// is wanted, or which has none; or `to`.
+fn next_like(fingerprints: &[u32], from: usize, to: usize, wanted: Wanted) -> usize
+    ensures { from ≤ result }
+{
+    let known = to.min(fingerprints.len());
+    if from >= known {
+        return from;
+    }
+    for at in skip_unlike(fingerprints, from, known, wanted)..known {
+        if is_like(fingerprints[at], wanted) {
+            return at;
+        }
+    }
+    known
 }

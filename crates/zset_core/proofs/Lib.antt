@@ -24,3 +24,6 @@ pub mod OwnerViews
 pub mod Bounds
 pub mod OwnerBounds
 pub mod CallerLemmas
+pub mod WindowSelection
+pub mod EmptySet
+pub mod ThreadCrossing

@@ -8,7 +8,7 @@ use Rattle.zset_core.specs.CommandMeaning.{Meaning, Asked, key_of}
 use Rattle.zset_core.specs.Views.{SetView, Next, OwnerView}
 use Rattle.zset_core.specs.World.{World, put_set, act_at}
 use Rattle.zset_core.specs.OwnerInvariant.{Keyed, world_of, set_in, next_at, IsHeld, IsOwned, owner_view, AllRest}
-use Rattle.zset_core.specs.BoundedWorld.{IsBoundedWorld, IsBoundedMeaning, IsBoundedOwner}
+use Rattle.zset_core.specs.RequestBounds.{IsBoundedWorld, IsBoundedMeaning, IsBoundedOwner}
 use Rattle.zset_core.proofs.Bounds.{IsBoundedNext, act_bounded, put_set_bounded}
 use Rattle.zset_core.proofs.Worlds.{keyed}
 

@@ -4,7 +4,7 @@ use Rattle.std.specs.FinMap as fin
 use Rattle.score_bounds.specs.declared.bounds.Range.{Range}
 use Rattle.ripple_column.specs.RangeAnswer.{AddsCuts, StandsStill, low_cut, high_cut, pivots_with_cuts}
 use Rattle.ripple_column.specs.Content.{ColumnState, IsUnchanged, NoneIn, SameOutside}
-use Rattle.ripple_column.specs.CutPivots.{is_before}
+use Rattle.ripple_column.specs.Cuts.{is_before}
 use Rattle.zset_core.specs.SortedSet.{Members}
 use Rattle.zset_core.specs.CommandMeaning.{Meaning, Ping, Add, Increase, Remove, Score, Card, Count, ListRange}
 use Rattle.zset_core.specs.Semantics.{outcome_of, counted, count_all, sum_of, remove_all}

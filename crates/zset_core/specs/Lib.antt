@@ -12,10 +12,10 @@ pub mod BorrowedPairs
 pub mod RankWindow
 pub mod OwnerInvariant
 pub mod Edits
-pub mod ReadOnlyAnswer
+pub mod Readiness
 pub mod ColumnEffects
 pub mod ChangeOutline
 pub mod CommandGrammar
-pub mod Parsing
+pub mod ReadingSteps
 pub mod Refusal
-pub mod BoundedWorld
+pub mod RequestBounds

@@ -6,18 +6,19 @@ ghost use Rattle.resp_wire.specs.Response.{response_of};
 ghost use Rattle.zset_core.specs.CommandMeaning.{is_writing, key_of};
 ghost use Rattle.zset_core.specs.ChangeOutline.{IsOutline};
 ghost use Rattle.zset_core.specs.Refusal.{IsRefused};
-ghost use Rattle.zset_core.specs.BoundedWorld.{IsBoundedWorld};
+ghost use Rattle.zset_core.specs.RequestBounds.{IsBoundedWorld};
 ghost use Rattle.zset_core.specs.SortedSet.{whole};
 ghost use Rattle.zset_core.specs.Views.{HasNoSet, IsPreparedAt, IsSetAt};
 ghost use Rattle.zset_core.specs.World.{act, key_behind, put_set, set_at};
 
-mod key_order;
+mod empty_set;
+mod key_walk;
 mod prepare;
 mod run;
 mod tree;
 
 use crate::command::Command;
-use crate::owner::key_order::{first_key, next_key, nth_key};
+use crate::owner::key_walk::{first_key, next_key, nth_key};
 use crate::owner::prepare::{commit_at, drop_at, prepare_at};
 use crate::owner::run::run_at;
 use crate::owner::tree::SetTree;
@@ -55,7 +56,7 @@ impl<H: BuildHasher, A: Allocator + Copy> Model for OneOwner<H, A> {
     ghost coded = { Prim.hlevel (codes, coded_members, coded_world) };
 
     ghost use Rattle.zset_core.specs.OwnerInvariant.{owner_view, IsOwned};
-    ghost use Rattle.zset_core.specs.BoundedWorld.{IsBoundedOwner};
+    ghost use Rattle.zset_core.specs.RequestBounds.{IsBoundedOwner};
 
     ghost view = { λ o. owner_view o.sets.entries o.asked };
 

@@ -1,17 +1,17 @@
 //! Reading the arguments of ZCOUNT and ZRANGEBYSCORE.
 
 ghost use Rattle.std.specs.Prelude.{◌≡◌, ◌≤◌, ◌||◌, length, is_none, option_map};
-ghost use Rattle.zset_core.specs.CommandGrammar.{asked_range, command_conditions, command_meaning, limit_value, range_options};
-ghost use Rattle.zset_core.specs.Parsing.{IsReading, choice_after, no_choice};
+ghost use Rattle.zset_core.specs.CommandGrammar.{asked_range, command_conditions, command_meaning, range_options};
+ghost use Rattle.zset_core.specs.ReadingSteps.{IsReading, choice_after, no_choice};
 ghost use Rattle.zset_core.specs.declared.command.name.CommandName.TheVariants as names;
 
+use crate::command::dispatch::{argument, behind};
 use crate::command::limit::Limit;
 use crate::command::name::is_named;
-use crate::command::parse::{argument, behind};
 use crate::command::parsed::Form;
 use crate::refusal::Refusal;
 use resp_wire::Bytes;
-use score_bounds::{Range, read_integer};
+use score_bounds::Range;
 use std::alloc::Allocator;
 
 /// What the options of ZRANGEBYSCORE come to; of a repeated one the last counts.
@@ -72,7 +72,7 @@ fn read_choice<A: Allocator>(words: &[Bytes<A>]) -> Option<RangeChoice>
             choice.with_scores = true;
             rest = behind(rest, 1);
         } else if 3 <= rest.len() && is_named(b"LIMIT", argument(rest, 0)) {
-            choice = with_limit(&choice, read_limit(argument(rest, 1), argument(rest, 2)));
+            choice = with_limit(&choice, Limit::read(argument(rest, 1), argument(rest, 2)));
             rest = behind(rest, 3);
         } else {
             return None;
@@ -91,13 +91,4 @@ fn with_limit(choice: &RangeChoice, limit: Option<Limit>) -> RangeChoice
         limit,
         has_bad_limit: choice.has_bad_limit || limit.is_none(),
     }
-}
-
-fn read_limit(offset: &[u8], count: &[u8]) -> Option<Limit>
-    ensures { result ≡ limit_value offset.now count.now }
-{
-    Some(Limit {
-        offset: read_integer(offset)?,
-        count: read_integer(count)?,
-    })
 }

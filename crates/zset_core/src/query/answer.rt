@@ -5,7 +5,7 @@ ghost use Rattle.resp_wire.specs.Response.{Array, Integer, response_of};
 ghost use Rattle.ripple_column.specs.Content.{Holds, IsUnchanged, SameContent};
 ghost use Rattle.zset_core.specs.CommandMeaning.{is_writing, key_of};
 ghost use Rattle.zset_core.specs.ColumnEffects.{Reads};
-ghost use Rattle.zset_core.specs.ReadOnlyAnswer.{IsReadyFor};
+ghost use Rattle.zset_core.specs.Readiness.{IsReadyFor};
 ghost use Rattle.zset_core.specs.SortedSet.{Members, listing, pairs};
 ghost use Rattle.zset_core.specs.Semantics.{elements, apply_limit, step};
 ghost use Rattle.zset_core.specs.StagedEntries.{current_score, members_by, IsSettled, same_bytes};
@@ -14,7 +14,9 @@ use crate::command::Command;
 use crate::command::limit::Limit;
 use crate::command::parsed::Form;
 use crate::query::listing::elements_of;
-use crate::query::window::{piece_end, piece_start, ranks_of, shown_rows, window_of};
+use crate::query::window::{
+    piece_end, piece_start, ranks_of, select_window, shown_rows, window_of,
+};
 use crate::replies::{count_reply, score_reply};
 use crate::set::member_map::{MemberMap, card_of, score_of};
 use resp_wire::Reply;
@@ -53,7 +55,7 @@ pub fn answer_from<H: BuildHasher, A: Allocator + Copy>(
             with_scores,
             limit,
         } => {
-            let rows = column.select(range)?;
+            let rows = select_window(column, range, limit)?;
             list_rows(alloc, column, rows, limit, *with_scores)
         }
         _ => unreachable!(),
@@ -125,7 +127,7 @@ fn list_rows<A: Allocator + Copy>(
     if start == end {
         return Ok(Reply::List(elements_of(alloc, &[], with_scores)?));
     }
-    let pivots = column.pivot_list();
+    let pivots = column.piece_list();
     let low = piece_start(pivots, from, from + start);
     let high = piece_end(pivots, to, from + end);
     let mut shown = shown_rows(alloc, column.rows(low, high))?;

@@ -1,6 +1,9 @@
 //! Windows of a listing: which ranks LIMIT asks for, and the rows that stand there.
-ghost use Rattle.std.specs.Prelude.{◌≡◌, ◌≤◌, ℕ, ℤ, List, length, take, drop, slice_range, IfOk};
+ghost use Rattle.std.specs.Prelude.{◌≡◌, ◌+◌, ◌≤◌, ℕ, ℤ, List, length, take, drop, slice_range, IfOk, OnErr, OnOk};
 ghost use Rattle.std.specs.List.Sorted.{IsNonDecreasingBy, IsSorted};
+ghost use Rattle.ripple_column.specs.Content.{IsUnchanged, SameContent};
+ghost use Rattle.ripple_column.specs.RangeAnswer.{HoldsRange, IsAnswer};
+ghost use Rattle.zset_core.specs.ColumnEffects.{Selects};
 ghost use Rattle.zset_core.specs.SortedSet.{Pair};
 ghost use Rattle.zset_core.specs.Semantics.{from_offset, at_most, apply_limit};
 ghost use Rattle.zset_core.specs.BorrowedPairs.{pairs_of, shown_cmp};
@@ -8,6 +11,8 @@ ghost use Rattle.zset_core.specs.RankWindow.{IsPart, IsPieceStart, IsPieceEnd};
 
 use crate::command::limit::Limit;
 use crack_kernel::Row;
+use ripple_column::Column;
+use score_bounds::Range;
 use std::alloc::{AllocError, Allocator};
 
 /// How many of `len` pairs a number of LIMIT speaks of: all of them where it is negative.
@@ -38,6 +43,38 @@ pub fn ranks_of(limit: &Option<Limit>, len: usize) -> (usize, usize)
             (start, end)
         }
     }
+}
+
+/// How many rows wait.
+fn count_waiting<A: Allocator + Copy>(column: &Column<A>) -> usize
+    ensures { result ≡ length column.now.insertions + length column.now.deletions }
+{
+    let (insertions, deletions) = column.pending();
+    insertions + deletions
+}
+
+/// The places of a range's rows, as `Column::select` answers them. Where rows were merged, the pieces
+/// round the window that LIMIT asks for are made short: the next window there reads few rows. Else
+/// rows may move in the pieces of the range's cuts alone.
+pub fn select_window<A: Allocator + Copy>(
+    column: &mut Column<A>,
+    range: &Range,
+    limit: &Option<Limit>,
+) -> Result<(usize, usize), AllocError>
+    ensures content { SameContent column.old column.new }
+    ensures answer { IfOk result (λ answer. IsAnswer column.new range.now answer) }
+    ensures rows { IfOk result (λ answer. HoldsRange column.new range.now answer) }
+    ensures selects { OnOk result (Selects range.now column.old column.new) }
+    ensures refused { OnErr result (IsUnchanged column.old column.new) }
+{
+    let waited = count_waiting(column);
+    let (from, to) = column.select(range)?;
+    let waiting = count_waiting(column);
+    if waiting != waited {
+        let (start, end) = ranks_of(limit, to - from);
+        column.narrow(range, from + start, from + end);
+    }
+    Ok((from, to))
 }
 
 /// The greatest place of a pivot that is at most `first`, or `from` where no such place is greater.

@@ -14,7 +14,7 @@ use crate::replies::increase_reply;
 use crate::set::member_map::{MemberMap, ScoreSlot, find_slot};
 use crate::set::pair_outcome::{Flags, Outcome};
 use crate::set::row_edits::Edits;
-use crate::set::staged_scores::unsettle;
+use crate::set::settling::unsettle;
 use resp_wire::Reply;
 use std::alloc::{AllocError, Allocator};
 use std::hash::BuildHasher;

@@ -7,7 +7,7 @@ ghost use Rattle.zset_core.specs.Semantics.{counted, outcome_of, put_one, put_al
 ghost use Rattle.zset_core.specs.CommandMeaning.{is_writing};
 ghost use Rattle.zset_core.specs.ParsedArguments.{given_pairs};
 ghost use Rattle.ripple_column.specs.Content.{Holds, IsUnchanged, SameContent, most_pending};
-ghost use Rattle.ripple_column.specs.CutPivots.{values};
+ghost use Rattle.ripple_column.specs.Cuts.{values};
 ghost use Rattle.zset_core.specs.Edits.{HasAtMost, HasRoom, IsFew, Notes, TurnsInto, most_edits};
 ghost use Rattle.zset_core.specs.StagedEntries.{current_score, staged_score, rows_by, members_by, IsSettled, IsBack, IsWaiting, Grows};
 ghost use Rattle.zset_core.specs.SortedSet.{pairs};
@@ -25,7 +25,7 @@ use crate::set::member_map::{MemberMap, score_of};
 use crate::set::pair_outcome::{Flags, sum};
 use crate::set::removal::collect_removed;
 use crate::set::row_edits::make_edits;
-use crate::set::staged_scores::{settle, take_out};
+use crate::set::settling::{settle, take_out};
 use resp_wire::{Bytes, Reply};
 use ripple_column::{Column, MAX_PENDING};
 use std::alloc::{AllocError, Allocator};

@@ -1,7 +1,7 @@
 use Rattle.std.proofs.Common.{◌++◌, ℕ, ℤ, IsPermutation, length, length-append, ap, ◌∙◌, arith}
 use Rattle.std.proofs.lemmas.List.{length-map}
 use Rattle.std.proofs.lemmas.List.Sorted.{IsPermutation-trans, IsPermutation-append_right, length_permutation}
-use Rattle.ripple_column.specs.CutPivots.{values, new_values}
+use Rattle.ripple_column.specs.Cuts.{values, new_values}
 use Rattle.ripple_column.proofs.Values.{new_values-other, IsUncracked-kept}
 use Rattle.ripple_column.proofs.cracking.crack_between.Goals as goal
 
@@ -42,3 +42,6 @@ pub returns-clause-still : goal.returns-clause-still
 returns-clause-still g c k d outside_first outside_second =
     let e = c.crack_at_cut-from.ensures in
     c.crack_at_cut-to.ensures.still k d (IsUncracked-kept c.args.second.now c.args.cracked.now.pivots.list c.crack_at_cut-from.new.cracked.pivots.list k e.kept outside_second) ∙ e.still k d outside_first
+
+pub returns-clause-kept : goal.returns-clause-kept
+returns-clause-kept g c p there = c.crack_at_cut-to.ensures.kept p (c.crack_at_cut-from.ensures.kept p there)

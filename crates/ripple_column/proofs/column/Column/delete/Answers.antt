@@ -13,7 +13,7 @@ invariant_of-self g c =
     let room : 0 < min (vec_capacity old.pending.deletions) 2048 - vec_len old.pending.deletions = subst (λ (v : ColumnState). 0 < v.delete_spare) (sym c.self.view_is) c.requires.room in
     let there = subst (λ (v : ColumnState). HasRow v c.args.row) (sym c.self.view_is) c.requires.there in
     record {
-      part = IsSubBag-pended c.args.row old.cracked.rows.items old.pending.insertions.items new.other.items old.pending.deletions.items new.self.items inv.part there c.pend.ensures.pends;
+      part = IsSubBag-pended c.args.row old.pieces.cracked.rows.items old.pending.insertions.items new.other.items old.pending.deletions.items new.self.items inv.part there c.pend.ensures.pends;
       scored_rows = inv.scored_rows;
       scored_insertions = IsScored-less new.other.items old.pending.insertions.items counts.less inv.scored_insertions;
       few_insertions = omega (arith, inv.few_insertions, length-sub_bag new.other.items old.pending.insertions.items counts.less);
@@ -27,7 +27,7 @@ returns-clause-content g c p =
     let new = c.pend.new in
     let counts = PendsCounts-from c.args.row old.pending.deletions.items new.self.items old.pending.insertions.items new.other.items c.pend.ensures.pends in
     let there = subst (λ (v : ColumnState). HasRow v c.args.row) (sym c.self.view_is) c.requires.there in
-    let part = IsSubBag-pended c.args.row old.cracked.rows.items old.pending.insertions.items new.other.items old.pending.deletions.items new.self.items inv.part there c.pend.ensures.pends in
+    let part = IsSubBag-pended c.args.row old.pieces.cracked.rows.items old.pending.insertions.items new.other.items old.pending.deletions.items new.self.items inv.part there c.pend.ensures.pends in
     rw (← c.self.view_is) (omega (arith, inv.part p, part p, counts.all p, counts.less p))
 
 pub returns-clause-spare : goal.returns-clause-spare

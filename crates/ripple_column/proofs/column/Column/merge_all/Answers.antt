@@ -9,7 +9,7 @@ invariant_of-self g c =
     let old = c.self.inside in
     let new = c.merge_all.new in
     let m = c.merge_all.ensures.merges in
-    let scored = IsScored-merged old.cracked.rows.items new.cracked.rows.items old.pending.insertions.items new.pending.insertions.items old.pending.deletions.items new.pending.deletions.items inv.scored_rows inv.scored_insertions m.content m.less_deletions in
+    let scored = IsScored-merged old.pieces.cracked.rows.items new.self.cracked.rows.items old.pending.insertions.items new.pending.insertions.items old.pending.deletions.items new.pending.deletions.items inv.scored_rows inv.scored_insertions m.content m.less_deletions in
     record {
       part = m.part;
       scored_rows = scored.0;

@@ -1,8 +1,9 @@
 use Rattle.std.proofs.Common.{◌≡◌, true, false, sym, subst, ◌∙◌}
 use Rattle.ripple_column.specs.RangeAnswer.{low_cut, high_cut, IsAnswer, IsSettled}
 use Rattle.ripple_column.specs.Content.{ColumnState}
-use Rattle.ripple_column.specs.CutPivots.{is_before}
+use Rattle.ripple_column.specs.Cuts.{is_before}
 use Rattle.ripple_column.specs.ColumnInvariant.{state}
+use Rattle.ripple_column.proofs.InnerPivots.{among_found}
 use Rattle.ripple_column.proofs.Selection.{CutsPart, HoldsRange-empty, HoldsRange-ready, IsAnswer-ready}
 use Rattle.ripple_column.proofs.column.Column.ready.Goals as goal
 
@@ -30,7 +31,7 @@ returns-clause-rows g c =
     let high = rw cuts.second at e.second in
     let insertions = e.insertions in
     let deletions = e.deletions in
-    rw (← c.self.view_is) (HoldsRange-ready r now range parts c.self.inside.cracked.law inv.scored_rows inv.scored_insertions (IsAnswer-ready r now range order low high insertions deletions))
+    rw (← c.self.view_is) (HoldsRange-ready r now c.self.inside.pieces.cracked.pivots.list range parts (among_found _ _ c.self.inside.pieces.among) c.self.inside.pieces.cracked.law inv.scored_rows inv.scored_insertions (IsAnswer-ready r now range order low high insertions deletions))
 
 pub returns-clause-exact : goal.returns-clause-exact
 returns-clause-exact g c answer is =

@@ -2,6 +2,8 @@ use Rattle.std.proofs.Common.{arith}
 use Rattle.ripple_column.specs.Content.{ColumnState}
 use Rattle.ripple_column.specs.ColumnInvariant.{state}
 use Rattle.ripple_column.proofs.Counts.{length-sub_bag}
+use Rattle.ripple_column.specs.PieceCracks.{shown}
+use Rattle.ripple_column.proofs.InnerPivots.{among_found}
 use Rattle.ripple_column.proofs.Merged.{IsScored-merged}
 use Rattle.ripple_column.proofs.Selection.{CutsPart, IsSettled-selected, IsAnswer-selected, HoldsRange-selected, AddsCuts-selected}
 use Rattle.ripple_column.proofs.column.Column.select.Goals as goal
@@ -13,7 +15,7 @@ invariant_of-self g c =
     let new = c.select_between.new in
     let e = c.select_between.ensures in
     let m = e.merges in
-    let scored = IsScored-merged old.cracked.rows.items new.cracked.rows.items old.pending.insertions.items new.pending.insertions.items old.pending.deletions.items new.pending.deletions.items inv.scored_rows inv.scored_insertions m.content m.less_deletions in
+    let scored = IsScored-merged old.pieces.cracked.rows.items new.pieces.cracked.rows.items old.pending.insertions.items new.pending.insertions.items old.pending.deletions.items new.pending.deletions.items inv.scored_rows inv.scored_insertions m.content m.less_deletions in
     record {
       part = m.part;
       scored_rows = scored.0;
@@ -28,7 +30,7 @@ returns-clause-answer g c =
     let new = c.select_between.new in
     let e = c.select_between.ensures in
     let m = e.merges in
-    let now : ColumnState = state {A = g.row.A.Denot} (record { cracked = new.cracked; pending = new.pending }) in
+    let now : ColumnState = state {A = g.row.A.Denot} (record { pieces = new.pieces; pending = new.pending }) in
     let empty = rw (cuts.first, cuts.second) at e.empty in
     let first = rw (cuts.first, cuts.second) at e.first in
     let second = rw (cuts.first, cuts.second) at e.second in
@@ -45,10 +47,10 @@ returns-clause-rows g c =
     let new = c.select_between.new in
     let e = c.select_between.ensures in
     let m = e.merges in
-    let scored = IsScored-merged old.cracked.rows.items new.cracked.rows.items old.pending.insertions.items new.pending.insertions.items old.pending.deletions.items new.pending.deletions.items inv.scored_rows inv.scored_insertions m.content m.less_deletions in
-    let now : ColumnState = state {A = g.row.A.Denot} (record { cracked = new.cracked; pending = new.pending }) in
+    let scored = IsScored-merged old.pieces.cracked.rows.items new.pieces.cracked.rows.items old.pending.insertions.items new.pending.insertions.items old.pending.deletions.items new.pending.deletions.items inv.scored_rows inv.scored_insertions m.content m.less_deletions in
+    let now : ColumnState = state {A = g.row.A.Denot} (record { pieces = new.pieces; pending = new.pending }) in
     let parts : CutsPart c.args.range.now = rw (cuts.first, cuts.second) at cuts.between in
-    HoldsRange-selected c.select_between.result now c.args.range.now parts new.cracked.law scored.0 scored.1 (returns-clause-answer g c)
+    HoldsRange-selected c.select_between.result now new.pieces.cracked.pivots.list c.args.range.now parts (among_found _ _ new.pieces.among) new.pieces.cracked.law scored.0 scored.1 (returns-clause-answer g c)
 
 pub returns-clause-waiting_insertions : goal.returns-clause-waiting_insertions
 returns-clause-waiting_insertions g c p = rw (← c.self.view_is) (c.select_between.ensures.waiting.1 p)
@@ -61,7 +63,7 @@ returns-clause-pivots g c =
     let cuts = c.cuts-first.ensures in
     let kept = rw (cuts.first, cuts.second) at c.select_between.ensures.values_kept in
     let cleared = rw (cuts.first, cuts.second) at c.select_between.ensures.values_cleared in
-    rw (← c.self.view_is) (AddsCuts-selected c.select_between.result c.args.range.now c.self.inside.cracked.pivots.list c.select_between.new.cracked.pivots.list kept cleared)
+    rw (← c.self.view_is) (AddsCuts-selected c.select_between.result c.args.range.now (shown c.self.inside.pieces) (shown c.select_between.new.pieces) kept cleared)
 
 pub returns-clause-still : goal.returns-clause-still
 returns-clause-still g c =

@@ -21,11 +21,11 @@ loop-rest-preserved g c =
     sym (c.is_named.ensures ∙ ap (is_named (codes "WITHSCORES")) c.argument.ensures) ∙ c.if-is_named.false in
     let named : is_named (codes "LIMIT") (word_at c.loop-rest.rest.now 0) ≡ true =
     sym (c.is_named-then-rest-ge3.ensures ∙ ap (is_named (codes "LIMIT")) c.argument-then-rest-ge3.ensures) ∙ c.if-is_named-2.true in
-    let limit : c.read_limit.result ≡ limit_value (word_at c.loop-rest.rest.now 1) (word_at c.loop-rest.rest.now 2) =
-    c.read_limit.ensures
+    let limit : c.read.result ≡ limit_value (word_at c.loop-rest.rest.now 1) (word_at c.loop-rest.rest.now 2) =
+    c.read.ensures
     ∙ ap (λ first. limit_value first c.argument-then-is_named-2-2.result.now) c.argument-then-is_named-2.ensures
     ∙ ap (limit_value (word_at c.loop-rest.rest.now 1)) c.argument-then-is_named-2-2.ensures in
-    limit_step c.loop-rest.choice c.with_limit-choice.result c.read_limit.result c.loop-rest.rest.now c.behind-rest-then-is_named-2.result.now _
+    limit_step c.loop-rest.choice c.with_limit-choice.result c.read.result c.loop-rest.rest.now c.behind-rest-then-is_named-2.result.now _
     c.loop-rest.invariant some other named c.behind-rest-then-is_named-2.ensures limit c.with_limit-choice.ensures
 
 pub returns-else-rest-ge3 : goal.returns-else-rest-ge3

@@ -1,4 +1,4 @@
-use Rattle.std.proofs.Common.{List, ◌+◌, ◌-◌, ap, subst, ◌∙◌}
+use Rattle.std.proofs.Common.{refl, List, ◌+◌, ◌-◌, ap, subst, ◌∙◌}
 use Rattle.zset_core.specs.BorrowedPairs.{Shown, pairs_of}
 use Rattle.zset_core.specs.RankWindow.{IsPart}
 use Rattle.resp_wire.specs.Response.{Array}
@@ -14,21 +14,19 @@ returns-then-start-end g c test members bag =
 
 pub piece_start-low-requires-clause-rising : goal.piece_start-low-requires-clause-rising
 piece_start-low-requires-clause-rising g c =
-    let pivots = c.pivot_list-pivots.ensures in
-    rw pivots.pivots (places_rise c.args.column.now.pivots c.args.column.now.rows pivots.law)
+    places_rise c.piece_list-pivots.result.now c.args.column.now.rows c.piece_list-pivots.ensures.law
 
 pub piece_end-high-requires-clause-rising : goal.piece_end-high-requires-clause-rising
 piece_end-high-requires-clause-rising g c =
-    let pivots = c.pivot_list-pivots.ensures in
-    rw pivots.pivots (places_rise c.args.column.now.pivots c.args.column.now.rows pivots.law)
+    places_rise c.piece_list-pivots.result.now c.args.column.now.rows c.piece_list-pivots.ensures.law
 
 pub returns : goal.returns
 returns g c test members bag =
     let ranks = c.ranks_of-start in
-    let pivots = c.pivot_list-pivots in
+    let pivots = c.piece_list-pivots in
     ap Array (c.in_ok-elements_of-2.ensures ∙ ap (elements c.args.with_scores)
-    (limited_window test members c.args.limit.now c.args.column.now.pivots pivots.result.now c.args.column.now.rows c.in_ok-shown.shown.items c.window_of-window.result.now
-    c.args.rows.0 c.args.rows.1 ranks.result.0 ranks.result.1 c.piece_start-low.result c.piece_end-high.result bag pivots.ensures.law pivots.ensures.pivots
+    (limited_window test members c.args.limit.now pivots.result.now pivots.result.now c.args.column.now.rows c.in_ok-shown.shown.items c.window_of-window.result.now
+    c.args.rows.0 c.args.rows.1 ranks.result.0 ranks.result.1 c.piece_start-low.result c.piece_end-high.result bag pivots.ensures.law refl
     c.requires.order c.requires.within ranks.ensures.order ranks.ensures.within ranks.ensures.ranks c.piece_start-low.ensures c.piece_end-high.ensures
     (c.in_ok-shown.ensures ∙ c.rows.ensures) (subst (λ (shown : List Shown). IsPart (pairs_of shown) (c.args.rows.0 + ranks.result.0 - c.piece_start-low.result) (c.args.rows.0 + ranks.result.1 - c.piece_start-low.result) (pairs_of c.window_of-window.result.now))
     c.deref_mut.ensures.value c.window_of-window.ensures.part) c.window_of-window.ensures.sorted))

@@ -1,0 +1,5 @@
+use Rattle.ripple_column.specs.PieceCracks.{AreCracked}
+use Rattle.ripple_column.proofs.inner_pivots.break_up.Given as goal
+
+abbrev pub invariant-loop-i : goal.invariant-loop-i
+invariant-loop-i g l = AreCracked l.fn.pieces l.pieces

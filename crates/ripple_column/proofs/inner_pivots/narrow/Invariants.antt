@@ -1,0 +1,5 @@
+use Rattle.ripple_column.specs.PieceCracks.{AreCracked}
+use Rattle.ripple_column.proofs.inner_pivots.narrow.Given as goal
+
+abbrev pub invariant-loop-turn : goal.invariant-loop-turn
+invariant-loop-turn g l = AreCracked l.fn.pieces l.pieces

@@ -1,0 +1,158 @@
+//! Inner pivots: cracks beside those that the cuts of ranges make, so that a search for a row, and a
+//! window of a range, read few rows.
+//!
+//! Where a range cuts nothing, as one from -inf to +inf, its piece would stay the whole column.
+
+ghost use Rattle.ripple_column.specs.PieceCracks.{AreCracked};
+
+use crate::cracking::crack_at;
+use crate::pending::{PendingList, is_within};
+use crate::pieces::Pieces;
+use crate::ripple::{place_or, start_below};
+use crack_kernel::{MAX_PIVOTS, Row};
+use score_bounds::Range;
+use std::alloc::Allocator;
+
+/// How many scores of a piece are read to find one that parts it: few beside the rows of the
+/// smallest piece that is cracked, and enough that a part is seldom much smaller than meant.
+const SAMPLE: usize = 64;
+
+/// A search for a row cracks no piece of fewer rows: they are read faster than they are cracked.
+const SEARCHED_ROWS: usize = 2048;
+
+/// Nor one with fewer rows for each pivot: a ripple move over the pivots takes as long as the search
+/// then, and each pivot more makes it longer.
+const ROWS_A_PIVOT: usize = 64;
+
+/// From so many pivots on a search cracks nothing: the pieces are short enough by then.
+const SEARCH_PIVOTS: usize = 512;
+
+/// A window cracks no piece of fewer rows: they are copied and put in order as fast.
+const WINDOW_ROWS: usize = 512;
+
+/// How many places of the sample a window's crack stands away from the window, so that this lies
+/// inside the smaller part for nearly every sample.
+const BESIDE: usize = 4;
+
+/// The greatest number of pivots that inner ones make: the two cuts of a range fit beside them.
+const MAX_WITH_INNER: usize = MAX_PIVOTS - 2;
+
+/// Cracks the piece of `v`, which becomes an inner pivot, and answers whether it did. It does not
+/// where `v` is a pivot, and where there would be too many pivots or no memory for them.
+fn crack_inside<A: Allocator>(pieces: &mut Pieces<A>, v: i64) -> bool
+    ensures { AreCracked pieces.old pieces.new }
+{
+    let pivots = &pieces.cracked.pivots;
+    if pivots.len() >= MAX_WITH_INNER || pivots.find(v).is_some() || !pieces.set_apart() {
+        return false;
+    }
+    match pieces.cracked.pivots.reserve(3) {
+        Ok(()) => {
+            let _place = crack_at(&mut pieces.cracked, v);
+            true
+        }
+        Err(_) => false,
+    }
+}
+
+/// A score that parts these rows, from a sample: the one that a row at the place has once they are
+/// in order, and `beside` places of the sample beside it, on the side where more rows are. None where
+/// the sample has one score alone.
+fn parting_score<A: Allocator>(rows: &[Row<A>], place: usize, beside: usize) -> Option<i64> {
+    let step = rows.len() / SAMPLE;
+    if step == 0 {
+        return None;
+    }
+    let mut sample = [0; SAMPLE];
+    let mut at = 0usize;
+    for i in 0..SAMPLE {
+        sample[i] = rows.get(at)?.score();
+        at = at.saturating_add(step);
+    }
+    sample.sort_unstable();
+    let least = sample[0];
+    let above = sample.partition_point(|score| *score <= least);
+    if above >= SAMPLE {
+        return None;
+    }
+    let near = place / step;
+    let index = if near < SAMPLE / 2 {
+        near.saturating_add(beside)
+    } else {
+        near.saturating_sub(beside)
+    };
+    Some(sample[index.max(above).min(SAMPLE - 1)])
+}
+
+/// Whether a search had better crack a piece of so many rows.
+fn is_coarse(len: usize, pivots: usize) -> bool {
+    len >= SEARCHED_ROWS && len / ROWS_A_PIVOT >= pivots && pivots < SEARCH_PIVOTS
+}
+
+/// Cracks the piece of a score in the middle, if it is coarse.
+fn break_piece<A: Allocator>(pieces: &mut Pieces<A>, score: i64)
+    ensures { AreCracked pieces.old pieces.new }
+{
+    let cracked = &pieces.cracked;
+    let (from, to) = cracked.pivots.piece_of(score, cracked.rows.len());
+    if from > to || to > cracked.rows.len() || !is_coarse(to - from, cracked.pivots.len()) {
+        return;
+    }
+    if let Some(v) = parting_score(&cracked.rows.list()[from..to], (to - from) / 2, 0) {
+        crack_inside(pieces, v);
+    }
+}
+
+/// Cracks the piece of a row that waits, if it is coarse and the row's score is in the range.
+fn break_at<A: Allocator>(pieces: &mut Pieces<A>, row: &Row<A>, range: &Range)
+    ensures { AreCracked pieces.old pieces.new }
+{
+    if is_within(row, range) {
+        break_piece(pieces, row.score());
+    }
+}
+
+/// Cracks the coarse pieces of the rows that wait and have scores in the range.
+pub fn break_up<A: Allocator>(pieces: &mut Pieces<A>, waiting: &PendingList<A>, range: &Range)
+    ensures { AreCracked pieces.old pieces.new }
+{
+    for i in 0..waiting.len() {
+        break_at(pieces, &waiting.list()[i], range);
+    }
+}
+
+/// Cracks the piece around a place near it, and answers whether it did.
+fn narrow_once<A: Allocator>(pieces: &mut Pieces<A>, place: usize) -> bool
+    ensures { AreCracked pieces.old pieces.new }
+{
+    let cracked = &pieces.cracked;
+    let list = cracked.pivots.list();
+    let i = list.partition_point(|pivot| pivot.1 <= place);
+    if i > list.len() {
+        return false;
+    }
+    let from = start_below(list, i);
+    let to = place_or(list, i, cracked.rows.len());
+    if from >= place || place >= to || to > cracked.rows.len() {
+        return false;
+    }
+    let len = to - from;
+    if len < WINDOW_ROWS || len < list.len() {
+        return false;
+    }
+    match parting_score(&cracked.rows.list()[from..to], place - from, BESIDE) {
+        Some(v) => crack_inside(pieces, v),
+        None => false,
+    }
+}
+
+/// Cracks the pieces around a place until few rows stand between it and the pivots on both sides.
+pub fn narrow<A: Allocator>(pieces: &mut Pieces<A>, place: usize)
+    ensures { AreCracked pieces.old pieces.new }
+{
+    for _turn in 0..SAMPLE {
+        if !narrow_once(pieces, place) {
+            return;
+        }
+    }
+}

@@ -1,0 +1,83 @@
+-- What is prepared, committed and let go.
+use Rattle.std.proofs.Common.{◌≡◌, ℕ, ◌+◌, true, false, Option, Some, None, IfSome, IsTrue, IsSome, Result, Ok, IfOk, inl, inr, refl, sym, subst, ◌∙◌, arith}
+use Rattle.resp_wire.specs.Response.{Response}
+use Rattle.zset_core.specs.SortedSet.{Members}
+use Rattle.zset_core.specs.CommandMeaning.{Asked, is_writing, Meaning}
+use Rattle.zset_core.specs.ChangeOutline.{IsOutline}
+use Rattle.zset_core.specs.Semantics.{step}
+use Rattle.zset_core.specs.Views.{Next, Shows, IsPreparedFor}
+use Rattle.zset_core.specs.declared.set.change_outline.Outline.{Outline}
+use Rattle.zset_core.specs.declared.refusal.Refusal.{Refusal}
+use Rattle.zset_core.specs.declared.refusal.Refusal.TheVariants.{NoMemory, UnknownCommand, WrongArity, Syntax, NxAndXx, GtLtNx, IncrPair, BadScore, BadBound, BadInteger, TableFull, Spent, ScoreOverflow, LogBroken, LogFull, LogRefused, OutOfStep}
+use Rattle.zset_core.proofs.CallerLemmas.{missing_none}
+use Rattle.append_log.proofs.CallerLemmas.{unchanged}
+use Rattle.set_table.specs.declared.counts.OwnCounts.{OwnCounts}
+use Rattle.set_table.specs.Tallies.{no_counts}
+use Rattle.set_table.specs.SetSteps.{Stepped, IsLogged, Changes, IsHindered, IsAppendRefusal}
+
+-- a reading leaves the set
+pub read_step : (m : Members) (command : Asked) (reply : Response) (own : OwnCounts) → own ≡ no_counts → step m command.meaning ≡ Some (m, reply) → Stepped m m command reply own
+read_step m command reply own none is = subst (λ (n : OwnCounts). Stepped m m command reply n) (sym none)
+    (record {
+      step_is = is;
+      added = missing_none m m (λ q there. there);
+      removed = missing_none m m (λ q there. there);
+      sums = refl;
+      few = omega arith;
+    })
+
+prepared : (m : Members) (command : Asked) (o : Outline) (next : Option Next) → IsTrue (is_writing command.meaning) → IsPreparedFor m command.meaning next → IfSome next (λ n. IsOutline o m n.members) → IsTrue o.changed → Changes m command
+prepared m command o next writes ready outlined changed = by (step m command.meaning) refl next ready outlined
+  where
+    by : (s : Option (Members × Response)) → step m command.meaning ≡ s → (next : Option Next) → Shows s command.meaning next → IfSome next (λ n. IsOutline o m n.members) → Changes m command
+    by None is next shows h = absurd shows
+    by (Some done) is next shows h =
+        let at = subst (λ (n : Option Next). IfSome n (λ n. IsOutline o m n.members)) shows h in
+        record { writes = writes; next = done.0; reply = done.1; step_is = is; other = at.changed.0 changed }
+
+-- an append that is refused hinders a command that changes the set
+pub hinders : (m : Members) (command : Asked) (o : Outline) (next : Option Next) (e : Refusal) → IsTrue (is_writing command.meaning) → IsPreparedFor m command.meaning next → IfSome next (λ n. IsOutline o m n.members) → IsTrue o.changed
+    → IsAppendRefusal e → IsHindered e m command
+hinders m command o next e writes ready outlined changed h = by e h
+  where
+    c : Changes m command
+    c = prepared m command o next writes ready outlined changed
+
+    by : (e : Refusal) → IsAppendRefusal e → IsHindered e m command
+    by NoMemory h = tt
+    by LogBroken h = c
+    by LogFull h = c
+    by LogRefused h = c
+    by UnknownCommand h = h
+    by WrongArity h = h
+    by Syntax h = h
+    by NxAndXx h = h
+    by GtLtNx h = h
+    by IncrPair h = h
+    by BadScore h = h
+    by BadBound h = h
+    by BadInteger h = h
+    by TableFull h = h
+    by Spent h = h
+    by ScoreOverflow h = absurd h
+    by OutOfStep h = h
+
+some_of : (m : Members) (meaning : Meaning) (next : Option Next) → IsPreparedFor m meaning next → IsSome next
+some_of m meaning next ready = by (step m meaning) next ready
+  where
+    by : (s : Option (Members × Response)) (next : Option Next) → Shows s meaning next → IsSome next
+    by None next h = absurd h
+    by (Some done) None h = cc
+    by (Some done) (Some n) h = refl
+
+-- what a commit leaves of the set and of the record share
+pub moved : (m new : Members) (meaning : Meaning) (P : Next → Type 0) (o : Outline) (next : Option Next) (a b : ℕ) → IsPreparedFor m meaning next → IfSome next (λ n. IsOutline o m n.members) → IfSome next (λ n. (new ≡ n.members) × P n) → IsTrue o.changed → b ≡ a + 1 → IsLogged m new a b
+moved m new meaning P o None a b ready outlined made changed up = absurd (let no : true ≡ false = sym (some_of m meaning None ready) in cc)
+moved m new meaning P o (Some n) a b ready outlined made changed up = record { which = inr (λ same. outlined.changed.0 changed (sym made.0 ∙ same), up) }
+
+pub stayed : (m new : Members) (meaning : Meaning) (P : Next → Type 0) (o : Outline) (next : Option Next) (a b : ℕ) → IsPreparedFor m meaning next → IfSome next (λ n. IsOutline o m n.members) → IfSome next (λ n. (new ≡ n.members) × P n) → o.changed ≡ false → b ≡ a → IsLogged m new a b
+stayed m new meaning P o None a b ready outlined made same kept = absurd (let no : true ≡ false = sym (some_of m meaning None ready) in cc)
+stayed m new meaning P o (Some n) a b ready outlined made same kept = record { which = inl (made.0 ∙ unchanged o m n.members outlined same, kept) }
+
+pub ok_is : {X E : Type 0} (r : Result X E) (x : X) (P : X → Type 0) → IfOk r P → r ≡ Ok x → P x
+ok_is {X = X} {E = E} r x P h is = subst (λ (q : Result X E). IfOk q P) is h

@@ -1,0 +1,20 @@
+use Rattle.std.proofs.Common.{◌≡◌, ◌∙◌}
+use Rattle.resp_wire.specs.Response.{response_of}
+use Rattle.set_table.proofs.StepLemmas.{hinders, moved, stayed}
+use Rattle.set_table.proofs.cell.step.change.Goals as goal
+use Rattle.set_table.proofs.cell.step.change.Goals.{then-outline+in_default, else-outline}
+
+pub returns-in-Err-clause-cause : goal.returns-in-Err-clause-cause
+returns-in-Err-clause-cause g c =
+    hinders c.args.set.now.members c.args.command.now c.in_ok-outline.outline c.prepare.new.self.next c.in-Err.refusal c.requires.writing c.in_ok-outline.ensures.ok c.in_ok-outline.ensures.outline c.if-outline.true c.in-Err.ensures.err
+
+pub returns-clause-logged : goal.returns-clause-logged
+returns-clause-logged g c =
+    let m = c.args.set.now.members in
+    let new = c.commit-reply.new.self.members in
+    let next = c.prepare.new.self.next in
+    let o = c.in_ok-outline.outline in
+    elim c.if-outline.branch [
+      | then-outline+in_default w ↦ moved m new c.args.command.now.meaning (λ n. response_of c.commit-reply.result ≡ n.reply) o next c.args.share.now _ c.in_ok-outline.ensures.ok c.in_ok-outline.ensures.outline c.commit-reply.ensures.made w.if-outline.true (w.share-is ∙ w.in_default.ensures.share)
+      | else-outline w ↦ stayed m new c.args.command.now.meaning (λ n. response_of c.commit-reply.result ≡ n.reply) o next c.args.share.now _ c.in_ok-outline.ensures.ok c.in_ok-outline.ensures.outline c.commit-reply.ensures.made w.if-outline.false w.share-is
+    ]

@@ -1,0 +1,10 @@
+use Rattle.set_table.specs.Naming.{Grows, AreNotesOf}
+use Rattle.set_table.proofs.NameLemmas.{Passed}
+use Rattle.set_table.proofs.naming.names.Names.claim_by_walk.Given as goal
+
+abbrev pub invariant-loop-step : goal.invariant-loop-step
+invariant-loop-step l = record {
+  own : AreNotesOf l.self l.notes;
+  grows : Grows l.fn.notes.known l.notes.known;
+  passed : Passed l.notes.known l.key l.step;
+}

@@ -1,0 +1,22 @@
+-- What a pass remembers of the keys that it met.
+use Rattle.std.specs.Prelude.{◌≡◌, ℕ, List}
+use Rattle.std.proofs.Math.ListN.{get_or}
+use Rattle.std.specs.declared.option.Option.{Option}
+use Rattle.std.specs.declared.option.Option.TheVariants.{None, Some}
+use Rattle.set_table.specs.Naming.{Naming, IsPlace}
+use Rattle.set_table.specs.declared.naming.memory.MetKey.{MetKey}
+
+-- a slot says this place
+pub record Says (slots : List (Option MetKey)) (place : ℕ) : Type 0 where
+  pub slot : ℕ
+  pub met : MetKey
+  pub here : get_or slots slot None ≡ Some met
+  pub place_is : met.place ≡ place
+
+-- the place is known as the one of the key that it bears
+abbrev pub IsMet : Naming → ℕ → Type 0
+IsMet known place = (key : List ℕ) × IsPlace known key place
+
+-- every slot says such a place
+abbrev pub AllMet : Naming → List (Option MetKey) → Type 0
+AllMet known slots = (place : ℕ) → Says slots place → IsMet known place

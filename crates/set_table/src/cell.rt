@@ -1,0 +1,224 @@
+//! What stands behind a place's lock.
+
+ghost use Rattle.std.specs.Prelude.{◌≡◌, ◌<◌, ◌≤◌, ◌^◌, ◌↔◌, length, None, IfOk, IfErr, IfSome, OnErr, IsSome, IsTrue, MatchResult};
+ghost use Rattle.std.proofs.Math.ListN.{get_or, set};
+ghost use Rattle.std.specs.FinMap as map;
+ghost use Rattle.ripple_column.specs.Content.{Holds};
+ghost use Rattle.zset_core.specs.CommandMeaning.{key_of};
+ghost use Rattle.zset_core.specs.Readiness.{IsReadyFor};
+ghost use Rattle.zset_core.specs.SortedSet.{pairs};
+ghost use Rattle.set_table.specs.CellStates.{HasNoReading, HasRead, HasRun, InStep, IsRefused, IsWhole, WasRun, counts_of};
+ghost use Rattle.set_table.specs.TableAnswers.{IsSetRefusal};
+ghost use Rattle.set_table.specs.Tallies.{HasRoom, share_after_run, tally_after};
+
+mod step;
+
+use crate::answer::Answer;
+use crate::cell::step::take_step;
+use crate::counts::{Counts, OwnCounts, Tally};
+use crate::shares::Shares;
+use append_log::{Log, LogSink, RecordShare};
+use std::alloc::{AllocError, Allocator};
+use std::hash::BuildHasher;
+use std::marker::Model;
+use std::sync::ledger::Ledger;
+use std::sync::{Mutex, Wait};
+use zset_core::{Command, Refusal, ZSet};
+
+/// What stands behind a place's lock: a sorted set, the members that it had at opening, for each
+/// pass a tally of what it was answered here, and how many records were appended for the set's
+/// changes. The members are those at opening and what the passes were told since.
+#[derive(Drop)]
+pub struct Cell<H: BuildHasher, L: Ledger, A: Allocator + Copy> {
+    place: usize,
+    sorted_set: ZSet<H, A>,
+    opened: u64,
+    max_runs: u64,
+    tallies: Vec<Tally, A>,
+    total: Tally,
+    share: RecordShare<L>,
+    // The last field: with it first the search for what threads may share gives up.
+    alloc: A,
+}
+
+impl<H: BuildHasher, L: Ledger, A: Allocator + Copy> Model for Cell<H, L, A> {
+    ghost use Rattle.std.specs.Prelude.{◌≡◌};
+    ghost use Rattle.set_table.specs.CellStates.{CellView, IsWhole};
+    ghost use Rattle.set_table.specs.Tallies.{total_of};
+
+    ghost Value = { CellView };
+
+    ghost use Rattle.std.specs.Coded.{codes};
+    ghost use Rattle.zset_core.specs.Views.{coded_members};
+
+    ghost coded = { Prim.hlevel (codes, coded_members) };
+
+    ghost view = { λ c. record { place = c.place; sorted_set = c.sorted_set; opened = c.opened; max_runs = c.max_runs; tallies = c.tallies.items; appended = c.share } };
+
+    ghost invariant = { λ c. IsWhole (record { place = c.place; sorted_set = c.sorted_set; opened = c.opened; max_runs = c.max_runs; tallies = c.tallies.items; appended = c.share }) × (c.total ≡ total_of c.tallies.items) };
+}
+
+impl<H: BuildHasher + Drop, L: Ledger, A: Allocator + Copy> Cell<H, L, A> {
+    /// A cell of which no pass was told anything yet.
+    pub(crate) fn new(
+        alloc: A,
+        place: usize,
+        sorted_set: ZSet<H, A>,
+        max_runs: u64,
+        passes: usize,
+        share: RecordShare<L>,
+    ) -> Result<Self, AllocError>
+        requires idle { sorted_set.next ≡ None }
+        requires max_runs { max_runs ≤ 2 ^ 40 }
+    {
+        let opened = sorted_set.card() as u64;
+        let none = Tally {
+            runs: 0,
+            added: 0,
+            removed: 0,
+        };
+        let tallies = Vec::from_elem(alloc, none, passes)?;
+        Ok(Cell {
+            place,
+            sorted_set,
+            opened,
+            max_runs,
+            tallies,
+            total: none,
+            share,
+            alloc,
+        })
+    }
+}
+
+impl<H: BuildHasher, L: Ledger, A: Allocator + Copy> Cell<H, L, A> {
+    /// Runs a command, and tells the pass of it: members, tally and shares move by the same
+    /// numbers.
+    ///
+    /// # Errors
+    ///
+    /// Members, tallies, shares and the log's count stay. [`Refusal::OutOfStep`] exactly where the
+    /// cell and the pass's shares tell different numbers; then [`Refusal::Spent`] exactly where as
+    /// many runs were answered as may be; then those of the command: [`Refusal::ScoreOverflow`];
+    /// [`Refusal::LogBroken`], [`Refusal::LogFull`] or [`Refusal::LogRefused`] where it would
+    /// change the set and its record was not appended; [`Refusal::NoMemory`].
+    pub fn run<'c, S: LogSink, R: Wait>(
+        &mut self,
+        rt: &R,
+        command: &'c Command<A>,
+        shares: &mut Shares,
+        log: &Mutex<Log<S, L>>,
+    ) -> Result<Answer<'c, A>, Refusal>
+        requires keyed { IsSome (key_of command.now.meaning) }
+        ensures ok { IfOk result
+            (λ answer. HasRun self.old self.new shares.old shares.new command.now answer) }
+        ensures err { IfErr result
+            (λ refusal. IsRefused self.old self.new shares.old shares.new command.now refusal) }
+        // The same to a caller who sees the shares and not the cell.
+        ensures told { IfOk result (λ answer. WasRun shares.old shares.new command.now answer) }
+        ensures not_told { OnErr result (shares.new ≡ shares.old) }
+        ensures refused { IfErr result IsSetRefusal }
+    {
+        if !self.is_in_step(shares) {
+            return Err(Refusal::OutOfStep);
+        }
+        if self.total.runs >= self.max_runs {
+            return Err(Refusal::Spent);
+        }
+        let found = self.found();
+        let (reply, own) = take_step(
+            rt,
+            self.alloc,
+            &mut self.sorted_set,
+            &mut self.share,
+            log,
+            command,
+        )?;
+        count_run(&mut self.total, &mut self.tallies, shares, own);
+        Ok(Answer::new(command, self.place, reply, found, own))
+    }
+
+    /// Answers a command that reads, where the set can answer it as it stands: so the cell may be
+    /// behind a lock that other readers share. None for a command that changes sets, and where the
+    /// set's column isn't ready for a range.
+    ///
+    /// # Errors
+    ///
+    /// [`Refusal::OutOfStep`] exactly where the cell and the pass's shares tell different numbers,
+    /// then [`Refusal::NoMemory`].
+    pub fn ready<'c>(
+        &self,
+        command: &'c Command<A>,
+        shares: &Shares,
+    ) -> Option<Result<Answer<'c, A>, Refusal>>
+        requires keyed { IsSome (key_of command.now.meaning) }
+        ensures some { IsSome result ↔ IsReadyFor self.now.sorted_set.column command.now.meaning }
+        ensures read { IfSome result (λ read. MatchResult read
+            (λ answer. HasRead self.now shares.now command.now answer)
+            (λ refusal. HasNoReading refusal self.now shares.now)) }
+    {
+        let answer = self.sorted_set.ready(command)?;
+        if !self.is_in_step(shares) {
+            return Some(Err(Refusal::OutOfStep));
+        }
+        match answer {
+            Err(_) => Some(Err(Refusal::NoMemory)),
+            Ok(reply) => {
+                let own = OwnCounts::none();
+                Some(Ok(Answer::new(command, self.place, reply, self.found(), own)))
+            }
+        }
+    }
+
+    /// A law: what holds of every cell whose lock is free. The body reads nothing.
+    pub fn whole(&self)
+        ensures whole { IsWhole self.now }
+        ensures content { Holds self.now.sorted_set.column (pairs self.now.sorted_set.members) }
+    {
+        let _column = self.sorted_set.column();
+    }
+
+    /// Whether the cell and a pass's shares tell the same numbers.
+    pub(crate) fn is_in_step(&self, shares: &Shares) -> bool
+        ensures { IsTrue result ↔ InStep self.now shares.now }
+    {
+        self.place == shares.place
+            && self.opened == shares.opened
+            && match self.tallies.get(shares.pass) {
+                Some(tally) => *tally == shares.tally,
+                None => false,
+            }
+    }
+
+    /// The counts that a command finds.
+    fn found(&self) -> Counts
+        ensures { result ≡ counts_of self.now }
+    {
+        Counts {
+            opened: self.opened,
+            added: self.total.added,
+            removed: self.total.removed,
+        }
+    }
+}
+
+/// Counts a run for the cell and for the pass.
+fn count_run<A: Allocator>(
+    total: &mut Tally,
+    tallies: &mut Vec<Tally, A>,
+    shares: &mut Shares,
+    own: OwnCounts,
+)
+    requires within { shares.old.pass < length tallies.old.items }
+    requires total { HasRoom total.old own }
+    requires shares { HasRoom shares.old.tally own }
+    ensures total { total.new ≡ tally_after total.old own }
+    ensures tallies { tallies.new.items
+        ≡ set tallies.old.items shares.old.pass (tally_after shares.old.tally own) }
+    ensures shares { shares.new ≡ share_after_run shares.old own }
+{
+    let tally = shares.tally.after(own);
+    *total = total.after(own);
+    tallies[shares.pass] = tally;
+    shares.tally = tally;
+}

@@ -1,0 +1,114 @@
+//! One command on a cell's set, its record appended before the set becomes another.
+
+ghost use Rattle.std.specs.Prelude.{◌≡◌, None, false, IfOk, IfErr, OnOk, OnErr, IsSome, IsTrue};
+ghost use Rattle.resp_wire.specs.Response.{response_of};
+ghost use Rattle.zset_core.specs.CommandMeaning.{key_of, is_writing};
+ghost use Rattle.zset_core.specs.Views.{IsPreparedFor};
+ghost use Rattle.append_log.specs.Log.{share_after};
+ghost use Rattle.set_table.specs.SetSteps.{IsAppendRefusal, IsHindered, IsLogged, Stepped};
+
+use crate::counts::OwnCounts;
+use append_log::{Log, LogSink, Record, RecordShare};
+use resp_wire::Reply;
+use std::alloc::{AllocError, Allocator};
+use std::hash::BuildHasher;
+use std::sync::ledger::Ledger;
+use std::sync::{Mutex, Wait};
+use zset_core::{Command, Refusal, ZSet};
+
+/// Runs a command on a set. Where the set becomes another, its record is appended first, under the
+/// log's lock. Refused: set and share stay.
+pub(crate) fn take_step<R: Wait, H: BuildHasher, S: LogSink, L: Ledger, A: Allocator + Copy>(
+    rt: &R,
+    alloc: A,
+    set: &mut ZSet<H, A>,
+    share: &mut RecordShare<L>,
+    log: &Mutex<Log<S, L>>,
+    command: &Command<A>,
+) -> Result<(Reply<A>, OwnCounts), Refusal>
+    requires idle { set.old.next ≡ None }
+    requires keyed { IsSome (key_of command.now.meaning) }
+    ensures idle { set.new.next ≡ None }
+    ensures ok { IfOk result (λ done. Stepped set.old.members set.new.members command.now
+        (response_of done.0) done.1) }
+    ensures logged { OnOk result (IsLogged set.old.members set.new.members share.old share.new) }
+    ensures err { OnErr result ((set.new.members ≡ set.old.members) × (share.new ≡ share.old)) }
+    ensures cause { IfErr result (λ refusal. IsHindered refusal set.old.members command.now) }
+{
+    if command.writes() {
+        change(rt, alloc, set, share, log, command)
+    } else {
+        Ok(read(set, command)?)
+    }
+}
+
+/// Runs a command that changes sets: prepares it, appends its record where the set will change,
+/// commits it.
+fn change<R: Wait, H: BuildHasher, S: LogSink, L: Ledger, A: Allocator + Copy>(
+    rt: &R,
+    alloc: A,
+    set: &mut ZSet<H, A>,
+    share: &mut RecordShare<L>,
+    log: &Mutex<Log<S, L>>,
+    command: &Command<A>,
+) -> Result<(Reply<A>, OwnCounts), Refusal>
+    requires idle { set.old.next ≡ None }
+    requires writing { IsTrue (is_writing command.now.meaning) }
+    ensures idle { set.new.next ≡ None }
+    ensures ok { IfOk result (λ done. Stepped set.old.members set.new.members command.now
+        (response_of done.0) done.1) }
+    ensures logged { OnOk result (IsLogged set.old.members set.new.members share.old share.new) }
+    ensures err { OnErr result ((set.new.members ≡ set.old.members) × (share.new ≡ share.old)) }
+    ensures cause { IfErr result (λ refusal. IsHindered refusal set.old.members command.now) }
+{
+    let outline = set.prepare(command)?;
+    if outline.changed {
+        if let Err(refusal) = append(rt, alloc, set, share, log, command) {
+            set.drop_prepared();
+            return Err(refusal);
+        }
+    }
+    let reply = set.commit();
+    Ok((
+        reply,
+        OwnCounts {
+            added: outline.added as u64,
+            removed: outline.removed as u64,
+        },
+    ))
+}
+
+/// Appends the record of the command that a set has prepared, under the log's lock.
+fn append<R: Wait, H: BuildHasher, S: LogSink, L: Ledger, A: Allocator + Copy>(
+    rt: &R,
+    alloc: A,
+    set: &ZSet<H, A>,
+    share: &mut RecordShare<L>,
+    log: &Mutex<Log<S, L>>,
+    command: &Command<A>,
+) -> Result<(), Refusal>
+    requires writing { IsTrue (is_writing command.now.meaning) }
+    requires prepared { IsPreparedFor set.now.members command.now.meaning set.now.next }
+    ensures share { share.new ≡ share_after share.old result }
+    ensures err { IfErr result IsAppendRefusal }
+{
+    let record = Record::of(alloc, command, set)?;
+    log.lock(rt).append(share, &record)
+}
+
+/// Runs a command that reads. Its column may merge and crack for it.
+fn read<H: BuildHasher, A: Allocator + Copy>(
+    set: &mut ZSet<H, A>,
+    command: &Command<A>,
+) -> Result<(Reply<A>, OwnCounts), AllocError>
+    requires idle { set.old.next ≡ None }
+    requires reading { is_writing command.now.meaning ≡ false }
+    requires keyed { IsSome (key_of command.now.meaning) }
+    ensures idle { set.new.next ≡ None }
+    ensures members { set.new.members ≡ set.old.members }
+    ensures ok { IfOk result (λ done. Stepped set.old.members set.old.members command.now
+        (response_of done.0) done.1) }
+{
+    let reply = set.answer(command)?;
+    Ok((reply, OwnCounts::none()))
+}

@@ -1,0 +1,26 @@
+//! Sorted sets behind locks of their own, which threads share, and what each worker was told of
+//! them.
+//!
+//! A table has places. A place bears a key's name, which is set once and read without a lock, and
+//! has a cell: a sorted set behind a lock, which alone runs the set's commands. Each worker has a
+//! pass: what it knows of the names, and in numbers what it was answered at each place. Where a
+//! cell and a pass tell different numbers the command is refused, so that at the end the numbers of
+//! all passes add up to what became of the sets.
+#![tactic(auto)]
+
+mod answer;
+mod cell;
+mod counts;
+mod gate;
+mod naming;
+mod pass;
+mod shares;
+mod table;
+
+pub use answer::Answer;
+pub use cell::Cell;
+pub use counts::{Counts, OwnCounts};
+pub use gate::{Gate, NoGate};
+pub use pass::Pass;
+pub use shares::Shares;
+pub use table::{Answered, Table};

@@ -1,0 +1,7 @@
+//! The places' names: each is set once, by whoever claims the place first, and read without a lock.
+
+pub(crate) mod knowledge;
+pub(crate) mod memory;
+pub(crate) mod name;
+pub(crate) mod names;
+pub(crate) mod notes;

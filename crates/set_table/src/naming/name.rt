@@ -1,0 +1,51 @@
+//! A key as a place's name, and where its walk begins.
+
+ghost use Rattle.std.specs.Prelude.{◌≡◌, ◌↔◌, ◌<◌, ◌^◌, List, ℕ, IfOk, IsTrue};
+ghost use Rattle.set_table.specs.Naming.{hash_from};
+
+use std::alloc::{AllocError, Global};
+use std::marker::Model;
+
+/// A key that a place bears as its name. A contract sees its bytes.
+#[derive(Drop)]
+pub(crate) struct Name {
+    bytes: Vec<u8>,
+}
+
+impl Model for Name {
+    ghost use Rattle.std.specs.Prelude.{List, ℕ};
+
+    ghost Value = { List ℕ };
+
+    ghost view = { λ n. n.bytes.items };
+}
+
+impl Name {
+    /// The name that has this key's bytes.
+    pub(crate) fn of(alloc: Global, key: &[u8]) -> Result<Self, AllocError>
+        ensures { IfOk result (λ name. name ≡ key.now) }
+    {
+        Ok(Name {
+            bytes: Vec::from_slice(alloc, key)?,
+        })
+    }
+
+    /// Whether it is this key.
+    pub(crate) fn is(&self, key: &[u8]) -> bool
+        ensures { IsTrue result ↔ (self.now ≡ key.now) }
+    {
+        self.bytes.as_slice() == key
+    }
+}
+
+/// A key's hash, which says where its walk over the places begins.
+pub(crate) fn hash(key: &[u8]) -> u64
+    ensures value { result ≡ hash_from 7 key.now }
+    ensures fits { result < 2 ^ 32 }
+{
+    let mut hash: u64 = 7;
+    for byte in key {
+        hash = (31 * hash + u64::from(*byte)) % (1 << 32);
+    }
+    hash
+}

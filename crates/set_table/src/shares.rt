@@ -1,0 +1,40 @@
+//! What a pass was answered at one place.
+
+ghost use Rattle.std.specs.Prelude.{◌≡◌};
+ghost use Rattle.set_table.specs.Tallies.{empty_tally};
+
+use crate::counts::Tally;
+use std::marker::Model;
+
+/// What a pass was answered at one place, which its cell tells too. A table makes them when it is
+/// opened, and they can't be cloned: else a pass could forget what it was answered.
+#[derive(Drop)]
+pub struct Shares {
+    pub(crate) place: usize,
+    pub(crate) pass: usize,
+    pub(crate) opened: u64,
+    pub(crate) tally: Tally,
+}
+
+impl Model for Shares {
+    ghost use Rattle.set_table.specs.Tallies.{ShareView};
+
+    ghost Value = { ShareView };
+
+    ghost view = { λ s. record { place = s.place; pass = s.pass; opened = s.opened; tally = s.tally } };
+}
+
+impl Shares {
+    /// Those of a pass at a place that had so many members at opening, before any run.
+    pub(crate) fn new(place: usize, pass: usize, opened: u64) -> Self
+        ensures { result
+            ≡ record { place = place; pass = pass; opened = opened; tally = empty_tally } }
+    {
+        Shares {
+            place,
+            pass,
+            opened,
+            tally: Tally::empty(),
+        }
+    }
+}

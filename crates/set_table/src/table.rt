@@ -1,0 +1,226 @@
+//! Sets behind locks of their own, found by names that are set once.
+
+ghost use Rattle.std.specs.Prelude.{◌≡◌, ◌<◌, false, length, IfOk, IfErr, IfSome, OnErr, IsSome, MatchOption};
+ghost use Rattle.zset_core.specs.CommandMeaning.{key_of, is_writing};
+ghost use Rattle.set_table.specs.Naming.{Grows, IsPlace};
+ghost use Rattle.set_table.specs.PassStates.{IsPassOf, WasAnswered};
+ghost use Rattle.set_table.specs.TableAnswers.{HasNoPlace, IsAnswered, IsClaimRefusal, IsSetRefusal, IsTableRefusal};
+
+use crate::answer::Answer;
+use crate::cell::Cell;
+use crate::gate::Gate;
+use crate::naming::names::{ClaimFault, Names};
+use crate::pass::Pass;
+use append_log::{Log, LogSink};
+use resp_wire::Reply;
+use std::alloc::Allocator;
+use std::hash::BuildHasher;
+use std::marker::Model;
+use std::sync::ledger::Ledger;
+use std::sync::{Mutex, RwLock, Wait};
+use zset_core::{Command, Refusal};
+
+/// Sorted sets behind locks of their own. A set's lock is taken exclusively by a command that
+/// changes sets or makes the set's column ready, and shared by readers; the log's lock is taken
+/// only inside a set's. Names take no lock.
+#[derive(Drop)]
+pub struct Table<H: BuildHasher, S: LogSink, L: Ledger, A: Allocator + Copy> {
+    names: Names,
+    cells: Vec<RwLock<Cell<H, L, A>>, A>,
+    opened: Vec<u64, A>,
+    log: Mutex<Log<S, L>>,
+    passes: usize,
+    max_runs: u64,
+    records_before: u64,
+    // The last field, as in a cell.
+    alloc: A,
+}
+
+impl<H: BuildHasher, S: LogSink, L: Ledger, A: Allocator + Copy> Model for Table<H, S, L, A> {
+    ghost use Rattle.std.specs.Prelude.{◌≡◌, ◌<◌, ◌≤◌, length};
+    ghost use Rattle.set_table.specs.PassStates.{TableView};
+
+    ghost Value = { TableView };
+
+    ghost view = { λ t. record { cells = t.names; opened = t.opened.items; passes = t.passes; max_runs = t.max_runs; records_before = t.records_before } };
+
+    ghost invariant = { λ t. (length t.names ≡ length t.opened.items) × (length t.cells.items ≡ length t.opened.items) × (0 < length t.names) × (length t.names ≤ 4096) };
+}
+
+/// What a table answers to a command.
+#[derive(Drop)]
+pub enum Answered<'c, A: Allocator> {
+    /// The answer of the place that the command's key has.
+    Ran(Answer<'c, A>),
+    /// The reply to PING; or that of an empty set, to a command that makes none and for whose key no
+    /// place was found. Of such a key it is promised that the pass knew no place for it.
+    NoPlace(Reply<A>),
+}
+
+impl<H: BuildHasher, S: LogSink, L: Ledger, A: Allocator + Copy> Table<H, S, L, A> {
+    /// The key's place, looked for in what the pass knows and then among the table's names. It waits
+    /// for nobody. None promises only that the pass did not know it: another worker may name a place
+    /// at any time.
+    pub fn find(&self, pass: &mut Pass<A>, key: &[u8]) -> Option<usize>
+        requires own { IsPassOf self.now pass.old }
+        ensures own { IsPassOf self.now pass.new }
+        ensures rest { (pass.new.number ≡ pass.old.number) × (pass.new.shares ≡ pass.old.shares) }
+        ensures grows { Grows pass.old.notes.known pass.new.notes.known }
+        ensures found { MatchOption result (HasNoPlace pass.old key.now)
+            (λ place. IsPlace pass.new.notes.known key.now place) }
+    {
+        self.names.find(&mut pass.knowledge, key)
+    }
+
+    /// The key's place, which is given one where it has none. It waits for nobody.
+    ///
+    /// # Errors
+    ///
+    /// [`Refusal::TableFull`] where every place bears another key's name; [`Refusal::NoMemory`].
+    pub fn claim(&self, pass: &mut Pass<A>, key: &[u8]) -> Result<usize, Refusal>
+        requires own { IsPassOf self.now pass.old }
+        ensures own { IsPassOf self.now pass.new }
+        ensures rest { (pass.new.number ≡ pass.old.number) × (pass.new.shares ≡ pass.old.shares) }
+        ensures grows { Grows pass.old.notes.known pass.new.notes.known }
+        ensures ok { IfOk result (λ place. IsPlace pass.new.notes.known key.now place) }
+        ensures err { IfErr result (λ refusal. IsClaimRefusal pass.new key.now refusal) }
+    {
+        match self.names.claim(&mut pass.knowledge, key) {
+            Ok(place) => Ok(place),
+            Err(ClaimFault::NoMemory) => Err(Refusal::NoMemory),
+            Err(ClaimFault::TableFull) => Err(Refusal::TableFull),
+        }
+    }
+
+    /// Runs a command at its key's place. Where the key has none yet, a command that creates gives it
+    /// one, and any other gets the reply of an empty set, as PING gets its own. A command that reads is
+    /// asked under the shared lock first.
+    ///
+    /// # Errors
+    ///
+    /// The pass's shares stay. [`Refusal::TableFull`] where a command that creates finds no place;
+    /// then those of [`Cell::run`] and [`Cell::ready`]; [`Refusal::NoMemory`].
+    pub fn run<'c, R: Wait, G: Gate>(
+        &self,
+        rt: &R,
+        pass: &mut Pass<A>,
+        command: &'c Command<A>,
+        gate: &G,
+    ) -> Result<Answered<'c, A>, Refusal>
+        requires own { IsPassOf self.now pass.old }
+        ensures own { IsPassOf self.now pass.new }
+        ensures number { pass.new.number ≡ pass.old.number }
+        ensures grows { Grows pass.old.notes.known pass.new.notes.known }
+        ensures ok { IfOk result
+            (λ answered. IsAnswered self.now pass.old pass.new command.now answered) }
+        ensures err { OnErr result (pass.new.shares ≡ pass.old.shares) }
+        ensures refused { IfErr result
+            (λ refusal. IsTableRefusal command.now.meaning pass.new refusal) }
+    {
+        let Some(key) = command.key() else {
+            return Ok(Answered::NoPlace(command.reply_without_set(self.alloc)?));
+        };
+        match self.place_of(pass, key, command.creates())? {
+            Some(place) => Ok(Answered::Ran(self.answer_at(rt, pass, place, command, gate)?)),
+            None => Ok(Answered::NoPlace(command.reply_without_set(self.alloc)?)),
+        }
+    }
+
+    /// The key's place, which is given one where it has none and the command creates.
+    fn place_of(
+        &self,
+        pass: &mut Pass<A>,
+        key: &[u8],
+        creates: bool,
+    ) -> Result<Option<usize>, Refusal>
+        requires own { IsPassOf self.now pass.old }
+        ensures own { IsPassOf self.now pass.new }
+        ensures rest { (pass.new.number ≡ pass.old.number) × (pass.new.shares ≡ pass.old.shares) }
+        ensures grows { Grows pass.old.notes.known pass.new.notes.known }
+        ensures ok { IfOk result
+            (λ found. MatchOption found ((creates ≡ false) × HasNoPlace pass.old key.now)
+            (λ place. IsPlace pass.new.notes.known key.now place)) }
+        ensures err { IfErr result (λ refusal. IsClaimRefusal pass.new key.now refusal) }
+    {
+        if creates {
+            return Ok(Some(self.claim(pass, key)?));
+        }
+        Ok(self.find(pass, key))
+    }
+
+    /// Answers at a place: under the shared lock where the set can as it stands, else under the
+    /// exclusive one.
+    fn answer_at<'c, R: Wait, G: Gate>(
+        &self,
+        rt: &R,
+        pass: &mut Pass<A>,
+        place: usize,
+        command: &'c Command<A>,
+        gate: &G,
+    ) -> Result<Answer<'c, A>, Refusal>
+        requires own { IsPassOf self.now pass.old }
+        requires within { place < length self.now.opened }
+        requires keyed { IsSome (key_of command.now.meaning) }
+        ensures own { IsPassOf self.now pass.new }
+        ensures rest { (pass.new.number ≡ pass.old.number) × (pass.new.notes ≡ pass.old.notes) }
+        ensures ok { IfOk result (λ answer. WasAnswered self.now.opened pass.old.shares
+            pass.new.shares place command.now answer) }
+        ensures err { OnErr result (pass.new ≡ pass.old) }
+        ensures refused { IfErr result IsSetRefusal }
+    {
+        if !command.writes() {
+            if let Some(answer) = self.read_at(rt, pass, place, command, gate) {
+                return answer;
+            }
+        }
+        self.run_at(rt, pass, place, command, gate)
+    }
+
+    /// Asks a place's cell under its shared lock.
+    fn read_at<'c, R: Wait, G: Gate>(
+        &self,
+        rt: &R,
+        pass: &Pass<A>,
+        place: usize,
+        command: &'c Command<A>,
+        gate: &G,
+    ) -> Option<Result<Answer<'c, A>, Refusal>>
+        requires own { IsPassOf self.now pass.now }
+        requires within { place < length self.now.opened }
+        requires keyed { IsSome (key_of command.now.meaning) }
+        requires reading { is_writing command.now.meaning ≡ false }
+        ensures ok { IfSome result
+            (λ read. IfOk read (λ answer. WasAnswered self.now.opened pass.now.shares
+            pass.now.shares place command.now answer)) }
+        ensures refused { IfSome result (λ read. IfErr read IsSetRefusal) }
+    {
+        let cell = self.cells[place].read(rt);
+        gate.inside(place);
+        cell.ready(command, &pass.shares[place])
+    }
+
+    /// Runs a command at a place's cell under its exclusive lock.
+    fn run_at<'c, R: Wait, G: Gate>(
+        &self,
+        rt: &R,
+        pass: &mut Pass<A>,
+        place: usize,
+        command: &'c Command<A>,
+        gate: &G,
+    ) -> Result<Answer<'c, A>, Refusal>
+        requires own { IsPassOf self.now pass.old }
+        requires within { place < length self.now.opened }
+        requires keyed { IsSome (key_of command.now.meaning) }
+        ensures own { IsPassOf self.now pass.new }
+        ensures rest { (pass.new.number ≡ pass.old.number) × (pass.new.notes ≡ pass.old.notes) }
+        ensures ok { IfOk result (λ answer. WasAnswered self.now.opened pass.old.shares
+            pass.new.shares place command.now answer) }
+        ensures err { OnErr result (pass.new ≡ pass.old) }
+        ensures refused { IfErr result IsSetRefusal }
+    {
+        let shares = &mut pass.shares[place];
+        let mut cell = self.cells[place].write(rt);
+        gate.inside(place);
+        cell.run(rt, command, shares, &self.log)
+    }
+}

@@ -1,0 +1,330 @@
+//! Sets beside plain ones: what a plain list of members replies, a set replies, however it is cracked.
+
+ghost use Rattle.std.specs.Prelude.{◌≡◌, None};
+
+use crate::columns::{Set, run};
+use crate::examples::{command, text_of};
+use std::alloc::Global;
+use std::collections::BTreeMap;
+use std::hash::RandomState;
+use std::process::Abort;
+use std::test::*;
+use zset_core::ZSet;
+
+// A plain set: scores of members, each of which is named by a number.
+type Plain = BTreeMap<u64, i64, Global>;
+
+// What is asked for: scores above `low` and up to `high`.
+#[derive(Clone, Copy)]
+struct Question {
+    low: i64,
+    high: i64,
+    with_scores: bool,
+    limit: Option<(i64, i64)>,
+}
+
+// The pairs of a plain set that are asked for, in their order, LIMIT aside.
+fn plain_rows(alloc: Global, plain: &Plain, asked: &Question) -> Result<Vec<(i64, String)>, Fail> {
+    let mut rows = Vec::new(alloc);
+    for (member, score) in plain {
+        if asked.low < *score && *score <= asked.high {
+            rows.push((*score, format!(in alloc; "m{member}")?))?;
+        }
+    }
+    rows.sort()?;
+    Ok(rows)
+}
+
+// Whether LIMIT wants the pair of a rank.
+fn is_wanted(rank: i64, limit: Option<(i64, i64)>) -> bool {
+    match limit {
+        None => true,
+        Some((offset, count)) => {
+            let behind = rank.wrapping_sub(offset);
+            offset >= 0 && behind >= 0 && (count < 0 || behind < count)
+        }
+    }
+}
+
+// The text of ZRANGEBYSCORE.
+fn listing_text(alloc: Global, asked: &Question) -> Result<String, Fail> {
+    let Question {
+        low,
+        high,
+        with_scores,
+        limit,
+    } = *asked;
+    let scores = if with_scores { " WITHSCORES" } else { "" };
+    Ok(match limit {
+        None => format!(in alloc; "ZRANGEBYSCORE k ({low} {high}{scores}")?,
+        Some((offset, count)) => {
+            format!(in alloc; "ZRANGEBYSCORE k ({low} {high}{scores} LIMIT {offset} {count}")?
+        }
+    })
+}
+
+// The reply to it, an end of line as `~`.
+fn listing_reply(alloc: Global, rows: &[(i64, String)], asked: &Question) -> Result<String, Fail> {
+    let mut elements = 0u64;
+    let mut text = String::new(alloc);
+    for (rank, (score, name)) in rows.iter().enumerate() {
+        if !is_wanted(rank as i64, asked.limit) {
+            continue;
+        }
+        elements = elements.wrapping_add(1);
+        text.push_str(format!(in alloc; "${}~{name}~", name.len())?.as_str())?;
+        if asked.with_scores {
+            elements = elements.wrapping_add(1);
+            let score = format!(in alloc; "{score}")?;
+            text.push_str(format!(in alloc; "${}~{score}~", score.len())?.as_str())?;
+        }
+    }
+    Ok(format!(in alloc; "*{elements}~{text}")?)
+}
+
+// Asks a set, and asks it again as it stands then: both replies are those of the plain set.
+fn expect_listing<R: Abort>(
+    rt: &R,
+    alloc: Global,
+    set: &mut Set,
+    plain: &Plain,
+    asked: &Question,
+) -> Result<(), Fail>
+    requires { set.old.next ≡ None }
+    ensures { set.new.next ≡ None }
+{
+    let rows = plain_rows(alloc, plain, asked)?;
+    let want = listing_reply(alloc, rows.as_slice(), asked)?;
+    let text = listing_text(alloc, asked)?;
+    let told = run(alloc, set, text.as_str())?;
+    assert_eq!(rt; text_of(alloc, &told)?, want, "{text}");
+    let command = command(alloc, text.as_str())?;
+    if command.key().is_none() {
+        Err("no key")?;
+    }
+    let again = set.ready(&command).ok_or("not ready")??;
+    assert_eq!(rt; text_of(alloc, &again)?, want, "{text}");
+    Ok(())
+}
+
+// A set of 20 members with 10 scores, and the same plain.
+fn twenty(alloc: Global, set: &mut Set) -> Result<Plain, Fail>
+    requires { set.old.next ≡ None }
+    ensures { set.new.next ≡ None }
+{
+    let mut plain = BTreeMap::new(alloc);
+    for member in 0..20u64 {
+        let score = (member * 7 % 10) as i64;
+        let text = format!(in alloc; "ZADD k {score} m{member}")?;
+        run(alloc, set, text.as_str())?;
+        plain.insert(member, score)?;
+    }
+    Ok(plain)
+}
+
+#[test]
+fn windows_are_cut_out_of_the_listing(rt: HostRuntime) -> Result<(), Fail> {
+    let alloc = rt.alloc();
+    let mut set = ZSet::with_hasher(alloc, RandomState::new(&rt)?);
+    let plain = twenty(alloc, &mut set)?;
+    for crack in ["ZCARD k", "ZCOUNT k 2 4", "ZCOUNT k (6 8"] {
+        run(alloc, &mut set, crack)?;
+        for offset in -2..23 {
+            for count in -2..23 {
+                let asked = Question {
+                    low: -1,
+                    high: 9,
+                    with_scores: false,
+                    limit: Some((offset, count)),
+                };
+                expect_listing(&rt, alloc, &mut set, &plain, &asked)?;
+            }
+        }
+    }
+    Ok(())
+}
+
+// The next of a row of numbers below 2^31 (the generator of Park and Miller).
+fn next(number: u64) -> u64 {
+    number.wrapping_mul(48271) % 2147483647
+}
+
+// How many members and scores a set has.
+#[derive(Clone, Copy)]
+struct Extent {
+    members: u64,
+    scores: u64,
+}
+
+impl Extent {
+    // A member, by a number.
+    fn member(&self, number: u64) -> u64 {
+        number.checked_rem(self.members).unwrap_or(0)
+    }
+
+    // A score, by a number.
+    fn score(&self, number: u64) -> i64 {
+        i64::try_from(number.checked_rem(self.scores).unwrap_or(0)).unwrap_or(0)
+    }
+}
+
+// A change, by a number, of a plain set; and the command that makes it.
+fn random_change(
+    alloc: Global,
+    plain: &mut Plain,
+    number: u64,
+    extent: &Extent,
+) -> Result<String, Fail> {
+    let member = extent.member(number / 8);
+    let score = extent.score(number / 128);
+    Ok(match number % 4 {
+        0 => {
+            plain.remove(&member);
+            format!(in alloc; "ZREM k m{member}")?
+        }
+        1 => {
+            let old = plain.get(&member).copied().unwrap_or(0);
+            plain.insert(member, old.wrapping_add(7))?;
+            format!(in alloc; "ZADD k INCR 7 m{member}")?
+        }
+        2 => {
+            if plain.contains_key(&member) {
+                plain.insert(member, score)?;
+            }
+            format!(in alloc; "ZADD k XX {score} m{member}")?
+        }
+        _ => {
+            let other = extent.member(number / 4096);
+            plain.insert(member, score)?;
+            plain.insert(other, 3)?;
+            format!(in alloc; "ZADD k {score} m{member} 3 m{other}")?
+        }
+    })
+}
+
+// What is asked for, by a number.
+fn random_question(number: u64) -> Question {
+    let low = (number / 65536 % 24) as i64;
+    let offset = (number / 64 % 9) as i64;
+    let count = (number / 1024 % 9) as i64;
+    Question {
+        low,
+        high: low + 6,
+        with_scores: number % 3 == 0,
+        limit: if number % 2 == 0 {
+            None
+        } else {
+            Some((offset - 1, count - 1))
+        },
+    }
+}
+
+// Counts a range of a set, as the plain set has it.
+fn expect_count<R: Abort>(
+    rt: &R,
+    alloc: Global,
+    set: &mut Set,
+    plain: &Plain,
+    asked: &Question,
+) -> Result<(), Fail>
+    requires { set.old.next ≡ None }
+    ensures { set.new.next ≡ None }
+{
+    let rows = plain_rows(alloc, plain, asked)?;
+    let want = format!(in alloc; ":{}~", rows.len())?;
+    let text = format!(in alloc; "ZCOUNT k ({} {}", asked.low, asked.high)?;
+    let told = run(alloc, set, text.as_str())?;
+    assert_eq!(rt; text_of(alloc, &told)?, want, "{text}");
+    Ok(())
+}
+
+#[test]
+fn random_commands_agree_with_a_plain_set(rt: HostRuntime) -> Result<(), Fail> {
+    let alloc = rt.alloc();
+    let mut set = ZSet::with_hasher(alloc, RandomState::new(&rt)?);
+    let mut plain = BTreeMap::new(alloc);
+    let extent = Extent {
+        members: 12,
+        scores: 20,
+    };
+    let mut number = 1;
+    for _ in 0..3000u32 {
+        number = next(number);
+        let text = random_change(alloc, &mut plain, number, &extent)?;
+        run(alloc, &mut set, text.as_str())?;
+        number = next(number);
+        let asked = random_question(number);
+        expect_listing(&rt, alloc, &mut set, &plain, &asked)?;
+        number = next(number);
+        let asked = random_question(number);
+        expect_count(&rt, alloc, &mut set, &plain, &asked)?;
+    }
+    Ok(())
+}
+
+// A big set of the members from 0 on, and the same plain.
+fn big(alloc: Global, set: &mut Set, extent: &Extent) -> Result<Plain, Fail>
+    requires { set.old.next ≡ None }
+    ensures { set.new.next ≡ None }
+{
+    let mut plain = BTreeMap::new(alloc);
+    for member in 0..extent.members {
+        let score = extent.score(next(member + 1));
+        let text = format!(in alloc; "ZADD k {score} m{member}")?;
+        run(alloc, set, text.as_str())?;
+        plain.insert(member, score)?;
+    }
+    Ok(plain)
+}
+
+// A window of a big set, by a number: the lowest ranks, or some in the middle or behind the last.
+fn big_window(number: u64, extent: &Extent) -> Question {
+    let offset = if number % 2 == 0 {
+        0
+    } else {
+        i64::try_from(extent.member(number / 2)).unwrap_or(0)
+    };
+    Question {
+        low: -1,
+        high: 1_000_000_000,
+        with_scores: number % 3 == 0,
+        limit: Some((offset, 10)),
+    }
+}
+
+// A big set is changed, and a window of it asked for after each change.
+fn agree_on_windows<R: Abort>(
+    rt: &R,
+    alloc: Global,
+    set: &mut Set,
+    extent: &Extent,
+) -> Result<(), Fail>
+    requires { set.old.next ≡ None }
+    ensures { set.new.next ≡ None }
+{
+    let mut plain = big(alloc, set, extent)?;
+    let mut number = 1;
+    for _ in 0..6u32 {
+        number = next(number);
+        let text = random_change(alloc, &mut plain, number, extent)?;
+        run(alloc, set, text.as_str())?;
+        number = next(number);
+        let asked = big_window(number, extent);
+        expect_listing(rt, alloc, set, &plain, &asked)?;
+    }
+    Ok(())
+}
+
+#[test]
+fn windows_of_big_sets_agree_with_plain_sets(rt: HostRuntime) -> Result<(), Fail> {
+    let alloc = rt.alloc();
+    for scores in [3, 1_000_000] {
+        let mut set = ZSet::with_hasher(alloc, RandomState::new(&rt)?);
+        let extent = Extent {
+            members: 12_000,
+            scores,
+        };
+        agree_on_windows(&rt, alloc, &mut set, &extent)?;
+    }
+    Ok(())
+}
