@@ -15,4 +15,4 @@ pub mod CallerLemmas
 pub mod Fours
 pub mod Frames
 pub mod InnerPivots
-pub mod PieceCracks
+pub mod InnerCracks

@@ -3,7 +3,7 @@ use Rattle.std.specs.Prelude.{◌≡◌, ◌+◌, ◌-◌, ◌<◌, ◌≤◌, �
 use Rattle.std.specs.List.{AllWithin}
 use Rattle.crack_kernel.specs.RowBag.{Test, IsSubBag}
 use Rattle.crack_kernel.specs.Parts.{IsBelow, IsFrom, IsParted}
-use Rattle.ripple_column.specs.declared.gap.Gap.{Gap}
+use Rattle.ripple_column.specs.declared.blank_gap.Gap.{Gap}
 
 -- the row that fills a gap
 abbrev pub blank : ℤ × List ℕ

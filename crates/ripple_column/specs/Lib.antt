@@ -6,6 +6,6 @@ pub mod RangeAnswer
 pub mod BlankGap
 pub mod Merge
 pub mod RowHash
-pub mod RowMarks
+pub mod PendingFilter
 pub mod InnerPivots
-pub mod PieceCracks
+pub mod InnerCracks

@@ -13,9 +13,9 @@ ghost use Rattle.ripple_column.specs.Content.{has_score_in, KeepsContent, SameOu
 ghost use Rattle.ripple_column.specs.BlankGap.{TakenFrom};
 ghost use Rattle.ripple_column.specs.Merge.{KeepsFrame, Merges};
 
+use crate::blank_gap::Direction;
 use crate::cracked::Cracked;
 use crate::deletion_filter::DeletionFilter;
-use crate::gap::Direction;
 use crate::merge_pass::{Pass, run_pass};
 use crate::pending::Pending;
 use crack_kernel::{Pivots, Row};

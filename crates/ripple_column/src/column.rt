@@ -9,7 +9,7 @@ ghost use Rattle.ripple_column.specs.Cuts.{is_before, values};
 ghost use Rattle.ripple_column.specs.InnerPivots.{IsAmong};
 
 use crate::cracking::is_before;
-use crate::inner_pivots::narrow;
+use crate::inner_pivots::{is_wide, narrow};
 use crate::pending::{MAX_PENDING, MAX_RESERVED, Pending};
 use crate::pieces::Pieces;
 use crate::select::{select_between, settled_places};
@@ -188,9 +188,11 @@ impl<A: Allocator + Copy> Column<A> {
         select_between(&mut self.pieces, &mut self.pending, range, &first, &second)
     }
 
-    /// Lets rows change places, so that few stand between each of two places and the pivots around
-    /// it, of which some may be new inner ones. Rows stay between the pivots that are shown, and the
-    /// answers of the range stay. Without memory it leaves all as it is.
+    /// Cracks the pieces around two places near them, by inner pivots, so that mostly few rows stand
+    /// between each place and the pivots around it. How few is not promised, and any places may be given.
+    /// Rows stay between the pivots that are shown, so each answer of a range holds as before; the range
+    /// given is the one of which that is told. Where memory is refused the cracks so far stay, and no more
+    /// come.
     pub fn narrow(&mut self, range: &Range, from: usize, to: usize)
         ensures content { SameContent self.old self.new }
         ensures pivots { self.new.pivots ≡ self.old.pivots }
@@ -205,6 +207,13 @@ impl<A: Allocator + Copy> Column<A> {
         let _cuts = range.cuts();
         narrow(&mut self.pieces, from);
         narrow(&mut self.pieces, to);
+    }
+
+    /// Whether `narrow` would let fewer rows stand between one of these places and the pivots around it.
+    /// It is a hint: nothing that the column answers depends on it.
+    pub fn is_wide(&self, from: usize, to: usize) -> bool {
+        let cracked = &self.pieces.cracked;
+        is_wide(cracked, from) || is_wide(cracked, to)
     }
 
     /// The answer of `select`, where the column is ready for it: nothing waits in the range, and

@@ -3,14 +3,15 @@
 //!
 //! Where a range cuts nothing, as one from -inf to +inf, its piece would stay the whole column.
 
-ghost use Rattle.ripple_column.specs.PieceCracks.{AreCracked};
+ghost use Rattle.ripple_column.specs.InnerCracks.{AreCracked};
 
+use crate::cracked::Cracked;
 use crate::cracking::crack_at;
 use crate::pending::{PendingList, is_within};
 use crate::pieces::Pieces;
 use crate::ripple::{place_or, start_below};
 use crack_kernel::{MAX_PIVOTS, Row};
-use score_bounds::Range;
+use score_bounds::{Interval, Range};
 use std::alloc::Allocator;
 
 /// How many scores of a piece are read to find one that parts it: few beside the rows of the
@@ -103,47 +104,63 @@ fn break_piece<A: Allocator>(pieces: &mut Pieces<A>, score: i64)
     }
 }
 
-/// Cracks the piece of a row that waits, if it is coarse and the row's score is in the range.
-fn break_at<A: Allocator>(pieces: &mut Pieces<A>, row: &Row<A>, range: &Range)
+/// Cracks the piece of a row that waits, if it is coarse and the row's score is in the interval.
+fn break_at<A: Allocator>(pieces: &mut Pieces<A>, row: &Row<A>, interval: &Interval)
     ensures { AreCracked pieces.old pieces.new }
 {
-    if is_within(row, range) {
+    if is_within(row, interval) {
         break_piece(pieces, row.score());
     }
 }
 
-/// Cracks the coarse pieces of the rows that wait and have scores in the range.
+/// Cracks the coarse pieces of the rows that wait and have scores in the range. Where all rows together
+/// would not make a coarse piece, there is none.
 pub fn break_up<A: Allocator>(pieces: &mut Pieces<A>, waiting: &PendingList<A>, range: &Range)
     ensures { AreCracked pieces.old pieces.new }
 {
-    for i in 0..waiting.len() {
-        break_at(pieces, &waiting.list()[i], range);
+    let cracked = &pieces.cracked;
+    if !is_coarse(cracked.rows.len(), cracked.pivots.len()) {
+        return;
     }
+    let interval = range.interval();
+    for i in 0..waiting.len() {
+        break_at(pieces, &waiting.list()[i], &interval);
+    }
+}
+
+/// A score that parts the piece around a place near it. None where the place is an end of its piece,
+/// where the piece is short, and where its rows have one score alone.
+fn score_beside<A: Allocator>(cracked: &Cracked<A>, place: usize) -> Option<i64> {
+    let list = cracked.pivots.list();
+    let i = list.partition_point(|pivot| pivot.1 <= place);
+    if i > list.len() {
+        return None;
+    }
+    let from = start_below(list, i);
+    let to = place_or(list, i, cracked.rows.len());
+    if from >= place || place >= to || to > cracked.rows.len() {
+        return None;
+    }
+    let len = to - from;
+    if len < WINDOW_ROWS || len < list.len() {
+        return None;
+    }
+    parting_score(&cracked.rows.list()[from..to], place - from, BESIDE)
 }
 
 /// Cracks the piece around a place near it, and answers whether it did.
 fn narrow_once<A: Allocator>(pieces: &mut Pieces<A>, place: usize) -> bool
     ensures { AreCracked pieces.old pieces.new }
 {
-    let cracked = &pieces.cracked;
-    let list = cracked.pivots.list();
-    let i = list.partition_point(|pivot| pivot.1 <= place);
-    if i > list.len() {
-        return false;
-    }
-    let from = start_below(list, i);
-    let to = place_or(list, i, cracked.rows.len());
-    if from >= place || place >= to || to > cracked.rows.len() {
-        return false;
-    }
-    let len = to - from;
-    if len < WINDOW_ROWS || len < list.len() {
-        return false;
-    }
-    match parting_score(&cracked.rows.list()[from..to], place - from, BESIDE) {
+    match score_beside(&pieces.cracked, place) {
         Some(v) => crack_inside(pieces, v),
         None => false,
     }
+}
+
+/// Whether `narrow` would crack a piece at a place.
+pub fn is_wide<A: Allocator>(cracked: &Cracked<A>, place: usize) -> bool {
+    cracked.pivots.len() < MAX_WITH_INNER && score_beside(cracked, place).is_some()
 }
 
 /// Cracks the pieces around a place until few rows stand between it and the pivots on both sides.

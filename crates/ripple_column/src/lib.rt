@@ -1,25 +1,26 @@
 //! A column of rows that is cracked by its queries, with insertions and deletions that wait until
 //! a query needs them.
 //!
-//! The column is that of Database Cracking (Idreos, Kersten and Manegold, CIDR 2007). How waiting
-//! rows come in and go out is this project's own: a ripple insertion and a ripple deletion move at
-//! most one row a piece.
+//! The column is that of Database Cracking (Idreos, Kersten and Manegold, CIDR 2007). Pending
+//! insertions and deletions, and the ripple moves that merge them, which move at most one row a piece,
+//! are those of Updating a Cracked Database (the same, SIGMOD 2007). The passes that merge many rows at
+//! once, and inner pivots, are this project's own.
 #![tactic(auto)]
 
+mod blank_gap;
 mod bulk_merge;
 mod column;
 mod cracked;
 mod cracking;
 mod deletion_filter;
-mod gap;
 mod inner_pivots;
 mod merge;
 mod merge_pass;
 mod pending;
+mod pending_filter;
 mod pieces;
 mod ripple;
 mod row_hash;
-mod row_marks;
 mod rows;
 mod select;
 mod shown_pivots;

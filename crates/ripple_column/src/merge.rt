@@ -31,10 +31,11 @@ fn merge_deletions<A: Allocator>(
     ensures less { IsSubBag deletions.new.items deletions.old.items }
     ensures frame { KeepsFrame cracked.old.rows cracked.old.pivots cracked.new.rows cracked.new.pivots }
 {
+    let interval = range.interval();
     let mut i = 0;
     while i < deletions.len() {
         let next = &deletions.list()[i];
-        if is_within(next, range) {
+        if is_within(next, &interval) {
             let row = deletions.swap_remove(i);
             let _gone = ripple_remove(&mut cracked.rows, &mut cracked.pivots, &row);
         } else {
@@ -58,10 +59,11 @@ fn merge_insertions<A: Allocator>(
     ensures less { IsSubBag insertions.new.items insertions.old.items }
     ensures frame { KeepsFrame cracked.old.rows cracked.old.pivots cracked.new.rows cracked.new.pivots }
 {
+    let interval = range.interval();
     let mut i = 0;
     while i < insertions.len() {
         let next = &insertions.list()[i];
-        if is_within(next, range) {
+        if is_within(next, &interval) {
             let row = insertions.swap_remove(i);
             ripple_insert(&mut cracked.rows, &mut cracked.pivots, row);
         } else {
@@ -70,8 +72,7 @@ fn merge_insertions<A: Allocator>(
     }
 }
 
-/// Merges all rows that wait and have scores in the range. Where none waits there, the column is
-/// left as it is.
+/// Merges all rows that wait and have scores in the range.
 pub fn merge_range<A: Allocator + Copy>(
     cracked: &mut Cracked<A>,
     pending: &mut Pending<A>,
@@ -86,14 +87,10 @@ pub fn merge_range<A: Allocator + Copy>(
     ensures waiting_deletions { SameOutside range.now pending.old.deletions.items pending.new.deletions.items }
     ensures waiting_insertions { SameOutside range.now pending.old.insertions.items pending.new.insertions.items }
     ensures frame { KeepsFrame cracked.old.rows cracked.old.pivots cracked.new.rows cracked.new.pivots }
-    ensures still { NoneIn range.now pending.old.deletions.items → NoneIn range.now pending.old.insertions.items
-        → StaysAsItWas cracked.old cracked.new pending.old pending.new }
 {
-    if pending.has_within(range) {
-        merge_many(cracked, pending, range);
-        merge_deletions(cracked, &mut pending.deletions, range);
-        merge_insertions(cracked, &mut pending.insertions, range);
-    }
+    merge_many(cracked, pending, range);
+    merge_deletions(cracked, &mut pending.deletions, range);
+    merge_insertions(cracked, &mut pending.insertions, range);
 }
 
 /// Merges all rows that wait. On Err, all is unchanged.

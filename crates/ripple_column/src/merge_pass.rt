@@ -8,10 +8,10 @@ ghost use Rattle.ripple_column.specs.Content.{KeepsContent};
 ghost use Rattle.ripple_column.specs.BlankGap.{AllParted, HasGapAt, KeepsContentBeside, TakenFrom, blank};
 ghost use Rattle.ripple_column.specs.Merge.{KeepsFrame};
 
-use crate::deletion_filter::DeletionFilter;
-use crate::gap::{
+use crate::blank_gap::{
     Direction, Gap, Tail, close_gap, fill_gap, is_in_piece, lift_gap, open_gap, sink_gap, take_out,
 };
+use crate::deletion_filter::DeletionFilter;
 use crate::pending::Pending;
 use crate::ripple::place_or;
 use crate::rows::Rows;

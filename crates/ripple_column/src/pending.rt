@@ -7,10 +7,10 @@ ghost use Rattle.crack_kernel.specs.RowBag.{Test};
 ghost use Rattle.ripple_column.specs.Content.{has_score_in, NoneIn, Pends};
 ghost use Rattle.ripple_column.specs.RowHash.{hash_of};
 
+use crate::pending_filter::PendingFilter;
 use crate::row_hash::hash_of;
-use crate::row_marks::RowMarks;
 use crack_kernel::Row;
-use score_bounds::Range;
+use score_bounds::{Interval, Range};
 use std::alloc::{AllocError, Allocator};
 use std::cmp::Ordering;
 use std::marker::Model;
@@ -32,13 +32,13 @@ const MARKED_FROM: usize = 128;
 #[derive(Drop)]
 pub struct PendingList<A: Allocator> {
     rows: Vec<Row<A>, A>,
-    marks: RowMarks<A>,
+    marks: PendingFilter<A>,
 }
 
 impl<A: Allocator> Model for PendingList<A> {
     ghost use Rattle.std.specs.Prelude.{ℤ, ℕ, List};
     ghost use Rattle.std.specs.declared.vec.Vec.{Vec as VecValue};
-    ghost use Rattle.ripple_column.specs.RowMarks.{Covers};
+    ghost use Rattle.ripple_column.specs.PendingFilter.{Covers};
 
     ghost Value = { VecValue (ℤ × List ℕ) A };
 
@@ -54,7 +54,7 @@ impl<A: Allocator + Copy> PendingList<A> {
     {
         PendingList {
             rows: Vec::new(alloc),
-            marks: RowMarks::new(alloc),
+            marks: PendingFilter::new(alloc),
         }
     }
 }
@@ -78,16 +78,18 @@ impl<A: Allocator> PendingList<A> {
     pub fn has_within(&self, range: &Range) -> bool
         ensures { result ≡ list_any (has_score_in range.now) self.now.items }
     {
-        self.rows.iter().any(|row| is_within(row, range))
+        let interval = range.interval();
+        self.rows.iter().any(|row| is_within(row, &interval))
     }
 
     /// How many rows have scores in the range.
     pub fn count_within(&self, range: &Range) -> usize
         ensures { result ≡ count_by (has_score_in range.now) self.now.items }
     {
+        let interval = range.interval();
         self.rows
             .iter()
-            .filter(|row| is_within(*row, range))
+            .filter(|row| is_within(*row, &interval))
             .count()
     }
 
@@ -212,11 +214,11 @@ impl<A: Allocator> PendingList<A> {
     }
 }
 
-/// Whether the row's score is in the range.
-pub fn is_within<A: Allocator>(row: &Row<A>, range: &Range) -> bool
-    ensures { result ≡ has_score_in range.now row.now }
+/// Whether the row's score is in the range of an interval.
+pub fn is_within<A: Allocator>(row: &Row<A>, interval: &Interval) -> bool
+    ensures { result ≡ has_score_in interval.now.range row.now }
 {
-    range.contains(row.score())
+    interval.contains(row.score())
 }
 
 /// The rows that wait to be taken out, and those that wait to be put in.
@@ -306,9 +308,10 @@ fn partition_within<A: Allocator>(list: &mut Vec<Row<A>, A>, range: &Range) -> u
     ensures within { AllWithin (λ r. has_score_in range.now r ≡ true) list.new.items result (length list.new.items) }
     ensures capacity { vec_capacity list.new ≡ vec_capacity list.old }
 {
+    let interval = range.interval();
     let mut others = 0;
     for i in 0..list.len() {
-        let inside = is_within(&list[i], range);
+        let inside = is_within(&list[i], &interval);
         list.swap(i, others);
         if !inside {
             others += 1;

@@ -25,8 +25,9 @@ struct Wanted {
 ///
 /// A row's fingerprint stands at its place, where the list reaches so far, or 0 where none is made
 /// yet. It is first that of the row's score, which needs no look at the member; where that tells
-/// nothing, that of score and member takes its place. Contracts see the rows alone, as a `Vec`: a wrong
-/// fingerprint would only let a pass leave its row to the ripple moves.
+/// nothing, that of score and member takes its place. Contracts see the rows alone, as a `Vec`: with a
+/// wrong fingerprint a pass would only leave its row to the ripple moves, and a ripple deletion look at
+/// each row of the piece.
 #[derive(Drop)]
 pub struct Rows<A: Allocator> {
     rows: Vec<Row<A>, A>,
@@ -55,6 +56,13 @@ impl<A: Allocator> Rows<A> {
         ensures { result.now ≡ self.now.items }
     {
         &self.rows
+    }
+
+    /// For how many more rows there is room.
+    pub fn spare(&self) -> usize
+        ensures { vec_len self.now + result ≡ vec_capacity self.now }
+    {
+        self.rows.capacity() - self.rows.len()
     }
 
     /// Makes room for `additional` more rows and their fingerprints. On Err, the rows are unchanged.

@@ -5,7 +5,7 @@ ghost use Rattle.crack_kernel.specs.RowBag.{IsSubBag};
 ghost use Rattle.crack_kernel.specs.PivotList.{IsRising};
 ghost use Rattle.ripple_column.specs.Content.{has_score_in, NoneIn, SameOutside};
 ghost use Rattle.ripple_column.specs.Merge.{Merges};
-ghost use Rattle.ripple_column.specs.PieceCracks.{HasRoom, StaysAsShown, most_with_inner, shown};
+ghost use Rattle.ripple_column.specs.InnerCracks.{HasRoom, StaysAsShown, most_with_inner, shown};
 ghost use Rattle.ripple_column.specs.Cuts.{is_before, values, cut_values, count_with_cuts, new_values, values_with_cuts, StandsAt, IsUncracked};
 
 use crate::cracking::{count_missing, crack_between, is_before};
@@ -88,8 +88,11 @@ pub fn make_room<A: Allocator>(
     ensures spare { OnOk result (2 ≤ pieces.new.cracked.pivots.spare) }
     ensures few { OnOk result (count_with_cuts first.now second.now pieces.new.cracked.pivots.list ≤ MAX_PIVOTS) }
 {
-    let arriving = insertions.count_within(range);
-    pieces.cracked.rows.reserve(arriving)?;
+    // Where all that waits would find room, what waits in the range need not be counted.
+    if pieces.cracked.rows.spare() < insertions.len() {
+        let arriving = insertions.count_within(range);
+        pieces.cracked.rows.reserve(arriving)?;
+    }
     drop_few_inner(pieces);
     pieces.reserve_cuts()?;
     fit_cuts(pieces, first, second);

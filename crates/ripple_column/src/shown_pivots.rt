@@ -6,7 +6,7 @@ ghost use Rattle.crack_kernel.specs.PivotList.{IsRising};
 ghost use Rattle.ripple_column.specs.Cuts.{is_before, values, count_with_cuts, new_values, values_with_cuts, StandsAt};
 ghost use Rattle.ripple_column.specs.InnerPivots.{HasCut, IsAmong, shown_of};
 ghost use Rattle.ripple_column.specs.Merge.{Merges};
-ghost use Rattle.ripple_column.specs.PieceCracks.{HasRoom, StaysAsShown, shown};
+ghost use Rattle.ripple_column.specs.InnerCracks.{HasRoom, StaysAsShown, shown};
 
 use crate::merge::{merge_all, reserve_write};
 use crate::pending::{MAX_PENDING, MAX_RESERVED, Pending};

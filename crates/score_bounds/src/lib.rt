@@ -6,8 +6,10 @@
 #![tactic(auto)]
 
 mod bounds;
+mod interval;
 pub mod laws;
 mod texts;
 
 pub use bounds::{Bound, Cut, Range};
+pub use interval::Interval;
 pub use texts::{read_integer, read_score, write_score};

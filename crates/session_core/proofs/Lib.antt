@@ -1,3 +1,4 @@
 pub mod ExchangeLemmas
 pub mod HeldRequests
 pub mod ServeProgress
+pub mod WorkerLemmas

@@ -3,3 +3,4 @@ pub mod SessionEnd
 pub mod SendOutcome
 pub mod ServeSteps
 pub mod OwnerAnswers
+pub mod WorkerAnswers

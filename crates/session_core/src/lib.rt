@@ -6,7 +6,9 @@ mod exec;
 mod fault;
 mod replies;
 mod session;
+mod worker;
 
 pub use exec::Exec;
 pub use fault::{Ended, SessionFault};
 pub use session::serve;
+pub use worker::Worker;

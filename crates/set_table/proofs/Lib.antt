@@ -3,4 +3,8 @@ mod TallyLemmas
 mod NameLemmas
 mod PlaceLemmas
 mod MemoryLemmas
+mod OpeningLemmas
 pub mod ThreadCrossing
+mod PassOrder
+mod NameAgreement
+mod ClosingLemmas

@@ -11,7 +11,7 @@ use Rattle.set_table.specs.declared.counts.Counts.{Counts}
 use Rattle.set_table.specs.declared.counts.OwnCounts.{OwnCounts}
 use Rattle.set_table.specs.Tallies.{ShareView, empty_tally, tally_after, total_of, runs_of, added_of, removed_of, share_after_run, no_counts}
 use Rattle.set_table.specs.SetSteps.{Stepped, IsLawful, IsLogged, AnswerView}
-use Rattle.set_table.specs.CellStates.{CellView, IsWhole, InStep, HasRun, HasRead, WasRun, counts_of}
+use Rattle.set_table.specs.CellStates.{CellView, IsWhole, InStep, HasRun, HasRead, WasRun, counts_of, new_cell}
 
 -- what one pass was told is within the totals
 record Within (t : Tally) (records : List Tally) : Type 0 where
@@ -180,3 +180,9 @@ whole_new place kept opened max_runs appended passes tallies idle card few most 
   where
     none : passes * 0 ≡ 0
     none = omega arith
+
+pub cell_is : (place : ℕ) (set : SetView) (opened max_runs appended passes : ℕ) (tallies : List Tally) → opened ≡ fin.len set.members → tallies ≡ replicate passes empty_tally
+    → ◌≡◌ {A = CellView} (record { place = place; sorted_set = set; opened = opened; max_runs = max_runs; tallies = tallies; appended = appended }) (new_cell place set max_runs passes appended)
+cell_is place set opened max_runs appended passes tallies card is =
+    ap (λ n. record { place = place; sorted_set = set; opened = n; max_runs = max_runs; tallies = tallies; appended = appended }) card
+    ∙ ap (λ ts. record { place = place; sorted_set = set; opened = fin.len set.members; max_runs = max_runs; tallies = ts; appended = appended }) is

@@ -1,9 +1,9 @@
 -- Cells: what holds of each whose lock is free, and what a run or a reading leaves and answers.
 use Rattle.std.specs.Prelude.{◌≡◌, ℕ, ◌+◌, ◌*◌, ◌^◌, ◌≤◌, ◌<◌, List, length, None}
-use Rattle.std.proofs.Math.ListN.{get_or, set}
+use Rattle.std.proofs.Math.ListN.{get_or, set, replicate}
 use Rattle.std.specs.FinMap as fin
 use Rattle.zset_core.specs.CommandMeaning.{Asked}
-use Rattle.zset_core.specs.Edits.{most_edits}
+use Rattle.zset_core.specs.RowEdits.{most_edits}
 use Rattle.zset_core.specs.Views.{SetView}
 use Rattle.zset_core.specs.declared.refusal.Refusal.{Refusal}
 use Rattle.zset_core.specs.declared.refusal.Refusal.TheVariants.{NoMemory, UnknownCommand, WrongArity, Syntax, NxAndXx, GtLtNx, IncrPair, BadScore, BadBound, BadInteger, TableFull, ScoreOverflow, LogBroken, LogFull, LogRefused, Spent, OutOfStep}
@@ -21,6 +21,10 @@ pub record CellView : Type 0 where
   pub max_runs : ℕ
   pub tallies : List Tally
   pub appended : ℕ
+
+-- a cell of a set, of which no pass was told anything yet
+abbrev pub new_cell : ℕ → SetView → ℕ → ℕ → ℕ → CellView
+new_cell place set max_runs passes appended = record { place = place; sorted_set = set; opened = fin.len set.members; max_runs = max_runs; tallies = replicate passes empty_tally; appended = appended }
 
 -- nothing is prepared, and the members are those at opening and what the passes were told since
 pub record IsWhole (c : CellView) : Type 0 where

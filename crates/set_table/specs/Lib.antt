@@ -5,3 +5,6 @@ pub mod Naming
 pub mod KeyMemory
 pub mod PassStates
 pub mod TableAnswers
+pub mod Opening
+pub mod ClosingTotals
+pub mod ClosingSteps

@@ -5,7 +5,7 @@ use Rattle.resp_wire.specs.Response.{Response}
 use Rattle.zset_core.specs.SortedSet.{Members}
 use Rattle.zset_core.specs.CommandMeaning.{Asked, is_writing}
 use Rattle.zset_core.specs.ChangeOutline.{missing}
-use Rattle.zset_core.specs.Edits.{most_edits}
+use Rattle.zset_core.specs.RowEdits.{most_edits}
 use Rattle.zset_core.specs.Semantics.{step}
 use Rattle.zset_core.specs.declared.refusal.Refusal.{Refusal}
 use Rattle.zset_core.specs.declared.refusal.Refusal.TheVariants.{NoMemory, ScoreOverflow, LogBroken, LogFull, LogRefused}

@@ -7,10 +7,11 @@ ghost use Rattle.ripple_column.specs.Content.{Holds};
 ghost use Rattle.zset_core.specs.CommandMeaning.{key_of};
 ghost use Rattle.zset_core.specs.Readiness.{IsReadyFor};
 ghost use Rattle.zset_core.specs.SortedSet.{pairs};
-ghost use Rattle.set_table.specs.CellStates.{HasNoReading, HasRead, HasRun, InStep, IsRefused, IsWhole, WasRun, counts_of};
+ghost use Rattle.set_table.specs.CellStates.{HasNoReading, HasRead, HasRun, InStep, IsRefused, IsWhole, WasRun, counts_of, new_cell};
 ghost use Rattle.set_table.specs.TableAnswers.{IsSetRefusal};
 ghost use Rattle.set_table.specs.Tallies.{HasRoom, share_after_run, tally_after};
 
+mod numbers;
 mod step;
 
 use crate::answer::Answer;
@@ -70,6 +71,8 @@ impl<H: BuildHasher + Drop, L: Ledger, A: Allocator + Copy> Cell<H, L, A> {
     ) -> Result<Self, AllocError>
         requires idle { sorted_set.next ≡ None }
         requires max_runs { max_runs ≤ 2 ^ 40 }
+        ensures { IfOk result
+            (λ cell. cell ≡ new_cell place sorted_set max_runs passes share) }
     {
         let opened = sorted_set.card() as u64;
         let none = Tally {
@@ -168,6 +171,13 @@ impl<H: BuildHasher, L: Ledger, A: Allocator + Copy> Cell<H, L, A> {
                 Some(Ok(Answer::new(command, self.place, reply, self.found(), own)))
             }
         }
+    }
+
+    /// Whether the command had better be run than asked by `ready`: it lists a window for which `ready`
+    /// would read many rows and later commands few after a run, and a run is to be had. It is a hint: no
+    /// reply depends on it.
+    pub fn prefers_run(&self, command: &Command<A>) -> bool {
+        self.total.runs < self.max_runs && self.sorted_set.is_wide(command)
     }
 
     /// A law: what holds of every cell whose lock is free. The body reads nothing.

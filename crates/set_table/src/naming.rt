@@ -1,5 +1,6 @@
 //! The places' names: each is set once, by whoever claims the place first, and read without a lock.
 
+pub(crate) mod copying;
 pub(crate) mod knowledge;
 pub(crate) mod memory;
 pub(crate) mod name;

@@ -1,9 +1,15 @@
 //! What one worker knows of a table, and was answered by it.
 
-ghost use Rattle.std.specs.Prelude.{◌≡◌};
+ghost use Rattle.std.specs.Prelude.{◌≡◌, ◌<◌, length, Some, IfSome};
+ghost use Rattle.std.proofs.Math.ListN.{get_or};
+ghost use Rattle.set_table.specs.ClosingTotals.{share_at};
+ghost use Rattle.set_table.specs.Naming.{AreNotesOf, name_at};
 
 use crate::naming::knowledge::Knowledge;
+use crate::naming::name::Name;
+use crate::naming::names::Names;
 use crate::shares::Shares;
+use once_cell::race::Note;
 use std::alloc::Allocator;
 use std::marker::Model;
 
@@ -30,5 +36,27 @@ impl<A: Allocator> Pass<A> {
         ensures { result ≡ self.now.number }
     {
         self.number
+    }
+
+    /// What it was answered at a place.
+    pub(crate) fn share(&self, place: usize) -> &Shares
+        requires { place < length self.now.shares }
+        ensures { result.now ≡ share_at self.now place }
+    {
+        &self.shares[place]
+    }
+
+    /// The note of all passes learns what this one knows of a place's name.
+    pub(crate) fn tell_name(&mut self, names: &Names, place: usize, all: &mut Note<Name>)
+        requires own { AreNotesOf names.now self.old.notes }
+        requires within { place < length names.now }
+        requires all { all.old.cell ≡ get_or names.now place 0 }
+        ensures same { self.new ≡ self.old }
+        ensures cell { all.new.cell ≡ all.old.cell }
+        ensures known { IfSome (name_at self.old.notes.known place)
+            (λ name. all.new.known ≡ Some name) }
+        ensures all { IfSome all.old.known (λ name. all.new.known ≡ Some name) }
+    {
+        names.gather(&mut self.knowledge, place, all);
     }
 }

@@ -6,12 +6,15 @@ ghost use Rattle.set_table.specs.Naming.{Grows, IsPlace};
 ghost use Rattle.set_table.specs.PassStates.{IsPassOf, WasAnswered};
 ghost use Rattle.set_table.specs.TableAnswers.{HasNoPlace, IsAnswered, IsClaimRefusal, IsSetRefusal, IsTableRefusal};
 
+mod close;
+
 use crate::answer::Answer;
 use crate::cell::Cell;
 use crate::gate::Gate;
 use crate::naming::names::{ClaimFault, Names};
 use crate::pass::Pass;
 use append_log::{Log, LogSink};
+pub use close::{CloseFault, Totals};
 use resp_wire::Reply;
 use std::alloc::Allocator;
 use std::hash::BuildHasher;
@@ -25,15 +28,15 @@ use zset_core::{Command, Refusal};
 /// only inside a set's. Names take no lock.
 #[derive(Drop)]
 pub struct Table<H: BuildHasher, S: LogSink, L: Ledger, A: Allocator + Copy> {
-    names: Names,
-    cells: Vec<RwLock<Cell<H, L, A>>, A>,
-    opened: Vec<u64, A>,
-    log: Mutex<Log<S, L>>,
-    passes: usize,
-    max_runs: u64,
-    records_before: u64,
+    pub(crate) names: Names,
+    pub(crate) cells: Vec<RwLock<Cell<H, L, A>>, A>,
+    pub(crate) opened: Vec<u64, A>,
+    pub(crate) log: Mutex<Log<S, L>>,
+    pub(crate) passes: usize,
+    pub(crate) max_runs: u64,
+    pub(crate) records_before: u64,
     // The last field, as in a cell.
-    alloc: A,
+    pub(crate) alloc: A,
 }
 
 impl<H: BuildHasher, S: LogSink, L: Ledger, A: Allocator + Copy> Model for Table<H, S, L, A> {
@@ -94,12 +97,17 @@ impl<H: BuildHasher, S: LogSink, L: Ledger, A: Allocator + Copy> Table<H, S, L, 
 
     /// Runs a command at its key's place. Where the key has none yet, a command that creates gives it
     /// one, and any other gets the reply of an empty set, as PING gets its own. A command that reads is
-    /// asked under the shared lock first.
+    /// asked under the shared lock first. `rt` waits for locks; the gate is called inside each one.
+    ///
+    /// What the reply tells is one step of the command on some set with as many members as the answer
+    /// says: others write the sets between two calls, so that it is the key's own is shown by tests. The
+    /// pass's share of the place moves by the answer's counts.
     ///
     /// # Errors
     ///
     /// The pass's shares stay. [`Refusal::TableFull`] where a command that creates finds no place;
-    /// then those of [`Cell::run`] and [`Cell::ready`]; [`Refusal::NoMemory`].
+    /// [`Refusal::OutOfStep`] where cell and pass tell different numbers; [`Refusal::Spent`] where the
+    /// place has no run left; those of the command and of the log; [`Refusal::NoMemory`].
     pub fn run<'c, R: Wait, G: Gate>(
         &self,
         rt: &R,
@@ -148,8 +156,8 @@ impl<H: BuildHasher, S: LogSink, L: Ledger, A: Allocator + Copy> Table<H, S, L, 
         Ok(self.find(pass, key))
     }
 
-    /// Answers at a place: under the shared lock where the set can as it stands, else under the
-    /// exclusive one.
+    /// Answers at a place: under the shared lock where the set can as it stands and reads few rows for
+    /// it, else under the exclusive one.
     fn answer_at<'c, R: Wait, G: Gate>(
         &self,
         rt: &R,
@@ -168,12 +176,46 @@ impl<H: BuildHasher, S: LogSink, L: Ledger, A: Allocator + Copy> Table<H, S, L, 
         ensures err { OnErr result (pass.new ≡ pass.old) }
         ensures refused { IfErr result IsSetRefusal }
     {
-        if !command.writes() {
-            if let Some(answer) = self.read_at(rt, pass, place, command, gate) {
-                return answer;
-            }
+        if command.writes() {
+            return self.run_at(rt, pass, place, command, gate);
         }
-        self.run_at(rt, pass, place, command, gate)
+        if let Some(answer) = self.read_few_at(rt, pass, place, command, gate) {
+            return answer;
+        }
+        match self.run_at(rt, pass, place, command, gate) {
+            // Another worker may have taken the place's last run since.
+            Err(Refusal::Spent) => match self.read_at(rt, pass, place, command, gate) {
+                Some(answer) => answer,
+                None => Err(Refusal::Spent),
+            },
+            ran => ran,
+        }
+    }
+
+    /// Asks a place's cell under its shared lock, unless it had better be run.
+    fn read_few_at<'c, R: Wait, G: Gate>(
+        &self,
+        rt: &R,
+        pass: &Pass<A>,
+        place: usize,
+        command: &'c Command<A>,
+        gate: &G,
+    ) -> Option<Result<Answer<'c, A>, Refusal>>
+        requires own { IsPassOf self.now pass.now }
+        requires within { place < length self.now.opened }
+        requires keyed { IsSome (key_of command.now.meaning) }
+        requires reading { is_writing command.now.meaning ≡ false }
+        ensures ok { IfSome result
+            (λ read. IfOk read (λ answer. WasAnswered self.now.opened pass.now.shares
+            pass.now.shares place command.now answer)) }
+        ensures refused { IfSome result (λ read. IfErr read IsSetRefusal) }
+    {
+        let cell = self.cells[place].read(rt);
+        gate.inside(place);
+        if cell.prefers_run(command) {
+            return None;
+        }
+        cell.ready(command, &pass.shares[place])
     }
 
     /// Asks a place's cell under its shared lock.

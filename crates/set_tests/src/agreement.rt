@@ -328,3 +328,27 @@ fn windows_of_big_sets_agree_with_plain_sets(rt: HostRuntime) -> Result<(), Fail
     }
     Ok(())
 }
+
+// Whether a listing of the ten lowest would read many rows of the set, and less after `narrow`.
+fn is_wide(alloc: Global, set: &Set) -> Result<bool, Fail> {
+    let command = command(alloc, "ZRANGEBYSCORE k -inf +inf LIMIT 0 10")?;
+    Ok(set.is_wide(&command))
+}
+
+#[test]
+fn a_window_of_a_long_piece_is_narrowed_once(rt: HostRuntime) -> Result<(), Fail> {
+    let alloc = rt.alloc();
+    let mut set = ZSet::with_hasher(alloc, RandomState::new(&rt)?);
+    let extent = Extent {
+        members: 3_000,
+        scores: 1_000_000,
+    };
+    big(alloc, &mut set, &extent)?;
+    run(alloc, &mut set, "ZCOUNT k -inf +inf")?;
+    assert!(rt; is_wide(alloc, &set)?);
+    run(alloc, &mut set, "ZRANGEBYSCORE k -inf +inf")?;
+    assert!(rt; is_wide(alloc, &set)?);
+    run(alloc, &mut set, "ZRANGEBYSCORE k -inf +inf LIMIT 0 10")?;
+    assert!(rt; !is_wide(alloc, &set)?);
+    Ok(())
+}

@@ -10,7 +10,7 @@ use zset_core::ZSet;
 
 pub type Set = ZSet<RandomState, Global>;
 
-/// The reply to a command that is run on a set.
+/// The reply to a command that is run on a set, as an owner runs it.
 pub fn run(alloc: Global, set: &mut Set, text: &str) -> Result<Reply<Global>, Fail>
     requires { set.old.next ≡ None }
     ensures { set.new.next ≡ None }
@@ -20,6 +20,7 @@ pub fn run(alloc: Global, set: &mut Set, text: &str) -> Result<Reply<Global>, Fa
         Err("no key")?;
     }
     if !command.writes() {
+        set.narrow(&command)?;
         return Ok(set.answer(&command)?);
     }
     match set.prepare(&command) {

@@ -9,7 +9,7 @@ use Rattle.session_core.specs.declared.fault.SessionFault.{SessionFault}
 use Rattle.session_core.specs.declared.fault.SessionFault.TheVariants as ends
 use Rattle.session_core.specs.SessionEnd.{Served}
 use Rattle.session_core.specs.SendOutcome.{SourceFailed, DrainFailed, SentOn}
-use Rattle.zcrackd.specs.Devices.{SourceState, DrainState}
+use Rattle.zcrackd.specs.DeviceStates.{SourceState, DrainState}
 use Rattle.zcrackd.specs.declared.finish.Line.{Line}
 use Rattle.zcrackd.specs.declared.finish.Line.TheVariants as lines
 use Rattle.zcrackd.specs.declared.finish.Finish.{Finish}

@@ -1,3 +1,3 @@
-pub mod Devices
+pub mod DeviceStates
 pub mod Finish
-pub mod Files
+pub mod FileFinish

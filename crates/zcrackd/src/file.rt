@@ -4,8 +4,8 @@ ghost use Rattle.std.specs.Prelude.{◌≡◌, None, IfOk, IfErr, OnOk};
 ghost use Rattle.std.specs.Io.KnownBytes.{append_known};
 ghost use Rattle.resp_wire.specs.Device.{Rose};
 ghost use Rattle.append_log.specs.FileOpening.{Restores};
-ghost use Rattle.zcrackd.specs.Files as files;
-ghost use Rattle.zcrackd.specs.Files.{FailsBy, Prints, Renews, Rewrites, ServesFile, ServesFrom};
+ghost use Rattle.zcrackd.specs.FileFinish as files;
+ghost use Rattle.zcrackd.specs.FileFinish.{FailsBy, Prints, Renews, Rewrites, ServesFile, ServesFrom};
 ghost use Rattle.zcrackd.specs.declared.finish.Line.TheVariants as lines;
 
 use crate::finish::{Finish, Line, Unusable};

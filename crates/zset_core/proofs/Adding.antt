@@ -8,7 +8,7 @@ use Rattle.score_bounds.specs.Scores.{score_value}
 use Rattle.zset_core.specs.CommandMeaning as meanings
 use Rattle.zset_core.specs.ParsedArguments.{word_at, scored}
 use Rattle.zset_core.specs.CommandGrammar.{first_of, has_option, are_pairs, asked_flags, add_meaning, add_options, add_pairs, pairs_value, command_conditions, command_meaning}
-use Rattle.zset_core.specs.ReadingSteps.{AreAddParts, AreScores, given_value}
+use Rattle.zset_core.specs.ArgumentReading.{AreAddParts, AreScores, given_value}
 use Rattle.zset_core.specs.declared.command.name.CommandName.TheVariants as names
 use Rattle.zset_core.specs.declared.set.pair_outcome.Flags.{Flags}
 use Rattle.zset_core.specs.declared.refusal.Refusal.{Refusal}

@@ -15,7 +15,7 @@ use Rattle.crack_kernel.specs.RowBag.{Test}
 use Rattle.ripple_column.proofs.CallerLemmas.{count_all, count_push}
 use Rattle.zset_core.proofs.Tests.{first, second}
 use Rattle.zset_core.specs.SortedSet.{Members, Pair, bytes_cmp, pairs}
-use Rattle.zset_core.specs.Edits.{HasAtMost, IsFew, Notes, Turns, most_edits}
+use Rattle.zset_core.specs.RowEdits.{HasAtMost, IsFew, Notes, Turns, most_edits}
 use Rattle.zset_core.specs.declared.set.row_edits.Edits.{Edits}
 use Rattle.zset_core.proofs.Bridge.{total, exact}
 use Rattle.zset_core.proofs.Order.{swapped}

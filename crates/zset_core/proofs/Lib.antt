@@ -23,7 +23,7 @@ mod ListingLaws
 pub mod OwnerViews
 pub mod Bounds
 pub mod OwnerBounds
+pub mod FirstSets
 pub mod CallerLemmas
-pub mod WindowSelection
 pub mod EmptySet
 pub mod ThreadCrossing

@@ -8,7 +8,7 @@ use Rattle.zset_core.specs.CommandMeaning.{Meaning, Asked, key_of}
 use Rattle.zset_core.specs.Views.{SetView, Next, OwnerView}
 use Rattle.zset_core.specs.World.{World, put_set, act_at}
 use Rattle.zset_core.specs.OwnerInvariant.{Keyed, world_of, set_in, next_at, IsHeld, IsOwned, owner_view, AllRest}
-use Rattle.zset_core.specs.RequestBounds.{IsBoundedWorld, IsBoundedMeaning, IsBoundedOwner}
+use Rattle.zset_core.specs.BoundedWorld.{IsBoundedWorld, IsBoundedMeaning, IsBoundedOwner}
 use Rattle.zset_core.proofs.Bounds.{IsBoundedNext, act_bounded, put_set_bounded}
 use Rattle.zset_core.proofs.Worlds.{keyed}
 
@@ -31,7 +31,7 @@ module _ {A : Type 0} where
   world_bounded es (Some asked) bounded = bounded.world
 
   -- where no set is prepared, none was before
-  idle_after : (es fs : List (Keyed A)) (a : Option (Snapshot Asked)) → IsOwned es a → (owner_view es a).next ≡ None → AllRest fs → IsBoundedWorld (world_of fs)
+  pub idle_after : (es fs : List (Keyed A)) (a : Option (Snapshot Asked)) → IsOwned es a → (owner_view es a).next ≡ None → AllRest fs → IsBoundedWorld (world_of fs)
       → IsOwned fs a × IsBoundedOwner (owner_view fs a)
   idle_after es fs None owned idle rest bounded = (rest, record { world = bounded; next = tt })
   idle_after es fs (Some asked) owned idle rest bounded = absurd (by (key_of asked.value.meaning) owned idle)

@@ -1,10 +1,11 @@
 -- What commands do to the column of a set.
-use Rattle.std.specs.Prelude.{◌≡◌, ◌≤◌, ℕ, ◌-◌, Bool, true, false, List, ℤ, option_map, unwrap_or}
+use Rattle.std.specs.Prelude.{None, Some, ◌≡◌, ◌≤◌, ℕ, ◌-◌, Bool, true, false, List, ℤ, option_map, unwrap_or}
 use Rattle.std.specs.FinMap as fin
 use Rattle.score_bounds.specs.declared.bounds.Range.{Range}
 use Rattle.ripple_column.specs.RangeAnswer.{AddsCuts, StandsStill, low_cut, high_cut, pivots_with_cuts}
 use Rattle.ripple_column.specs.Content.{ColumnState, IsUnchanged, NoneIn, SameOutside}
 use Rattle.ripple_column.specs.Cuts.{is_before}
+use Rattle.zset_core.specs.Readiness.{HasAnswer}
 use Rattle.zset_core.specs.SortedSet.{Members}
 use Rattle.zset_core.specs.CommandMeaning.{Meaning, Ping, Add, Increase, Remove, Score, Card, Count, ListRange}
 use Rattle.zset_core.specs.Semantics.{outcome_of, counted, count_all, sum_of, remove_all}
@@ -52,6 +53,27 @@ pub record Selects (range : Range) (old new : ColumnState) : Type 0 where
   pub empty : is_before (low_cut range) (high_cut range) ≡ false → IsUnchanged old new
   -- with nothing to merge and no pivot dropped, a row moves only within a piece that is cracked
   pub still : pivots_with_cuts range old.pivots ≤ most_pivots → NoneIn range old.insertions → NoneIn range old.deletions → StandsStill range old new
+
+-- a window of a range is to be listed: the column gets its answer for the range, as where the range is asked for, and rows may
+-- move between the pivots
+pub record Narrows (range : Range) (old new : ColumnState) : Type 0 where
+  pub answer : HasAnswer new range
+  pub waiting_insertions : SameOutside range old.insertions new.insertions
+  pub waiting_deletions : SameOutside range old.deletions new.deletions
+  pub pivots : is_before (low_cut range) (high_cut range) ≡ true → AddsCuts range old.pivots new.pivots
+  pub empty : is_before (low_cut range) (high_cut range) ≡ false → IsUnchanged old new
+
+-- what is done to a column before a window of a command is listed: nothing where it asks for none
+abbrev pub NarrowsFor : Meaning → ColumnState → ColumnState → Type 0
+NarrowsFor (Ping text) old new = IsUnchanged old new
+NarrowsFor (Add key flags changed pairs) old new = IsUnchanged old new
+NarrowsFor (Increase key flags given member) old new = IsUnchanged old new
+NarrowsFor (Remove key members) old new = IsUnchanged old new
+NarrowsFor (Score key member) old new = IsUnchanged old new
+NarrowsFor (Card key) old new = IsUnchanged old new
+NarrowsFor (Count key range) old new = IsUnchanged old new
+NarrowsFor (ListRange key range with_scores None) old new = IsUnchanged old new
+NarrowsFor (ListRange key range with_scores (Some limit)) old new = Narrows range old new
 
 -- what a command that reads a set does to its column: only one that names a range changes it
 abbrev pub Reads : Meaning → ColumnState → ColumnState → Type 0

@@ -3,7 +3,7 @@ use Rattle.std.specs.Prelude.{◌≡◌, ℕ, ◌+◌, ◌*◌, ◌<◌, ◌≤�
 use Rattle.std.specs.List.{slice_index_or}
 use Rattle.zset_core.specs.CommandMeaning.{Meaning}
 use Rattle.zset_core.specs.CommandMeaning as meanings
-use Rattle.zset_core.specs.declared.command.scored_pairs.ScoredPairs.{ScoredPairs}
+use Rattle.zset_core.specs.declared.command.given_pairs.GivenPairs.{GivenPairs}
 use Rattle.zset_core.specs.declared.command.parsed.Form.{Form}
 use Rattle.zset_core.specs.declared.command.parsed.Form.TheVariants.{Ping, Add, Increase, Remove, Score, Card, Count, ListRange}
 
@@ -17,7 +17,7 @@ scored (score ∷ scores) (text ∷ member ∷ more) = (score, member) ∷ score
 scored _ _ = []
 
 -- the pairs of a ZADD
-abbrev pub given_pairs : {A : Type 0} → ScoredPairs A → List (ℤ × List ℕ)
+abbrev pub given_pairs : {A : Type 0} → GivenPairs A → List (ℤ × List ℕ)
 given_pairs pairs = scored pairs.scores.now pairs.arguments.now
 
 -- what a command asks for, by its words and its form

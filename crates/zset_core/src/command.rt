@@ -3,18 +3,18 @@
 ghost use Rattle.std.specs.Prelude.{◌≡◌, ◌≢◌, IfOk, IfErr, Ok, Err};
 ghost use Rattle.std.specs.Option.{option_copied};
 ghost use Rattle.zset_core.specs.CommandGrammar.{asked, is_creating};
-ghost use Rattle.zset_core.specs.RequestBounds.{IsBoundedMeaning};
+ghost use Rattle.zset_core.specs.BoundedWorld.{IsBoundedMeaning};
 ghost use Rattle.zset_core.specs.ParsedArguments.{meaning_of, IsWhole};
 ghost use Rattle.zset_core.specs.CommandMeaning.{key_of, is_writing};
 ghost use Rattle.zset_core.specs.declared.refusal.Refusal.TheVariants as refusals;
 
 pub mod add;
 pub mod dispatch;
+pub mod given_pairs;
 pub mod limit;
 pub mod name;
 pub mod parsed;
 pub mod range;
-pub mod scored_pairs;
 pub mod without_set;
 
 use crate::command::dispatch::{argument, read_form};

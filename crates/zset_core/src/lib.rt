@@ -10,7 +10,7 @@ pub mod laws;
 mod owner;
 mod query;
 mod refusal;
-mod replies;
+mod score_replies;
 mod set;
 
 pub use command::Command;

@@ -6,19 +6,20 @@ ghost use Rattle.resp_wire.specs.Response.{response_of};
 ghost use Rattle.zset_core.specs.CommandMeaning.{is_writing, key_of};
 ghost use Rattle.zset_core.specs.ChangeOutline.{IsOutline};
 ghost use Rattle.zset_core.specs.Refusal.{IsRefused};
-ghost use Rattle.zset_core.specs.RequestBounds.{IsBoundedWorld};
+ghost use Rattle.zset_core.specs.BoundedWorld.{IsBoundedWorld};
 ghost use Rattle.zset_core.specs.SortedSet.{whole};
 ghost use Rattle.zset_core.specs.Views.{HasNoSet, IsPreparedAt, IsSetAt};
 ghost use Rattle.zset_core.specs.World.{act, key_behind, put_set, set_at};
 
 mod empty_set;
-mod key_walk;
+mod key_order;
 mod prepare;
 mod run;
+mod take_first;
 mod tree;
 
 use crate::command::Command;
-use crate::owner::key_walk::{first_key, next_key, nth_key};
+use crate::owner::key_order::{first_key, next_key, nth_key};
 use crate::owner::prepare::{commit_at, drop_at, prepare_at};
 use crate::owner::run::run_at;
 use crate::owner::tree::SetTree;
@@ -56,7 +57,7 @@ impl<H: BuildHasher, A: Allocator + Copy> Model for OneOwner<H, A> {
     ghost coded = { Prim.hlevel (codes, coded_members, coded_world) };
 
     ghost use Rattle.zset_core.specs.OwnerInvariant.{owner_view, IsOwned};
-    ghost use Rattle.zset_core.specs.RequestBounds.{IsBoundedOwner};
+    ghost use Rattle.zset_core.specs.BoundedWorld.{IsBoundedOwner};
 
     ghost view = { λ o. owner_view o.sets.entries o.asked };
 
@@ -97,7 +98,8 @@ impl<H: BuildHasher + Clone + Drop, A: Allocator + Copy> OneOwner<H, A> {
     }
 
     /// Prepares a command that changes sets in the set of its key: takes all the memory that it
-    /// needs, and leaves all sets as they are until `commit` or `drop_prepared`. Refused for want
+    /// needs, and leaves all sets as they are until `commit` or `drop_prepared`. The outline tells how
+    /// many members it will add and take out, and whether it changes the set. Refused for want
     /// of memory, or where a sum of INCR is no score; nothing is prepared then.
     pub fn prepare(&mut self, command: &Command<A>) -> Result<Outline, Refusal>
         requires idle { self.old.next ≡ None }

@@ -33,9 +33,9 @@ pub enum Refusal {
     BadBound,
     /// An argument of LIMIT that is no integer.
     BadInteger,
-    /// Every place of the table of sets bears another key's name. There is no such table yet.
+    /// Every place of a table of sets bears another key's name. No owner tells it.
     TableFull,
-    /// The key's place in the table has had all the runs that it is given. Not told yet.
+    /// The key's place in a table has had all the runs that it is given. No owner tells it.
     Spent,
     /// An increased score would lie outside 64 bits.
     ScoreOverflow,
@@ -45,7 +45,7 @@ pub enum Refusal {
     LogFull,
     /// The append failed in this call.
     LogRefused,
-    /// A place of the table and the pass that asks it do not belong together. Not told yet.
+    /// A place of a table and the pass that asks it tell different numbers. No owner tells it.
     OutOfStep,
 }
 

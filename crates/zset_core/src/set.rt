@@ -2,15 +2,15 @@
 ghost use Rattle.std.specs.Prelude.{◌≡◌, ◌+◌, ◌<◌, ◌≤◌, ◌^◌, ◌⊎◌, ◌↔◌, length, true, false, Some, None, IsSome, IfSome, IfOk, IfErr, OnOk, OnErr, IsTrue, take, option_map};
 ghost use Rattle.std.specs.FinMap as map;
 ghost use Rattle.indexmap.specs.IndexMap.{IsUnique};
-ghost use Rattle.zset_core.specs.StagedEntries.{current_score, slot_at, same_bytes};
+ghost use Rattle.zset_core.specs.MemberEntries.{current_score, slot_at, same_bytes};
 ghost use Rattle.zset_core.specs.SetInvariant.{kept_of};
 ghost use Rattle.zset_core.specs.CommandMeaning.{is_writing, key_of};
 ghost use Rattle.zset_core.specs.ChangeOutline.{IsOutline};
 ghost use Rattle.zset_core.specs.Refusal.{IsRefused};
 ghost use Rattle.ripple_column.specs.Content.{Holds, IsUnchanged, most_pending};
 ghost use Rattle.ripple_column.specs.Cuts.{values};
-ghost use Rattle.zset_core.specs.ColumnEffects.{Reads, changes_named, edit_count};
-ghost use Rattle.zset_core.specs.Edits.{most_edits};
+ghost use Rattle.zset_core.specs.ColumnEffects.{NarrowsFor, Reads, changes_named, edit_count};
+ghost use Rattle.zset_core.specs.RowEdits.{most_edits};
 ghost use Rattle.zset_core.specs.Readiness.{IsReadyFor};
 ghost use Rattle.zset_core.specs.SortedSet.{pairs, whole};
 ghost use Rattle.zset_core.specs.Semantics.{step};
@@ -24,10 +24,10 @@ pub mod pair_outcome;
 pub mod plan;
 pub mod removal;
 pub mod row_edits;
-pub mod settling;
+pub mod staged_scores;
 
 use crate::command::Command;
-use crate::query::answer::{answer_from, ready_from};
+use crate::query::answer::{answer_from, is_wide_for, narrow_for, ready_from};
 use crate::query::listing::all_rows;
 use crate::refusal::Refusal;
 use crate::set::change_outline::Outline;
@@ -117,6 +117,26 @@ impl<H: BuildHasher, A: Allocator + Copy> ZSet<H, A> {
         self.prepared.is_some()
     }
 
+    /// Makes the set ready for ZRANGEBYSCORE with LIMIT, and cracks its column so that mostly few rows
+    /// stand in the pieces round the window that it asks for: `answer` and `ready` reply the same without
+    /// it, but may read many rows each time. Owners call it before `answer`. For any other command it
+    /// changes nothing. Refused only when out of memory.
+    pub fn narrow(&mut self, command: &Command<A>) -> Result<(), AllocError>
+        requires idle { self.old.next ≡ None }
+        ensures members { self.new.members ≡ self.old.members }
+        ensures idle { self.new.next ≡ None }
+        ensures column { OnOk result (NarrowsFor command.now.meaning self.old.column self.new.column) }
+        ensures refused { OnErr result (IsUnchanged self.old.column self.new.column) }
+    {
+        narrow_for(&mut self.column, command)
+    }
+
+    /// Whether `ready` would read many rows for a window that `narrow` would let be listed by few. It
+    /// is a hint: no reply depends on it.
+    pub fn is_wide(&self, command: &Command<A>) -> bool {
+        is_wide_for(&self.column, command)
+    }
+
     /// Answers a command that reads the set of its key: ZSCORE, ZCARD, ZCOUNT, ZRANGEBYSCORE. Then
     /// the set is ready for it. Refused only when out of memory.
     pub fn answer(&mut self, command: &Command<A>) -> Result<Reply<A>, AllocError>
@@ -141,7 +161,7 @@ impl<H: BuildHasher, A: Allocator + Copy> ZSet<H, A> {
     /// The reply to a command that reads the set of its key, where the set can give it as it
     /// stands: as `answer` gives it. None for a command that changes sets, and where a range is
     /// asked for that the column is not ready for: a cut of it is no pivot, or a change of its rows
-    /// waits.
+    /// waits. `Some(Err(_))` where the set is ready and there was no memory for the reply.
     pub fn ready(&self, command: &Command<A>) -> Option<Result<Reply<A>, AllocError>>
         requires idle { self.now.next ≡ None }
         requires keyed { IsSome (key_of command.now.meaning) }
@@ -172,8 +192,9 @@ impl<H: BuildHasher, A: Allocator + Copy> ZSet<H, A> {
     }
 
     /// Prepares a command that changes sets: takes all the memory that it needs, and leaves the
-    /// members as they are until `commit` or `drop_prepared`. Refused when out of memory, or where
-    /// a sum of INCR is no score; nothing is prepared then.
+    /// members as they are until `commit` or `drop_prepared`. The outline tells how many members it
+    /// will add and take out, and whether it changes the set. The column may merge what waits, to make
+    /// room. Refused when out of memory, or where a sum of INCR is no score; nothing is prepared then.
     pub fn prepare(&mut self, command: &Command<A>) -> Result<Outline, Refusal>
         requires idle { self.old.next ≡ None }
         requires writing { IsTrue (is_writing command.now.meaning) }

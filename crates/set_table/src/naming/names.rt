@@ -5,6 +5,8 @@ ghost use Rattle.std.proofs.Math.ListN.{get_or};
 ghost use Rattle.once_cell.specs.Once.{cell_name, Agrees};
 ghost use Rattle.set_table.specs.Naming.{AreNotesOf, Grows, IsPlace, IsUnclaimed, Learns, hash_from, name_at, walk};
 
+mod agreement;
+
 use crate::naming::knowledge::Knowledge;
 use crate::naming::memory::{Memory, mixed_hash};
 use crate::naming::name::{Name, hash};

@@ -1,5 +1,9 @@
 //! What a pass knows of the places' names.
 
+ghost use Rattle.std.specs.Prelude.{◌≡◌, ◌<◌, length, None};
+ghost use Rattle.std.proofs.Math.ListN.{get_or};
+ghost use Rattle.set_table.specs.Naming.{name_at};
+
 use crate::naming::name::Name;
 use once_cell::race::Note;
 use std::marker::Model;
@@ -23,4 +27,16 @@ impl Model for Notes {
     ghost Value = { NotesView };
 
     ghost view = { λ n. record { cells = map (λ p. p.note.cell) n.places.items; known = map (λ p. p.note.known) n.places.items } };
+}
+
+impl Notes {
+    /// A second note of a place's name, which knows what the first does.
+    pub(crate) fn note_of(&mut self, place: usize) -> Note<Name>
+        requires { place < length self.old.known }
+        ensures same { self.new ≡ self.old }
+        ensures cell { result.cell ≡ get_or self.old.cells place 0 }
+        ensures known { result.known ≡ name_at self.old.known place }
+    {
+        self.places[place].note.again()
+    }
 }

@@ -3,7 +3,7 @@
 ghost use Rattle.std.specs.Prelude.{◌≡◌, ◌<◌, ◌≤◌, true, length, drop};
 ghost use Rattle.zset_core.specs.CommandGrammar.{most_arguments, conditions, has_arity, meaning, command_conditions, command_meaning};
 ghost use Rattle.zset_core.specs.ParsedArguments.{word_at};
-ghost use Rattle.zset_core.specs.ReadingSteps.{IsReading};
+ghost use Rattle.zset_core.specs.ArgumentReading.{IsReading};
 
 use crate::command::add::read_add;
 use crate::command::name::CommandName;

@@ -2,7 +2,7 @@
 
 ghost use Rattle.std.specs.Prelude.{◌≡◌, ◌≤◌, ◌||◌, length, is_none, option_map};
 ghost use Rattle.zset_core.specs.CommandGrammar.{asked_range, command_conditions, command_meaning, range_options};
-ghost use Rattle.zset_core.specs.ReadingSteps.{IsReading, choice_after, no_choice};
+ghost use Rattle.zset_core.specs.ArgumentReading.{IsReading, choice_after, no_choice};
 ghost use Rattle.zset_core.specs.declared.command.name.CommandName.TheVariants as names;
 
 use crate::command::dispatch::{argument, behind};

@@ -13,9 +13,9 @@ use resp_wire::{BytesList, Reply};
 use std::alloc::{AllocError, Allocator};
 
 impl<A: Allocator + Copy> Command<A> {
-    /// The reply to PING, and to a command that makes no set where its key has none: that of the
-    /// empty set, which stays empty. Refused for want of memory alone, which only PING with a text
-    /// takes.
+    /// The reply to PING, and to a command that makes no set where its key has none, as ZADD with XX
+    /// does not: that of the empty set, which stays empty. Refused for want of memory alone, which only
+    /// PING with a text takes.
     pub fn reply_without_set(&self, alloc: A) -> Result<Reply<A>, AllocError>
         requires { is_creating self.now.meaning ≡ false }
         ensures { IfOk result (λ reply. step map.empty self.now.meaning

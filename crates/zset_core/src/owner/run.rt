@@ -31,10 +31,10 @@ fn run_set<H: BuildHasher, A: Allocator + Copy>(
 {
     if command.writes() {
         set.prepare(command)?;
-        Ok(set.commit())
-    } else {
-        Ok(set.answer(command)?)
+        return Ok(set.commit());
     }
+    set.narrow(command)?;
+    Ok(set.answer(command)?)
 }
 
 /// Runs a command on the key of a missing set, which is put in if it is not empty then.

@@ -4,20 +4,20 @@ ghost use Rattle.crack_kernel.specs.RowBag.{SameBag};
 ghost use Rattle.resp_wire.specs.Response.{Array, Integer, response_of};
 ghost use Rattle.ripple_column.specs.Content.{Holds, IsUnchanged, SameContent};
 ghost use Rattle.zset_core.specs.CommandMeaning.{is_writing, key_of};
-ghost use Rattle.zset_core.specs.ColumnEffects.{Reads};
+ghost use Rattle.zset_core.specs.ColumnEffects.{NarrowsFor, Reads};
 ghost use Rattle.zset_core.specs.Readiness.{IsReadyFor};
 ghost use Rattle.zset_core.specs.SortedSet.{Members, listing, pairs};
 ghost use Rattle.zset_core.specs.Semantics.{elements, apply_limit, step};
-ghost use Rattle.zset_core.specs.StagedEntries.{current_score, members_by, IsSettled, same_bytes};
+ghost use Rattle.zset_core.specs.MemberEntries.{current_score, members_by, IsSettled, same_bytes};
 
 use crate::command::Command;
 use crate::command::limit::Limit;
 use crate::command::parsed::Form;
 use crate::query::listing::elements_of;
 use crate::query::window::{
-    piece_end, piece_start, ranks_of, select_window, shown_rows, window_of,
+    is_wide_window, narrow_window, piece_end, piece_start, ranks_of, shown_rows, window_of,
 };
-use crate::replies::{count_reply, score_reply};
+use crate::score_replies::{count_reply, score_reply};
 use crate::set::member_map::{MemberMap, card_of, score_of};
 use resp_wire::Reply;
 use ripple_column::Column;
@@ -55,10 +55,38 @@ pub fn answer_from<H: BuildHasher, A: Allocator + Copy>(
             with_scores,
             limit,
         } => {
-            let rows = select_window(column, range, limit)?;
+            let rows = column.select(range)?;
             list_rows(alloc, column, rows, limit, *with_scores)
         }
         _ => unreachable!(),
+    }
+}
+
+/// Makes the column ready for the window of ZRANGEBYSCORE with LIMIT, and its pieces short there. For
+/// any other command it changes nothing.
+pub fn narrow_for<A: Allocator + Copy>(
+    column: &mut Column<A>,
+    command: &Command<A>,
+) -> Result<(), AllocError>
+    ensures content { SameContent column.old column.new }
+    ensures column { OnOk result (NarrowsFor command.now.meaning column.old column.new) }
+    ensures refused { OnErr result (IsUnchanged column.old column.new) }
+{
+    match command.form() {
+        Form::ListRange { range, limit, .. } if limit.is_some() => {
+            narrow_window(column, range, limit)
+        }
+        _ => Ok(()),
+    }
+}
+
+/// Whether `narrow_for` would make a piece shorter for a command for which the column is ready.
+pub fn is_wide_for<A: Allocator + Copy>(column: &Column<A>, command: &Command<A>) -> bool {
+    match command.form() {
+        Form::ListRange { range, limit, .. } if limit.is_some() => {
+            is_wide_window(column, range, limit)
+        }
+        _ => false,
     }
 }
 

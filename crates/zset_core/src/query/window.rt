@@ -2,11 +2,10 @@
 ghost use Rattle.std.specs.Prelude.{◌≡◌, ◌+◌, ◌≤◌, ℕ, ℤ, List, length, take, drop, slice_range, IfOk, OnErr, OnOk};
 ghost use Rattle.std.specs.List.Sorted.{IsNonDecreasingBy, IsSorted};
 ghost use Rattle.ripple_column.specs.Content.{IsUnchanged, SameContent};
-ghost use Rattle.ripple_column.specs.RangeAnswer.{HoldsRange, IsAnswer};
-ghost use Rattle.zset_core.specs.ColumnEffects.{Selects};
+ghost use Rattle.zset_core.specs.ColumnEffects.{Narrows};
 ghost use Rattle.zset_core.specs.SortedSet.{Pair};
 ghost use Rattle.zset_core.specs.Semantics.{from_offset, at_most, apply_limit};
-ghost use Rattle.zset_core.specs.BorrowedPairs.{pairs_of, shown_cmp};
+ghost use Rattle.zset_core.specs.ListedPairs.{pairs_of, shown_cmp};
 ghost use Rattle.zset_core.specs.RankWindow.{IsPart, IsPieceStart, IsPieceEnd};
 
 use crate::command::limit::Limit;
@@ -45,36 +44,39 @@ pub fn ranks_of(limit: &Option<Limit>, len: usize) -> (usize, usize)
     }
 }
 
-/// How many rows wait.
-fn count_waiting<A: Allocator + Copy>(column: &Column<A>) -> usize
-    ensures { result ≡ length column.now.insertions + length column.now.deletions }
-{
-    let (insertions, deletions) = column.pending();
-    insertions + deletions
-}
-
-/// The places of a range's rows, as `Column::select` answers them. Where rows were merged, the pieces
-/// round the window that LIMIT asks for are made short: the next window there reads few rows. Else
-/// rows may move in the pieces of the range's cuts alone.
-pub fn select_window<A: Allocator + Copy>(
+/// Makes a column ready for a range, and the pieces short around the window that LIMIT asks for in it:
+/// to list that window then reads few rows.
+pub fn narrow_window<A: Allocator + Copy>(
     column: &mut Column<A>,
     range: &Range,
     limit: &Option<Limit>,
-) -> Result<(usize, usize), AllocError>
+) -> Result<(), AllocError>
     ensures content { SameContent column.old column.new }
-    ensures answer { IfOk result (λ answer. IsAnswer column.new range.now answer) }
-    ensures rows { IfOk result (λ answer. HoldsRange column.new range.now answer) }
-    ensures selects { OnOk result (Selects range.now column.old column.new) }
+    ensures narrows { OnOk result (Narrows range.now column.old column.new) }
     ensures refused { OnErr result (IsUnchanged column.old column.new) }
 {
-    let waited = count_waiting(column);
     let (from, to) = column.select(range)?;
-    let waiting = count_waiting(column);
-    if waiting != waited {
+    if from < to {
         let (start, end) = ranks_of(limit, to - from);
         column.narrow(range, from + start, from + end);
     }
-    Ok((from, to))
+    Ok(())
+}
+
+/// Whether a column is ready for a range, and the pieces around the window that LIMIT asks for in it are
+/// longer than `narrow_window` would leave them.
+pub fn is_wide_window<A: Allocator + Copy>(
+    column: &Column<A>,
+    range: &Range,
+    limit: &Option<Limit>,
+) -> bool {
+    match column.ready(range) {
+        Some((from, to)) if from < to => {
+            let (start, end) = ranks_of(limit, to - from);
+            column.is_wide(from + start, from + end)
+        }
+        _ => false,
+    }
 }
 
 /// The greatest place of a pivot that is at most `first`, or `from` where no such place is greater.

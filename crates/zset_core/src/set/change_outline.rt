@@ -1,6 +1,6 @@
 //! What a command does to a set in numbers.
 ghost use Rattle.std.specs.Prelude.{◌≡◌, ◌≢◌, ◌≤◌, true, false, length, take};
-ghost use Rattle.zset_core.specs.StagedEntries.{current_score, staged_score, members_by, IsSettled, IsWaiting};
+ghost use Rattle.zset_core.specs.MemberEntries.{current_score, staged_score, members_by, IsSettled, IsWaiting};
 ghost use Rattle.zset_core.specs.ChangeOutline.{IsOutline};
 
 use crate::set::draft::Draft;

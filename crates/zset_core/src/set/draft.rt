@@ -5,16 +5,16 @@ ghost use Rattle.std.specs.FinMap as map;
 ghost use Rattle.zset_core.specs.declared.set.member_map.ScoreSlot.{ScoreSlot as SlotType};
 ghost use Rattle.zset_core.specs.Semantics.{outcome_of, counted, put_one, put_all, count_all, increase_reply};
 ghost use Rattle.zset_core.specs.ParsedArguments.{given_pairs};
-ghost use Rattle.zset_core.specs.Edits.{Notes};
-ghost use Rattle.zset_core.specs.StagedEntries.{current_score, staged_score, rows_by, members_by, slot_at, slots, IsSettled, IsWaiting, Grows};
+ghost use Rattle.zset_core.specs.RowEdits.{Notes};
+ghost use Rattle.zset_core.specs.MemberEntries.{current_score, staged_score, rows_by, members_by, slot_at, slots, IsSettled, IsWaiting, Grows};
 ghost use Rattle.resp_wire.specs.Response.{response_of};
 
-use crate::command::scored_pairs::ScoredPairs;
-use crate::replies::increase_reply;
+use crate::command::given_pairs::GivenPairs;
+use crate::score_replies::increase_reply;
 use crate::set::member_map::{MemberMap, ScoreSlot, find_slot};
 use crate::set::pair_outcome::{Flags, Outcome};
 use crate::set::row_edits::Edits;
-use crate::set::settling::unsettle;
+use crate::set::staged_scores::discard_staged;
 use resp_wire::Reply;
 use std::alloc::{AllocError, Allocator};
 use std::hash::BuildHasher;
@@ -96,7 +96,7 @@ impl<A: Allocator + Copy> Draft<A> {
         members: &mut MemberMap<H, A>,
         flags: Flags,
         changed: bool,
-        pairs: &ScoredPairs<A>,
+        pairs: &GivenPairs<A>,
     ) -> Result<u64, AllocError>
         requires { IsWaiting self.old.touched.items members.old.entries }
         ensures count { IfOk result (λ n. n
@@ -157,7 +157,7 @@ impl<A: Allocator + Copy> Draft<A> {
             ≡ take self.now.kept (rows_by current_score members.old.entries) }
         ensures settled { IsSettled members.new.entries }
     {
-        unsettle(members, self.touched.as_slice());
+        discard_staged(members, self.touched.as_slice());
         members.truncate(self.kept);
     }
 }

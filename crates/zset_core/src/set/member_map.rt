@@ -2,7 +2,7 @@
 ghost use Rattle.std.specs.Prelude.{◌≡◌, ◌<◌, ◌^◌, Some, slice_get, option_map, IfSome};
 ghost use Rattle.std.specs.FinMap as map;
 ghost use Rattle.indexmap.specs.IndexMap.{IsUnique};
-ghost use Rattle.zset_core.specs.StagedEntries.{current_score, staged_score, members_by, slot_at, slots, same_bytes};
+ghost use Rattle.zset_core.specs.MemberEntries.{current_score, staged_score, members_by, slot_at, slots, same_bytes};
 
 use indexmap::IndexMap;
 use std::alloc::Allocator;

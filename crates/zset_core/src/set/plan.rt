@@ -8,24 +8,24 @@ ghost use Rattle.zset_core.specs.CommandMeaning.{is_writing};
 ghost use Rattle.zset_core.specs.ParsedArguments.{given_pairs};
 ghost use Rattle.ripple_column.specs.Content.{Holds, IsUnchanged, SameContent, most_pending};
 ghost use Rattle.ripple_column.specs.Cuts.{values};
-ghost use Rattle.zset_core.specs.Edits.{HasAtMost, HasRoom, IsFew, Notes, TurnsInto, most_edits};
-ghost use Rattle.zset_core.specs.StagedEntries.{current_score, staged_score, rows_by, members_by, IsSettled, IsBack, IsWaiting, Grows};
+ghost use Rattle.zset_core.specs.RowEdits.{HasAtMost, HasRoom, IsFew, Notes, TurnsInto, most_edits};
+ghost use Rattle.zset_core.specs.MemberEntries.{current_score, staged_score, rows_by, members_by, IsSettled, IsBack, IsWaiting, Grows};
 ghost use Rattle.zset_core.specs.SortedSet.{pairs};
 ghost use Rattle.zset_core.specs.Plan.{Prepares, Plans, left_by};
 ghost use Rattle.zset_core.specs.Refusal.{IsRefused};
 
 use crate::command::Command;
+use crate::command::given_pairs::GivenPairs;
 use crate::command::parsed::Form;
-use crate::command::scored_pairs::ScoredPairs;
 use crate::refusal::Refusal;
-use crate::replies::count_reply;
+use crate::score_replies::count_reply;
 use crate::set::change_outline::{Outline, outline_staged};
 use crate::set::draft::Draft;
 use crate::set::member_map::{MemberMap, score_of};
 use crate::set::pair_outcome::{Flags, sum};
 use crate::set::removal::collect_removed;
 use crate::set::row_edits::make_edits;
-use crate::set::settling::{settle, take_out};
+use crate::set::staged_scores::{adopt_staged, take_out};
 use resp_wire::{Bytes, Reply};
 use ripple_column::{Column, MAX_PENDING};
 use std::alloc::{AllocError, Allocator};
@@ -47,7 +47,7 @@ pub fn plan_add<H: BuildHasher, A: Allocator + Copy>(
     members: &mut MemberMap<H, A>,
     flags: Flags,
     changed: bool,
-    pairs: &ScoredPairs<A>,
+    pairs: &GivenPairs<A>,
 ) -> Result<Plan<A>, AllocError>
     requires settled { IsSettled members.old.entries }
     requires few { length pairs.now.scores.now ≤ most_edits }
@@ -222,7 +222,7 @@ fn plan_for<H: BuildHasher, A: Allocator + Copy>(
             first,
             scores,
         } => {
-            let pairs = ScoredPairs {
+            let pairs = GivenPairs {
                 scores: scores.as_slice(),
                 arguments: &words[*first..],
             };
@@ -321,7 +321,7 @@ pub fn apply_plan<H: BuildHasher, A: Allocator + Copy>(
     ensures reply { result ≡ plan.reply }
 {
     let draft = plan.draft;
-    settle(members, draft.touched.as_slice());
+    adopt_staged(members, draft.touched.as_slice());
     take_out(members, plan.removed.as_slice());
     make_edits(column, draft.edits);
     plan.reply

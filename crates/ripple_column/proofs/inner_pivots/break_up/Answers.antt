@@ -1,4 +1,4 @@
-use Rattle.ripple_column.proofs.PieceCracks.{AreCracked-more}
+use Rattle.ripple_column.proofs.InnerCracks.{AreCracked-more}
 use Rattle.ripple_column.proofs.inner_pivots.break_up.Goals as goal
 
 pub loop-i-preserved : goal.loop-i-preserved

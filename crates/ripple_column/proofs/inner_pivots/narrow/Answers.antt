@@ -1,4 +1,4 @@
-use Rattle.ripple_column.proofs.PieceCracks.{AreCracked-more}
+use Rattle.ripple_column.proofs.InnerCracks.{AreCracked-more}
 use Rattle.ripple_column.proofs.inner_pivots.narrow.Goals as goal
 
 pub returns-then-not-narrow_once : goal.returns-then-not-narrow_once

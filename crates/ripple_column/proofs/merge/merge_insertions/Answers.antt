@@ -1,7 +1,10 @@
-use Rattle.std.proofs.Common.{◌≡◌, ◌<◌, ◌+◌, ◌++◌, ◌∷◌, [], ◌&&◌, not, true, ℕ, Bool, cond, length, get_or, ℤ, List, length-append, count_by, ap, ◌∙◌, sym, arith}
+use Rattle.std.proofs.Common.{false, ◌≡◌, ◌<◌, ◌+◌, ◌++◌, ◌∷◌, [], ◌&&◌, not, true, ℕ, Bool, cond, length, get_or, ℤ, List, length-append, count_by, ap, ◌∙◌, sym, arith}
 use Rattle.std.proofs.lemmas.List.{get_or_default}
+use Rattle.std.proofs.lemmas.List.Elements.{AllWithin-more}
 use Rattle.std.proofs.lemmas.List.Sorted.{length_permutation}
+use Rattle.score_bounds.specs.declared.bounds.Range.{Range}
 use Rattle.crack_kernel.specs.RowBag.{Test}
+use Rattle.crack_kernel.proofs.PartMoves.{holds_read}
 use Rattle.ripple_column.specs.Content.{has_score_in}
 use Rattle.ripple_column.proofs.Counts.{count_push, count_moved, count_swapped_out, count_zero, and_not}
 use Rattle.ripple_column.proofs.Frames.{KeepsFrame-more}
@@ -16,7 +19,7 @@ ripple_insert-requires-clause-room g c =
     let y = c.index-list-i.result in
     let here : y ≡ get_or old c.loop-i.i y = c.index-list-i.is ∙ ap (λ (z : List (ℤ × List ℕ)). get_or z c.loop-i.i y) c.list.ensures in
     let same : x ≡ y = c.swap_remove-row.ensures.value ∙ get_or_default old c.loop-i.i x y in' ∙ sym here in
-    let asked : w x ≡ true = ap w same ∙ sym c.if-is_within.ensures in
+    let asked : w x ≡ true = ap w same ∙ sym (c.if-is_within.ensures ∙ ap (λ (asked_range : Range). has_score_in asked_range y) c.interval-interval.ensures) in
     let less = count_swapped_out w old c.swap_remove-row.new.self.items c.loop-i.i x in' c.swap_remove-row.ensures.value c.swap_remove-row.ensures.items in
     let one : cond {A = ℕ} (w x) 1 0 ≡ 1 = ap (λ (b : Bool). cond {A = ℕ} b 1 0) asked in
     omega (arith, less, one, c.loop-i.invariant.room, c.loop-i.invariant.frame.capacity)
@@ -34,7 +37,7 @@ loop-i-preserved-then-is_within g c =
     let y = c.index-list-i.result in
     let here : y ≡ get_or old c.loop-i.i y = c.index-list-i.is ∙ ap (λ (z : List (ℤ × List ℕ)). get_or z c.loop-i.i y) c.list.ensures in
     let same : x ≡ y = c.swap_remove-row.ensures.value ∙ get_or_default old c.loop-i.i x y in' ∙ sym here in
-    let asked : w x ≡ true = ap w same ∙ sym c.if-is_within.ensures in
+    let asked : w x ≡ true = ap w same ∙ sym (c.if-is_within.ensures ∙ ap (λ (asked_range : Range). has_score_in asked_range y) c.interval-interval.ensures) in
     let out : (p : Test) → count_by p left + cond {A = ℕ} (p x) 1 0 ≡ count_by p old =
     λ p. count_swapped_out p old left c.loop-i.i x in' c.swap_remove-row.ensures.value c.swap_remove-row.ensures.items in
     let put : (p : Test) → count_by p new ≡ count_by p rows + cond {A = ℕ} (p x) 1 0 = λ p. count_moved p (rows ++ x ∷ []) new c.ripple_insert.ensures.rows ∙ count_push p rows x in
@@ -52,4 +55,24 @@ loop-i-preserved-then-is_within g c =
           let denied : cond {A = ℕ} (q x) 1 0 ≡ 0 = count_zero q x (and_not (p x) (w x) asked) in
           let gone = out q in
           omega (arith, gone, denied, v.waiting p);
+    }
+
+pub loop-i-preserved : goal.loop-i-preserved
+loop-i-preserved g c =
+    let v = c.loop-i.invariant in
+    let old = c.loop-i.insertions.items in
+    let y = c.index-list-i.result in
+    let here : y ≡ get_or old c.loop-i.i y = c.index-list-i.is ∙ ap (λ (z : List (ℤ × List ℕ)). get_or z c.loop-i.i y) c.list.ensures in
+    let asked : has_score_in c.args.range.now y ≡ false
+    = sym (c.if-is_within.ensures ∙ ap (λ (asked_range : Range). has_score_in asked_range y) c.interval-interval.ensures) in
+    let outside : (d : ℤ × List ℕ) → has_score_in c.args.range.now (get_or old c.loop-i.i d) ≡ false
+    = holds_read (λ r. has_score_in c.args.range.now r ≡ false) old c.loop-i.i y (omega arith) here asked in
+    record {
+      fits = omega arith;
+      room = v.room;
+      less = v.less;
+      frame = v.frame;
+      content = v.content;
+      waiting = v.waiting;
+      passed = AllWithin-more (λ r. has_score_in c.args.range.now r ≡ false) old 0 c.loop-i.i v.passed outside;
     }

@@ -23,8 +23,8 @@ merge_insertions-requires g c =
     let waits = m.waiting_insertions t in
     omega (arith, all, gone, less_m, less_d, rows0, rows2, split0, split1, waits, m.frame.capacity, d.frame.capacity, c.requires.room)
 
-pub returns-then-has_within-clause-merges : goal.returns-then-has_within-clause-merges
-returns-then-has_within-clause-merges g c =
+pub returns-clause-merges : goal.returns-clause-merges
+returns-clause-merges g c =
     let m = c.merge_many.ensures.merges in
     let d = c.merge_deletions.ensures in
     let i = c.merge_insertions.ensures in
@@ -35,14 +35,11 @@ returns-then-has_within-clause-merges g c =
       less_insertions = λ p. omega (arith, i.less p, m.less_insertions p);
     }
 
-pub returns-then-has_within-clause-waiting_deletions : goal.returns-then-has_within-clause-waiting_deletions
-returns-then-has_within-clause-waiting_deletions g c p = c.merge_deletions.ensures.waiting p ∙ c.merge_many.ensures.waiting_deletions p
+pub returns-clause-waiting_deletions : goal.returns-clause-waiting_deletions
+returns-clause-waiting_deletions g c p = c.merge_deletions.ensures.waiting p ∙ c.merge_many.ensures.waiting_deletions p
 
-pub returns-then-has_within-clause-waiting_insertions : goal.returns-then-has_within-clause-waiting_insertions
-returns-then-has_within-clause-waiting_insertions g c p = c.merge_insertions.ensures.waiting p ∙ c.merge_many.ensures.waiting_insertions p
+pub returns-clause-waiting_insertions : goal.returns-clause-waiting_insertions
+returns-clause-waiting_insertions g c p = c.merge_insertions.ensures.waiting p ∙ c.merge_many.ensures.waiting_insertions p
 
-pub returns-then-has_within-clause-frame : goal.returns-then-has_within-clause-frame
-returns-then-has_within-clause-frame g c = KeepsFrame-more c.merge_many.ensures.frame (KeepsFrame-more c.merge_deletions.ensures.frame c.merge_insertions.ensures.frame)
-
-pub returns-then-has_within-clause-still : goal.returns-then-has_within-clause-still
-returns-then-has_within-clause-still g c none_d none_i = absurd (false≢true (sym (c.has_within.ensures.1 (none_d, none_i)) ∙ c.if-has_within.true))
+pub returns-clause-frame : goal.returns-clause-frame
+returns-clause-frame g c = KeepsFrame-more c.merge_many.ensures.frame (KeepsFrame-more c.merge_deletions.ensures.frame c.merge_insertions.ensures.frame)

@@ -1,6 +1,7 @@
 use Rattle.std.proofs.Common.{◌≡◌, ◌+◌, length, true, ap, ◌∙◌, sym, arith}
 use Rattle.std.proofs.lemmas.List.Sorted.{IsPermutation-trans, IsPermutation-swap}
 use Rattle.std.proofs.lemmas.List.Edits.{length-swap}
+use Rattle.score_bounds.specs.declared.bounds.Range.{Range}
 use Rattle.crack_kernel.specs.RowBag.{Test}
 use Rattle.crack_kernel.proofs.PartMoves.{AllWithin-swapped, holds_read}
 use Rattle.ripple_column.specs.Content.{has_score_in}
@@ -13,7 +14,8 @@ loop-i-preserved g c =
     let s = c.swap.ensures in
     let rows = c.loop-i.list.items in
     let test : Test = has_score_in c.args.range.now in
-    let asked : c.is_within-inside.result ≡ has_score_in c.args.range.now c.index.result.now = c.is_within-inside.ensures in
+    let asked : c.is_within-inside.result ≡ has_score_in c.args.range.now c.index.result.now
+    = c.is_within-inside.ensures ∙ ap (λ (asked_range : Range). has_score_in asked_range c.index.result.now) c.interval-interval.ensures in
     let moved = IsPermutation-trans _ _ _ v.moves (IsPermutation-swap _ _ _ _ (omega (arith, v.len)) (omega (arith, v.len, v.order)) s.items) in
     elim c.if-not-inside.branch [
       | then-not-inside w ↦ record {

@@ -1,5 +1,5 @@
 use Rattle.std.proofs.Common.{Option, Ok, Err, refl, ◌∙◌, ap}
-use Rattle.zcrackd.specs.Files as files
+use Rattle.zcrackd.specs.FileFinish as files
 use Rattle.zcrackd.specs.Finish.{noticed}
 use Rattle.zcrackd.specs.declared.finish.Line.{Line}
 use Rattle.zcrackd.proofs.file.serve_file.Goals as goal

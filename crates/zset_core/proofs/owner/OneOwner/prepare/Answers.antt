@@ -2,7 +2,7 @@ use Rattle.std.proofs.Common.{◌∙◌, sym, ap, subst, List, ℕ, Option, Some
 use Rattle.resp_wire.specs.RequestEncoding.{IsArgument}
 use Rattle.zset_core.specs.CommandMeaning.{Asked, key_of}
 use Rattle.zset_core.specs.OwnerInvariant.{world_of, next_at}
-use Rattle.zset_core.specs.RequestBounds.{IsBoundedWorld}
+use Rattle.zset_core.specs.BoundedWorld.{IsBoundedWorld}
 use Rattle.zset_core.proofs.Bounds.{IsBoundedNext, ready_bounded_at}
 use Rattle.zset_core.proofs.OwnerBounds.{world_bounded}
 use Rattle.zset_core.proofs.owner.OneOwner.prepare.Goals as goal

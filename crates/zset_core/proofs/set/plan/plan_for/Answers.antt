@@ -2,9 +2,9 @@ use Rattle.std.proofs.Common.{◌≡◌, ◌∙◌, ◌-◌, ℕ, List, arith, a
 use Rattle.std.specs.FinMap as map
 use Rattle.std.proofs.lemmas.List.{take_all}
 use Rattle.zset_core.specs.ColumnEffects.{edit_count}
-use Rattle.zset_core.specs.Edits.{HasAtMost}
+use Rattle.zset_core.specs.RowEdits.{HasAtMost}
 use Rattle.zset_core.specs.ParsedArguments.{meaning_of}
-use Rattle.zset_core.specs.StagedEntries.{current_score, members_by}
+use Rattle.zset_core.specs.MemberEntries.{current_score, members_by}
 use Rattle.zset_core.specs.CommandMeaning.{Meaning}
 use Rattle.zset_core.specs.SortedSet.{Members}
 use Rattle.zset_core.specs.Semantics.{remove_all}

@@ -1,12 +1,12 @@
 use Rattle.std.proofs.Common.{◌∙◌, sym, ap, subst, take}
-use Rattle.zset_core.specs.StagedEntries.{current_score, rows_by, IsSettled}
+use Rattle.zset_core.specs.MemberEntries.{current_score, rows_by, IsSettled}
 use Rattle.zset_core.proofs.Staging.{rows_take, IsSettled-take}
 use Rattle.zset_core.proofs.set.draft.Draft.roll_back.Goals as goal
 
 pub returns-clause-current : goal.returns-clause-current
 returns-clause-current g c =
-    ap (rows_by current_score) c.truncate.ensures.entries ∙ rows_take current_score c.args.self.now.kept c.unsettle.new.members.entries ∙ ap (take c.args.self.now.kept) c.unsettle.ensures.current
+    ap (rows_by current_score) c.truncate.ensures.entries ∙ rows_take current_score c.args.self.now.kept c.discard_staged.new.members.entries ∙ ap (take c.args.self.now.kept) c.discard_staged.ensures.current
 
 pub returns-clause-settled : goal.returns-clause-settled
 returns-clause-settled g c =
-    subst IsSettled (sym c.truncate.ensures.entries) (IsSettled-take c.args.self.now.kept c.unsettle.new.members.entries c.unsettle.ensures.settled)
+    subst IsSettled (sym c.truncate.ensures.entries) (IsSettled-take c.args.self.now.kept c.discard_staged.new.members.entries c.discard_staged.ensures.settled)

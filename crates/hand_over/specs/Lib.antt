@@ -1,0 +1,3 @@
+pub mod Arriving
+pub mod Numbering
+pub mod Outcome

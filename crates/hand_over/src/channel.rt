@@ -1,0 +1,167 @@
+//! The channel of numbered connections and its rule.
+
+ghost use Rattle.std.specs.Prelude.{◌≡◌, ℕ, ◌+◌, ◌-◌, ◌<◌, ◌++◌, true, false, [], List, IfSome, IfNone, ⊤};
+ghost use Rattle.crossbeam_channel.specs.Claims.{view, IsSeatAt};
+ghost use Rattle.crossbeam_channel.specs.Ends.{sends_on, receives_on, ruled_capacity};
+ghost use Rattle.hand_over.specs.Numbering.{tally, times, once_below, AllBelow, numbers_of, IsNumbered, after_sending, after_taking, IsAboveTaken, TakesFew, with_taken, after_send, after_stop};
+
+use crossbeam_channel::protocol::{Join, Lesson, Outcome, Protocol, Split};
+use crossbeam_channel::{Pass, RuledReceiver, RuledSender};
+use std::collections::LinkedList;
+use std::sync::Wait;
+
+/// What goes through the channel.
+#[derive(Drop)]
+pub enum Message<C> {
+    /// A connection and its number.
+    Connection(u64, C),
+    /// The worker that takes it ends.
+    Stop,
+}
+
+/// What a pass knows: how many parts it has of the right to know the whole, whether it is the one
+/// that sends, how many connections and stop messages it sent, and which numbers it took. No value of
+/// it is made.
+pub struct Tally {
+    pub parts: u64,
+    pub sends: bool,
+    pub sent: u64,
+    pub stops: u64,
+    pub taken: LinkedList<u64>,
+}
+
+/// The channel's rule.
+pub struct Numbered;
+
+impl<C> Protocol<Message<C>, Tally> for Numbered {
+    ghost holds = { IsNumbered };
+
+    ghost first = { tally 1024 true 0 0 [] };
+}
+
+/// How a pass is cut in two for a worker, and how two passes are joined.
+pub struct Cut;
+
+impl Split<Tally> for Cut {
+    ghost left = { λ v. tally (v.parts - 1) v.sends v.sent v.stops v.taken };
+
+    ghost right = { λ v. tally 1 false 0 0 [] };
+}
+
+impl Join<Tally> for Cut {
+    ghost both = { λ v w. tally (v.parts + w.parts) v.sends v.sent v.stops (v.taken ++ w.taken) };
+
+    ghost spent = { tally 0 false 0 0 [] };
+}
+
+/// The step of sending.
+pub struct Sends;
+
+impl<C> Outcome<Message<C>, Tally> for Sends {
+    ghost then = { λ v x w. w ≡ after_sending v x };
+}
+
+impl<C> Lesson<Message<C>, Tally> for Sends {
+    ghost fact = { λ v items. ⊤ };
+}
+
+/// The step of a worker that takes a message.
+pub struct Takes;
+
+impl<C> Outcome<Message<C>, Tally> for Takes {
+    ghost then = { λ v x w. (w ≡ after_taking v x) × IsAboveTaken v x };
+}
+
+impl<C> Lesson<Message<C>, Tally> for Takes {
+    ghost fact = { λ v items. ⊤ };
+}
+
+/// The step of the whole pass, which takes what no worker took.
+pub struct Drains;
+
+impl<C> Outcome<Message<C>, Tally> for Drains {
+    ghost then = { λ v x w. TakesFew v x w };
+}
+
+impl<C> Lesson<Message<C>, Tally> for Drains {
+    ghost fact = { λ v items. (x : ℕ) → times x v.taken + times x (numbers_of items) ≡ once_below x v.sent };
+}
+
+pub type Sender<C> = RuledSender<Message<C>, Tally, Numbered>;
+
+pub type Receiver<C> = RuledReceiver<Message<C>, Tally, Numbered>;
+
+pub type TallyPass<C> = Pass<Message<C>, Tally>;
+
+/// Both ends of a channel.
+#[derive(Drop)]
+pub struct Ends<C: Drop> {
+    pub sender: Sender<C>,
+    pub receiver: Receiver<C>,
+}
+
+/// The next connection for a worker. None at a stop message, and where the channel fails.
+pub fn next_connection<C: Drop, R: Wait>(
+    rt: &R,
+    receiver: &Receiver<C>,
+    pass: &mut TallyPass<C>,
+) -> Option<(u64, C)>
+    requires pass { IsSeatAt (receives_on receiver.now) pass.old }
+    requires part { 0 < (view pass.old).parts }
+    ensures pass { IsSeatAt (receives_on receiver.now) pass.new }
+    ensures some { IfSome result (λ r. (view pass.new ≡ with_taken (view pass.old) r.0) × AllBelow r.0 (view pass.old).taken) }
+    ensures none { IfNone result (view pass.new ≡ view pass.old) }
+{
+    match receiver.recv_as::<Takes, R>(rt, pass) {
+        Ok(Message::Connection(number, connection)) => Some((number, connection)),
+        Ok(Message::Stop) | Err(_) => None,
+    }
+}
+
+/// Sends a connection. False where the channel hands it back: it is then dropped.
+pub fn send_connection<C: Drop, R: Wait>(
+    rt: &R,
+    sender: &Sender<C>,
+    pass: &mut TallyPass<C>,
+    number: u64,
+    connection: C,
+) -> bool
+    requires pass { IsSeatAt (sends_on sender.now) pass.old }
+    requires number { ((view pass.old).sends ≡ true) × (number ≡ (view pass.old).sent) }
+    ensures pass { IsSeatAt (sends_on sender.now) pass.new }
+    ensures view { view pass.new ≡ after_send result (view pass.old) }
+{
+    sender
+        .send_as::<Sends, R>(rt, pass, Message::Connection(number, connection))
+        .is_ok()
+}
+
+/// Sends a stop message. False where the channel hands it back.
+pub fn send_stop<C: Drop, R: Wait>(rt: &R, sender: &Sender<C>, pass: &mut TallyPass<C>) -> bool
+    requires pass { IsSeatAt (sends_on sender.now) pass.old }
+    ensures pass { IsSeatAt (sends_on sender.now) pass.new }
+    ensures view { view pass.new ≡ after_stop result (view pass.old) }
+{
+    sender.send_as::<Sends, R>(rt, pass, Message::Stop).is_ok()
+}
+
+/// Sends a stop message for each worker, and tells how many the channel handed back.
+pub fn dismiss<C: Drop, R: Wait>(
+    rt: &R,
+    sender: &Sender<C>,
+    pass: &mut TallyPass<C>,
+    workers: usize,
+) -> usize
+    requires pass { IsSeatAt (sends_on sender.now) pass.old }
+    ensures pass { IsSeatAt (sends_on sender.now) pass.new }
+    ensures view { view pass.new ≡ tally (view pass.old).parts (view pass.old).sends (view pass.old).sent (view pass.new).stops (view pass.old).taken }
+    ensures each { (view pass.new).stops + result ≡ (view pass.old).stops + workers }
+{
+    let mut refused = 0;
+    for _ in 0..workers {
+        if !send_stop(rt, sender, pass) {
+            refused += 1;
+        }
+    }
+    refused
+}

@@ -1,0 +1,17 @@
+use Rattle.std.proofs.Common.{◌∙◌, ℕ, List, ap, sym, subst, arith, rules, length}
+use Rattle.set_table.specs.PassStates.{TableView}
+use Rattle.set_table.specs.ClosingTotals.{AddsUp}
+use Rattle.set_table.specs.ClosingSteps.{HaveShares}
+use Rattle.set_table.proofs.table.Table.add_up.Goals as goal
+
+pub add_places-requires-clause-own : goal.add_places-requires-clause-own
+add_places-requires-clause-own g c =
+    subst (λ (xs : List ℕ). HaveShares c.args.passes.now.items (length xs)) (sym (c.deref.ensures.value ∙ ap (λ (v : TableView). v.opened) c.self.view_is)) c.requires.own
+
+pub returns-clause-totals : goal.returns-clause-totals
+returns-clause-totals g c =
+    subst (λ (xs : List ℕ). AddsUp c.args.passes.now.items xs c.in_ok-totals.totals) (c.deref.ensures.value ∙ ap (λ (v : TableView). v.opened) c.self.view_is) c.in_ok-totals.ensures.sums
+
+pub returns-clause-records : goal.returns-clause-records
+returns-clause-records g c =
+    omega (arith, c.are_appended.ensures.0 (search (rules, c.if-not-are_appended.false)), c.appended.ensures, ap (λ (v : TableView). v.records_before) c.self.view_is)

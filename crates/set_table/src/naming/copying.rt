@@ -1,0 +1,48 @@
+//! A second pass's knowledge, which begins as a first one's.
+
+ghost use Rattle.std.specs.Prelude.{◌≡◌, IfOk};
+
+use crate::naming::knowledge::Knowledge;
+use crate::naming::memory::Memory;
+use crate::naming::notes::{Notes, PlaceNote};
+use std::alloc::{AllocError, Global};
+
+impl Knowledge {
+    /// Knowledge of the same.
+    pub(crate) fn again(&mut self, alloc: Global) -> Result<Knowledge, AllocError>
+        ensures same { self.new ≡ self.old }
+        ensures copy { IfOk result (λ copy. copy ≡ self.old) }
+    {
+        let slots = Vec::from_slice(alloc, &self.memory.slots)?;
+        Ok(Knowledge {
+            notes: self.notes.again(alloc)?,
+            memory: Memory { slots },
+        })
+    }
+}
+
+impl Notes {
+    /// Notes that know the same.
+    pub(crate) fn again(&mut self, alloc: Global) -> Result<Notes, AllocError>
+        ensures same { self.new ≡ self.old }
+        ensures copy { IfOk result (λ copy. copy ≡ self.old) }
+    {
+        Ok(Notes {
+            places: noted_again(alloc, &mut self.places)?,
+        })
+    }
+}
+
+/// Second notes of the same places.
+fn noted_again(alloc: Global, places: &mut Vec<PlaceNote>) -> Result<Vec<PlaceNote>, AllocError>
+    ensures same { places.new.items ≡ places.old.items }
+    ensures copy { IfOk result (λ copy. copy.items ≡ places.old.items) }
+{
+    let mut copy = Vec::new(alloc);
+    for place in 0..places.len() {
+        copy.push(PlaceNote {
+            note: places[place].note.again(),
+        })?;
+    }
+    Ok(copy)
+}

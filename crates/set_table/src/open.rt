@@ -1,0 +1,111 @@
+//! A table is opened with an owner's sets.
+
+ghost use Rattle.std.specs.Prelude.{◌≡◌, ◌<◌, ◌≤◌, ◌^◌, None, IfOk, IfErr};
+ghost use Rattle.std.specs.FinMap as map;
+ghost use Rattle.set_table.specs.Opening.{AreNewPasses, IsOpened, IsOpenFault};
+
+mod cells;
+mod passes;
+mod placing;
+
+use crate::naming::names::Names;
+use crate::open::cells::{behind_locks, new_cells};
+use crate::open::passes::new_passes;
+use crate::open::placing::{cards, empty_sets, place_all};
+use crate::pass::Pass;
+use crate::table::Table;
+use append_log::{Log, LogSink};
+use std::alloc::{AllocError, Global};
+use std::hash::BuildHasher;
+use std::sync::Mutex;
+use std::sync::ledger::Ledger;
+use zset_core::OneOwner;
+
+/// Why a table was not opened.
+#[derive(Clone, Copy, Debug, PartialEq, Eq)]
+pub enum OpenFault {
+    /// There was no memory for it.
+    NoMemory,
+    /// There are more sets than places.
+    TooManyKeys,
+}
+
+impl<H: BuildHasher + Clone + Drop, S: LogSink + Drop, L: Ledger> Table<H, S, L, Global> {
+    /// A table of an owner's sets, and its passes, one for each worker. The sets get their places in the
+    /// byte order of their keys; each other place has an empty set and no name. A place may answer
+    /// `max_runs` runs; readings under a shared lock don't count. The table appends to the log, of which
+    /// each place takes one part, and counts the records from now on. Of the sets behind the locks the
+    /// contract tells the numbers of members.
+    ///
+    /// # Errors
+    ///
+    /// Owner and log are dropped, and nothing was written. [`OpenFault::TooManyKeys`] exactly where
+    /// there are more sets than places; [`OpenFault::NoMemory`].
+    pub fn open(
+        alloc: Global,
+        owner: OneOwner<H, Global>,
+        log: Log<S, L>,
+        places: usize,
+        passes: usize,
+        max_runs: u64,
+    ) -> Result<(Self, Vec<Pass<Global>>), OpenFault>
+        requires idle { owner.next ≡ None }
+        requires places { (1 ≤ places) × (places ≤ 4096) }
+        requires passes { (1 ≤ passes) × (passes ≤ 64) }
+        requires max_runs { (1 ≤ max_runs) × (max_runs ≤ 2 ^ 40) }
+        requires parts { places < log.parts }
+        ensures table { IfOk result
+            (λ opened. IsOpened owner.world places passes max_runs log.appended opened.0) }
+        ensures passes { IfOk result
+            (λ opened. AreNewPasses opened.0 owner.world opened.1.items) }
+        ensures fits { IfOk result (λ _. map.len owner.world ≤ places) }
+        ensures err { IfErr result (λ fault. IsOpenFault fault owner.world places) }
+    {
+        if owner.key_count() > places {
+            return Err(OpenFault::TooManyKeys);
+        }
+        match build(alloc, owner, log, places, passes, max_runs) {
+            Ok(opened) => Ok(opened),
+            Err(_) => Err(OpenFault::NoMemory),
+        }
+    }
+}
+
+/// The table and its passes, where there are places for all sets.
+fn build<H: BuildHasher + Clone + Drop, S: LogSink + Drop, L: Ledger>(
+    alloc: Global,
+    owner: OneOwner<H, Global>,
+    log: Log<S, L>,
+    places: usize,
+    passes: usize,
+    max_runs: u64,
+) -> Result<(Table<H, S, L, Global>, Vec<Pass<Global>>), AllocError>
+    requires idle { owner.next ≡ None }
+    requires places { (1 ≤ places) × (places ≤ 4096) }
+    requires max_runs { max_runs ≤ 2 ^ 40 }
+    requires parts { places < log.parts }
+    ensures table { IfOk result
+        (λ opened. IsOpened owner.world places passes max_runs log.appended opened.0) }
+    ensures passes { IfOk result (λ opened. AreNewPasses opened.0 owner.world opened.1.items) }
+{
+    let mut log = log;
+    let records_before = log.appended();
+    let names = Names::new(alloc, places)?;
+    let mut knowledge = names.knowledge(alloc)?;
+    let mut sets = empty_sets(alloc, &owner, places)?;
+    place_all(owner, &names, &mut knowledge, &mut sets)?;
+    let opened = cards(alloc, &sets)?;
+    let cells = behind_locks(alloc, new_cells(alloc, sets, passes, max_runs, &mut log)?)?;
+    let made = new_passes(alloc, &mut knowledge, passes, &opened)?;
+    let table = Table {
+        names,
+        cells,
+        opened,
+        log: Mutex::new(log),
+        passes,
+        max_runs,
+        records_before,
+        alloc,
+    };
+    Ok((table, made))
+}

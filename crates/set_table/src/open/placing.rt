@@ -1,0 +1,75 @@
+//! An owner's sets are given their places.
+
+ghost use Rattle.std.specs.Prelude.{◌≡◌, ◌<◌, ◌≤◌, None, length, IfOk, OnOk};
+ghost use Rattle.std.specs.FinMap as fin;
+ghost use Rattle.set_table.specs.Naming.{AreNotesOf};
+ghost use Rattle.set_table.specs.Opening.{AllHavePlaces, AreEmptySets, AreIdleSets, cards_of, members_of, sum_of};
+
+use crate::naming::knowledge::Knowledge;
+use crate::naming::names::Names;
+use std::alloc::{AllocError, Global};
+use std::hash::BuildHasher;
+use zset_core::{OneOwner, ZSet};
+
+/// An empty set for each place.
+pub(crate) fn empty_sets<H: BuildHasher + Clone + Drop>(
+    alloc: Global,
+    owner: &OneOwner<H, Global>,
+    places: usize,
+) -> Result<Vec<ZSet<H, Global>>, AllocError>
+    requires idle { owner.now.next ≡ None }
+    ensures { IfOk result (λ sets. AreEmptySets places sets.items) }
+{
+    let mut sets = Vec::new(alloc);
+    for _ in 0..places {
+        sets.push(owner.empty_set()?)?;
+    }
+    Ok(sets)
+}
+
+/// Puts each set of an owner where its key's place is, in the byte order of the keys.
+pub(crate) fn place_all<H: BuildHasher + Clone + Drop>(
+    owner: OneOwner<H, Global>,
+    names: &Names,
+    knowledge: &mut Knowledge,
+    sets: &mut Vec<ZSet<H, Global>>,
+) -> Result<(), AllocError>
+    requires idle { owner.next ≡ None }
+    requires own { AreNotesOf names.now knowledge.old }
+    requires places { (0 < length names.now) × (length names.now ≤ 4096) }
+    requires sets { AreEmptySets (length names.now) sets.old.items }
+    ensures own { AreNotesOf names.now knowledge.new }
+    ensures idle { AreIdleSets sets.new.items }
+    ensures count { length sets.new.items ≡ length names.now }
+    ensures known { OnOk result
+        (AllHavePlaces owner.world knowledge.new.known (cards_of sets.new.items)) }
+    ensures sum { OnOk result
+        (sum_of (cards_of sets.new.items) ≡ members_of (fin.entries owner.world)) }
+{
+    let mut owner = owner;
+    for _ in 0..owner.key_count() {
+        match owner.take_first() {
+            None => unreachable!(),
+            Some((key, set)) => match names.claim(knowledge, &key) {
+                Ok(place) => sets[place] = set,
+                // No place is missing: there are as many as keys, and nobody else names any yet.
+                Err(_) => return Err(AllocError),
+            },
+        }
+    }
+    Ok(())
+}
+
+/// How many members each set has.
+pub(crate) fn cards<H: BuildHasher>(
+    alloc: Global,
+    sets: &[ZSet<H, Global>],
+) -> Result<Vec<u64>, AllocError>
+    ensures { IfOk result (λ cards. cards.items ≡ cards_of sets.now) }
+{
+    let mut cards = Vec::new(alloc);
+    for place in 0..sets.len() {
+        cards.push(sets[place].card() as u64)?;
+    }
+    Ok(cards)
+}

@@ -1,0 +1,173 @@
+//! The end of a table: the passes are gathered, and what they tell is compared with the cells.
+
+ghost use Rattle.std.specs.Prelude.{◌≡◌, ◌+◌, ◌*◌, ◌<◌, ◌≤◌, ◌^◌, ◌↔◌, ℕ, length, IfErr, IfOk, IfSome, OnOk, IsTrue};
+ghost use Rattle.std.proofs.Math.ListN.{get_or};
+ghost use Rattle.set_table.specs.CellStates.{InStep};
+ghost use Rattle.set_table.specs.ClosingSteps.{AddsPlace, HaveShares, IsBounded};
+ghost use Rattle.set_table.specs.ClosingTotals.{AddsUp, AgreeAt, AreNumbered, HaveOnePlace, pass_at, share_at};
+ghost use Rattle.set_table.specs.PassStates.{IsPassOf};
+
+mod agreement;
+mod order;
+mod totals;
+
+use crate::cell::Cell;
+use crate::pass::Pass;
+use crate::table::Table;
+use crate::table::close::agreement::compare_names;
+use crate::table::close::order::put_in_order;
+use append_log::{Log, LogSink};
+use std::alloc::Allocator;
+use std::hash::BuildHasher;
+use std::sync::RwLock;
+use std::sync::ledger::Ledger;
+pub use totals::Totals;
+
+/// Why a table can't tell its totals.
+#[derive(Clone, Copy, Debug, PartialEq, Eq)]
+pub enum CloseFault {
+    /// The passes that were handed in are not all of the table's.
+    MissingPass,
+    /// A cell and a pass, or the cells and the log, tell different numbers.
+    OutOfStep,
+}
+
+impl<H: BuildHasher + Drop, S: LogSink + Drop, L: Ledger, A: Allocator + Copy> Table<H, S, L, A> {
+    /// Ends the table, and tells what became of its sets by what the passes were answered: the
+    /// totals, and the log. The passes may come in any order.
+    ///
+    /// # Errors
+    ///
+    /// Table and passes are dropped. [`CloseFault::MissingPass`] exactly where the numbers of the
+    /// passes are not 0 to the last, each once; [`CloseFault::OutOfStep`] where a cell and a pass
+    /// are not in step, or the cells' records are not those that the log took since the table was
+    /// opened. With the table's own passes that would be a fault of this crate; no contract sees what
+    /// stands behind the locks, so it is asked and not proved.
+    pub fn close(self, passes: Vec<Pass<A>, A>) -> Result<(Totals, Log<S, L>), CloseFault>
+        requires own { (i : ℕ) → i < length passes.items → IsPassOf self (pass_at passes.items i) }
+        ensures totals { IfOk result (λ closed. AddsUp passes.items self.opened closed.0) }
+        ensures records { IfOk result
+            (λ closed. closed.0.records + self.records_before ≡ closed.1.appended) }
+        ensures agree { OnOk result ((place : ℕ) → place < length self.cells
+            → AgreeAt passes.items place) }
+        ensures one_place { OnOk result (HaveOnePlace passes.items) }
+        ensures numbered { OnOk result (AreNumbered passes.items self.passes) }
+        ensures missing { IfErr result (λ fault. (fault ≡ CloseFault.MissingPass)
+            ↔ (AreNumbered passes.items self.passes → ⊥)) }
+    {
+        let mut passes = passes;
+        compare_names(&self.names, &mut passes);
+        if !put_in_order(&mut passes, self.passes) {
+            return Err(CloseFault::MissingPass);
+        }
+        match self.add_up(&passes) {
+            Some(closed) => Ok(closed),
+            None => Err(CloseFault::OutOfStep),
+        }
+    }
+
+    /// The totals and the log, where all numbers agree. The passes stand in the order of their
+    /// numbers.
+    fn add_up(self, passes: &Vec<Pass<A>, A>) -> Option<(Totals, Log<S, L>)>
+        requires own { HaveShares passes.now.items (length self.opened) }
+        ensures totals { IfSome result (λ closed. AddsUp passes.now.items self.opened closed.0) }
+        ensures records { IfSome result
+            (λ closed. closed.0.records + self.records_before ≡ closed.1.appended) }
+    {
+        let Table {
+            names: _names,
+            mut cells,
+            opened,
+            log,
+            passes: _,
+            max_runs: _,
+            records_before,
+            alloc: _,
+        } = self;
+        let totals = add_places(&mut cells, passes, &opened)?;
+        let log = log.into_inner();
+        if !are_appended(totals.records, records_before, log.appended()) {
+            return None;
+        }
+        Some((totals, log))
+    }
+}
+
+/// Whether so many records were appended to a log that had `before` of them.
+fn are_appended(records: u128, before: u64, appended: u64) -> bool
+    requires { records ≤ 4096 * 2 ^ 64 }
+    ensures { IsTrue result ↔ (records + before ≡ appended) }
+{
+    records + u128::from(before) == u128::from(appended)
+}
+
+/// The totals of all places, where each cell is in step with each pass. The passes stand in the order
+/// of their numbers.
+fn add_places<H: BuildHasher, L: Ledger, A: Allocator + Copy>(
+    cells: &mut [RwLock<Cell<H, L, A>>],
+    passes: &Vec<Pass<A>, A>,
+    opened: &[u64],
+) -> Option<Totals>
+    requires own { HaveShares passes.now.items (length opened.now) }
+    requires count { length cells.old ≡ length opened.now }
+    requires few { length opened.now ≤ 4096 }
+    ensures sums { IfSome result (λ totals. AddsUp passes.now.items opened.now totals) }
+    ensures bound { IfSome result (λ totals. totals.records ≤ 4096 * 2 ^ 64) }
+{
+    let mut totals = Totals::none();
+    for place in 0..opened.len() {
+        let cell = cells[place].get_mut();
+        totals = add_place(cell, passes, place, opened[place], totals)?;
+    }
+    Some(totals)
+}
+
+/// The totals with one place more.
+fn add_place<H: BuildHasher, L: Ledger, A: Allocator + Copy>(
+    cell: &Cell<H, L, A>,
+    passes: &Vec<Pass<A>, A>,
+    place: usize,
+    opened: u64,
+    totals: Totals,
+) -> Option<Totals>
+    requires own { HaveShares passes.now.items (place + 1) }
+    requires few { place < 4096 }
+    requires bound { IsBounded place totals }
+    ensures sums { IfSome result (λ more. AddsPlace passes.now.items place opened totals more) }
+    ensures bound { IfSome result (λ more. IsBounded (place + 1) more) }
+{
+    let numbers = cell.numbers();
+    if numbers.opened != opened
+        || !cell.has_tallies(passes.len())
+        || !all_in_step(cell, passes, place)
+    {
+        return None;
+    }
+    Some(Totals {
+        sets: totals.sets + u128::from(numbers.members.min(1)),
+        members: totals.members + u128::from(numbers.members),
+        opened: totals.opened + u128::from(opened),
+        added: totals.added + u128::from(numbers.total.added),
+        removed: totals.removed + u128::from(numbers.total.removed),
+        records: totals.records + u128::from(numbers.records),
+    })
+}
+
+/// Whether a cell is in step with each pass.
+fn all_in_step<H: BuildHasher, L: Ledger, A: Allocator + Copy>(
+    cell: &Cell<H, L, A>,
+    passes: &Vec<Pass<A>, A>,
+    place: usize,
+) -> bool
+    requires { (i : ℕ) → i < length passes.now.items
+        → place < length (pass_at passes.now.items i).shares }
+    ensures { IsTrue result ↔ ((i : ℕ) → i < length passes.now.items
+        → InStep cell.now (share_at (pass_at passes.now.items i) place)) }
+{
+    for i in 0..passes.len() {
+        if !cell.is_in_step(passes[i].share(place)) {
+            return false;
+        }
+    }
+    true
+}
