@@ -1,4 +1,4 @@
-//! Tests of tables over their public calls: worked examples on one thread.
+//! Tests of tables over their public calls: worked examples on one thread, and on two.
 //! This crate has nothing but tests.
 #![tactic(auto)]
 
@@ -9,4 +9,8 @@ mod examples;
 #[cfg(test)]
 mod exchange;
 #[cfg(test)]
+mod gates;
+#[cfg(test)]
 mod places;
+#[cfg(test)]
+mod two_adders;
