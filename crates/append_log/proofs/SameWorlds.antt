@@ -9,7 +9,7 @@ use Rattle.std.specs.declared.cmp.Ordering.TheVariants.{Less, Equal, Greater}
 use Rattle.std.proofs.lemmas.Bool.Decides.{nat_tests}
 use Rattle.resp_wire.specs.Response.{Response}
 use Rattle.zset_core.specs.SortedSet.{Members, bytes_cmp}
-use Rattle.zset_core.specs.CommandMeaning.{Meaning}
+use Rattle.zset_core.specs.CommandRequest.{Meaning}
 use Rattle.zset_core.specs.Semantics.{step}
 use Rattle.zset_core.specs.Views.{Next, ShowsAt, IsPreparedAt}
 use Rattle.zset_core.specs.World.{World, is_empty, set_at, put_set, act_at}

@@ -4,7 +4,7 @@ use Rattle.std.specs.List.{remove, AllWithin}
 use Rattle.std.proofs.lemmas.List.{replicate-append-replicate, length-replicate, length-drop, get_or-drop, get_or-replicate, ext_get_or, take-append-drop, take-take}
 use Rattle.std.proofs.lemmas.List.Sums.{sum_by-append, sum_by-set, sum_by-remove, sum_by_push}
 use Rattle.crack_kernel.specs.RowBag.{Test}
-use Rattle.ripple_column.specs.BlankGap.{blank}
+use Rattle.ripple_column.specs.MergeGap.{blank}
 
 pub count_append : (p : Test) (xs ys : List (ℤ × List ℕ)) → count_by p (xs ++ ys) ≡ count_by p xs + count_by p ys
 count_append p xs ys = sum_by-append (λ y. cond (p y) 1 0) xs ys

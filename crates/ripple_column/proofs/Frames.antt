@@ -2,7 +2,7 @@
 use Rattle.std.proofs.Common.{ℤ, ℕ, List, refl, ◌∙◌}
 use Rattle.std.specs.declared.vec.Vec.{Vec}
 use Rattle.crack_kernel.specs.PivotList.{PivotList}
-use Rattle.ripple_column.specs.Merge.{KeepsFrame}
+use Rattle.ripple_column.specs.MergeEffects.{KeepsFrame}
 
 pub KeepsFrame-more : {A : Type 0} {r0 r1 r2 : Vec (ℤ × List ℕ) A} {p0 p1 p2 : PivotList} → KeepsFrame r0 p0 r1 p1 → KeepsFrame r1 p1 r2 p2 → KeepsFrame r0 p0 r2 p2
 KeepsFrame-more a b = record {

@@ -10,7 +10,7 @@ use Rattle.crack_kernel.proofs.PivotOrder.{IsRising-same_values, IsRising-le}
 use Rattle.ripple_column.specs.Cuts.{values}
 use Rattle.ripple_column.proofs.Hole.{Places, Places-from_law, bound_from, bound_upto, bound_within, start_from}
 use Rattle.std.proofs.lemmas.Bool.Decides.{nat_tests}
-use Rattle.ripple_column.specs.BlankGap.{ChangedPlaces, blank, PartsOutside, HasGap, StandFrom, AllParted}
+use Rattle.ripple_column.specs.MergeGap.{ChangedPlaces, blank, PartsOutside, HasGap, StandFrom, AllParted}
 
 -- the rows from b on and below e passed the gap from a on and below b; no pivot stands in between
 PartsOutside-passed_down : (v : ℤ) (q a b e : ℕ) (xs ys : List (ℤ × List ℕ)) → a ≤ b → b ≤ e → e ≤ length xs → length ys ≡ length xs → (q ≤ a) ⊎ (e ≤ q)

@@ -3,7 +3,7 @@ use Rattle.std.proofs.Common.{◌≡◌, ℕ, ℤ, true, ◌+◌, ◌≤◌, Lis
 use Rattle.std.proofs.lemmas.List.Sorted.{length_permutation}
 use Rattle.crack_kernel.specs.RowBag.{IsSubBag}
 use Rattle.ripple_column.specs.Content.{KeepsContent}
-use Rattle.ripple_column.specs.BlankGap.{TakenFrom}
+use Rattle.ripple_column.specs.MergeGap.{TakenFrom}
 use Rattle.ripple_column.proofs.Counts.{count_moved, count_all}
 use Rattle.ripple_column.proofs.Blanks.{take-less}
 

@@ -2,7 +2,7 @@
 use Rattle.std.proofs.Common.{◌≡◌, ℕ, ◌+◌, ◌-◌, ◌<◌, ◌≤◌, List, get_or, inl, inr, sym, ◌∙◌, refl, arith}
 use Rattle.std.specs.List.{SwappedAt}
 use Rattle.std.proofs.lemmas.Bool.{cases_eq, cases_lt}
-use Rattle.ripple_column.specs.BlankGap.{ChangedPlaces}
+use Rattle.ripple_column.specs.MergeGap.{ChangedPlaces}
 
 -- the m elements from a on and those from c on stand in each other's place
 pub record BlocksSwapped {X : Type 0} (xs ys : List X) (a c m : ℕ) : Type 0 where

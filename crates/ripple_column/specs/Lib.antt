@@ -3,9 +3,9 @@ pub mod Content
 pub mod Cuts
 pub mod ColumnInvariant
 pub mod RangeAnswer
-pub mod BlankGap
-pub mod Merge
+pub mod MergeGap
+pub mod MergeEffects
 pub mod RowHash
 pub mod PendingFilter
 pub mod InnerPivots
-pub mod InnerCracks
+pub mod InnerCrackEffects

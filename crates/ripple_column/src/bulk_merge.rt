@@ -10,14 +10,14 @@ ghost use Rattle.std.specs.Prelude.{◌≡◌, ◌+◌, ◌-◌, ◌≤◌, ◌&
 ghost use Rattle.std.specs.List.{AllWithin};
 ghost use Rattle.crack_kernel.specs.RowBag.{Test, IsSubBag};
 ghost use Rattle.ripple_column.specs.Content.{has_score_in, KeepsContent, SameOutside};
-ghost use Rattle.ripple_column.specs.BlankGap.{TakenFrom};
-ghost use Rattle.ripple_column.specs.Merge.{KeepsFrame, Merges};
+ghost use Rattle.ripple_column.specs.MergeGap.{TakenFrom};
+ghost use Rattle.ripple_column.specs.MergeEffects.{KeepsFrame, Merges};
 
-use crate::blank_gap::Direction;
 use crate::cracked::Cracked;
 use crate::deletion_filter::DeletionFilter;
+use crate::merge_gap::Direction;
 use crate::merge_pass::{Pass, run_pass};
-use crate::pending::Pending;
+use crate::pending_lists::Pending;
 use crack_kernel::{Pivots, Row};
 use score_bounds::Range;
 use std::alloc::Allocator;

@@ -10,7 +10,7 @@ ghost use Rattle.ripple_column.specs.InnerPivots.{IsAmong};
 
 use crate::cracking::is_before;
 use crate::inner_pivots::{is_wide, narrow};
-use crate::pending::{MAX_PENDING, MAX_RESERVED, Pending};
+use crate::pending_lists::{MAX_PENDING, MAX_RESERVED, Pending};
 use crate::pieces::Pieces;
 use crate::select::{select_between, settled_places};
 use crack_kernel::{MAX_PIVOTS, Row};

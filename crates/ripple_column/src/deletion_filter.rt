@@ -1,9 +1,8 @@
-//! A filter of the rows that a merge takes out of a column, and the fingerprints that it is asked
-//! for.
+//! A filter of the rows that a merge takes out of a column, which is asked by their fingerprints.
 
 ghost use Rattle.std.specs.Prelude.{◌<◌};
 
-use crate::row_hash::{SPREAD, hash_of};
+use crate::row_hash::{row_fingerprint, score_fingerprint};
 use crack_kernel::Row;
 use std::alloc::Allocator;
 
@@ -12,9 +11,6 @@ const WORDS: usize = 4096;
 
 /// How many bits the filter has.
 const BITS: u32 = 262_144;
-
-/// The highest bit, which fingerprints of a score alone have.
-const OF_SCORE: u32 = 0x8000_0000;
 
 /// The fingerprints of rows that wait to be taken out, that of each row and that of its score alone,
 /// each by two bits of [`BITS`] (a Bloom filter).
@@ -62,23 +58,6 @@ impl DeletionFilter {
     {
         self.words[(bit >> 6) as usize] >> (bit & 63) & 1 == 1
     }
-}
-
-/// The fingerprint of a score alone: the first bits of a product that spreads the score over a word
-/// (Fibonacci hashing), behind a bit that marks it.
-pub fn score_fingerprint(score: i64) -> u32 {
-    let spread = score.unsigned_abs().wrapping_mul(SPREAD);
-    (spread >> 32) as u32 | OF_SCORE
-}
-
-/// The fingerprint of a row: the first bits of its hash, but 1 for 0.
-pub fn row_fingerprint<A: Allocator>(row: &Row<A>) -> u32 {
-    ((hash_of(row) >> 33) as u32).max(1)
-}
-
-/// Whether the fingerprint is that of a score alone.
-pub fn is_of_score(fingerprint: u32) -> bool {
-    fingerprint >= OF_SCORE
 }
 
 /// The bit of 18 bits of a fingerprint, those behind the highest.

@@ -3,11 +3,11 @@
 //!
 //! Where a range cuts nothing, as one from -inf to +inf, its piece would stay the whole column.
 
-ghost use Rattle.ripple_column.specs.InnerCracks.{AreCracked};
+ghost use Rattle.ripple_column.specs.InnerCrackEffects.{AreCracked};
 
 use crate::cracked::Cracked;
 use crate::cracking::crack_at;
-use crate::pending::{PendingList, is_within};
+use crate::pending_lists::{PendingList, is_within};
 use crate::pieces::Pieces;
 use crate::ripple::{place_or, start_below};
 use crack_kernel::{MAX_PIVOTS, Row};

@@ -7,7 +7,6 @@
 //! once, and inner pivots, are this project's own.
 #![tactic(auto)]
 
-mod blank_gap;
 mod bulk_merge;
 mod column;
 mod cracked;
@@ -15,9 +14,10 @@ mod cracking;
 mod deletion_filter;
 mod inner_pivots;
 mod merge;
+mod merge_gap;
 mod merge_pass;
-mod pending;
 mod pending_filter;
+mod pending_lists;
 mod pieces;
 mod ripple;
 mod row_hash;
@@ -26,4 +26,4 @@ mod select;
 mod shown_pivots;
 
 pub use column::Column;
-pub use pending::{MAX_PENDING, MAX_RESERVED};
+pub use pending_lists::{MAX_PENDING, MAX_RESERVED};

@@ -7,11 +7,11 @@ ghost use Rattle.std.specs.Prelude.{◌≡◌, ◌+◌, ◌<◌, ◌≤◌, OnOk
 ghost use Rattle.crack_kernel.specs.RowBag.{Test, IsSubBag};
 ghost use Rattle.ripple_column.specs.Content.{has_score_in, NoneIn, SameOutside};
 ghost use Rattle.ripple_column.specs.Cuts.{values};
-ghost use Rattle.ripple_column.specs.Merge.{KeepsFrame, Merges, StaysAsItWas};
+ghost use Rattle.ripple_column.specs.MergeEffects.{KeepsFrame, Merges, StaysAsItWas};
 
 use crate::bulk_merge::merge_many;
 use crate::cracked::Cracked;
-use crate::pending::{MAX_PENDING, MAX_RESERVED, Pending, PendingList, is_within};
+use crate::pending_lists::{MAX_PENDING, MAX_RESERVED, Pending, PendingList, is_within};
 use crate::ripple::{ripple_insert, ripple_remove};
 use score_bounds::{Bound, Range};
 use std::alloc::{AllocError, Allocator};

@@ -5,14 +5,14 @@ ghost use Rattle.std.specs.Prelude.{◌≡◌, ◌+◌, ◌-◌, ◌<◌, ◌≤
 ghost use Rattle.crack_kernel.specs.RowBag.{Test};
 ghost use Rattle.crack_kernel.specs.PivotList.{ObeysPivots};
 ghost use Rattle.ripple_column.specs.Content.{KeepsContent};
-ghost use Rattle.ripple_column.specs.BlankGap.{AllParted, HasGapAt, KeepsContentBeside, TakenFrom, blank};
-ghost use Rattle.ripple_column.specs.Merge.{KeepsFrame};
+ghost use Rattle.ripple_column.specs.MergeGap.{AllParted, HasGapAt, KeepsContentBeside, TakenFrom, blank};
+ghost use Rattle.ripple_column.specs.MergeEffects.{KeepsFrame};
 
-use crate::blank_gap::{
+use crate::deletion_filter::DeletionFilter;
+use crate::merge_gap::{
     Direction, Gap, Tail, close_gap, fill_gap, is_in_piece, lift_gap, open_gap, sink_gap, take_out,
 };
-use crate::deletion_filter::DeletionFilter;
-use crate::pending::Pending;
+use crate::pending_lists::Pending;
 use crate::ripple::place_or;
 use crate::rows::Rows;
 use crack_kernel::{Pivots, Row};

@@ -8,7 +8,7 @@ ghost use Rattle.std.specs.Prelude.{◌≡◌, ◌-◌, ◌<◌, ◌≤◌, ◌=
 ghost use Rattle.std.specs.List.{HoldsAt};
 ghost use Rattle.crack_kernel.specs.PivotList.{ObeysPivots};
 ghost use Rattle.ripple_column.specs.RowPlace.{StandsWithin};
-ghost use Rattle.ripple_column.specs.Merge.{KeepsFrame};
+ghost use Rattle.ripple_column.specs.MergeEffects.{KeepsFrame};
 
 use crate::rows::Rows;
 use crack_kernel::{Pivots, Row};

@@ -1,4 +1,5 @@
-//! A hash of a row, which tells it from other rows of the same score.
+//! A hash of a row, which tells it from other rows of the same score, and the fingerprints of a row: of
+//! its score alone, and of its hash.
 
 ghost use Rattle.std.specs.Prelude.{◌≡◌, ◌+◌, ◌*◌, ◌≤◌, ◌≤ℤ◌, length};
 ghost use Rattle.score_bounds.specs.Scores.{greatest};
@@ -9,7 +10,10 @@ use std::alloc::Allocator;
 
 /// The odd number next to 2^64 divided by the golden ratio: a product with it spreads each bit over
 /// those above.
-pub const SPREAD: u64 = 0x9e37_79b9_7f4a_7c15;
+const SPREAD: u64 = 0x9e37_79b9_7f4a_7c15;
+
+/// The highest bit, which fingerprints of a score alone have.
+const OF_SCORE: u32 = 0x8000_0000;
 
 /// How many bytes a word has.
 const WORD: usize = 8;
@@ -79,4 +83,21 @@ pub fn hash_of<A: Allocator>(row: &Row<A>) -> u64
     ensures score { row.now.0 ≤ℤ greatest }
 {
     mix_all(mix(0, row.score().unsigned_abs()), row.member())
+}
+
+/// The fingerprint of a score alone: the first bits of a product that spreads the score over a word
+/// (Fibonacci hashing), behind a bit that marks it.
+pub fn score_fingerprint(score: i64) -> u32 {
+    let spread = score.unsigned_abs().wrapping_mul(SPREAD);
+    (spread >> 32) as u32 | OF_SCORE
+}
+
+/// The fingerprint of a row: the first bits of its hash, but 1 for 0.
+pub fn row_fingerprint<A: Allocator>(row: &Row<A>) -> u32 {
+    ((hash_of(row) >> 33) as u32).max(1)
+}
+
+/// Whether the fingerprint is that of a score alone.
+pub fn is_of_score(fingerprint: u32) -> bool {
+    fingerprint >= OF_SCORE
 }

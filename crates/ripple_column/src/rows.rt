@@ -4,7 +4,8 @@ ghost use Rattle.std.specs.Prelude.{◌≡◌, ◌+◌, ◌-◌, ◌<◌, ◌≤
 ghost use Rattle.std.specs.List.{AllWithin, SwappedAt, swap};
 ghost use Rattle.crack_kernel.specs.Parts.{ChangesWithin, IsBelow, IsFrom};
 
-use crate::deletion_filter::{DeletionFilter, is_of_score, row_fingerprint, score_fingerprint};
+use crate::deletion_filter::DeletionFilter;
+use crate::row_hash::{is_of_score, row_fingerprint, score_fingerprint};
 use crack_kernel::{Row, crack_piece};
 use std::alloc::{AllocError, Allocator};
 use std::marker::Model;

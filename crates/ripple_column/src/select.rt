@@ -4,14 +4,14 @@ ghost use Rattle.std.specs.Prelude.{◌≡◌, ◌⊎◌, ◌+◌, ◌<◌, ◌�
 ghost use Rattle.crack_kernel.specs.RowBag.{IsSubBag};
 ghost use Rattle.crack_kernel.specs.PivotList.{IsRising};
 ghost use Rattle.ripple_column.specs.Content.{has_score_in, NoneIn, SameOutside};
-ghost use Rattle.ripple_column.specs.Merge.{Merges};
-ghost use Rattle.ripple_column.specs.InnerCracks.{HasRoom, StaysAsShown, most_with_inner, shown};
+ghost use Rattle.ripple_column.specs.MergeEffects.{Merges};
+ghost use Rattle.ripple_column.specs.InnerCrackEffects.{HasRoom, StaysAsShown, most_with_inner, shown};
 ghost use Rattle.ripple_column.specs.Cuts.{is_before, values, cut_values, count_with_cuts, new_values, values_with_cuts, StandsAt, IsUncracked};
 
 use crate::cracking::{count_missing, crack_between, is_before};
 use crate::inner_pivots::break_up;
 use crate::merge::merge_range;
-use crate::pending::{Pending, PendingList};
+use crate::pending_lists::{Pending, PendingList};
 use crate::pieces::Pieces;
 use crate::shown_pivots::{renew_places, show_cuts};
 use crack_kernel::{MAX_PIVOTS, Pivots};

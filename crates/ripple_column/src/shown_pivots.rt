@@ -5,11 +5,11 @@ ghost use Rattle.crack_kernel.specs.RowBag.{IsSubBag};
 ghost use Rattle.crack_kernel.specs.PivotList.{IsRising};
 ghost use Rattle.ripple_column.specs.Cuts.{is_before, values, count_with_cuts, new_values, values_with_cuts, StandsAt};
 ghost use Rattle.ripple_column.specs.InnerPivots.{HasCut, IsAmong, shown_of};
-ghost use Rattle.ripple_column.specs.Merge.{Merges};
-ghost use Rattle.ripple_column.specs.InnerCracks.{HasRoom, StaysAsShown, shown};
+ghost use Rattle.ripple_column.specs.MergeEffects.{Merges};
+ghost use Rattle.ripple_column.specs.InnerCrackEffects.{HasRoom, StaysAsShown, shown};
 
 use crate::merge::{merge_all, reserve_write};
-use crate::pending::{MAX_PENDING, MAX_RESERVED, Pending};
+use crate::pending_lists::{MAX_PENDING, MAX_RESERVED, Pending};
 use crate::pieces::Pieces;
 use crack_kernel::{MAX_PIVOTS, Pivots};
 use score_bounds::Cut;

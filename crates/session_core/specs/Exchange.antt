@@ -3,7 +3,7 @@ use Rattle.std.specs.Prelude.{◌≡◌, ◌⊎◌, ℕ, List, [], ◌∷◌, �
 use Rattle.std.specs.List.{flat_map}
 use Rattle.resp_wire.specs.declared.reply.Reply.{Reply}
 use Rattle.resp_wire.specs.Response.{Response, ErrorText, response_of, encoded}
-use Rattle.zset_core.specs.CommandMeaning.{Meaning, Asked}
+use Rattle.zset_core.specs.CommandRequest.{Meaning, Asked}
 use Rattle.zset_core.specs.declared.refusal.Refusal.{Refusal}
 use Rattle.zset_core.specs.declared.refusal.Refusal.TheVariants.{NoMemory}
 use Rattle.zset_core.specs.Refusal.{text_of}

@@ -1,7 +1,7 @@
 -- How owners of sets answer a command.
 use Rattle.std.specs.Prelude.{◌≡◌, true, None, Some, Result, Ok, Err, MatchResult, OnOk}
 use Rattle.resp_wire.specs.Response.{Response}
-use Rattle.zset_core.specs.CommandMeaning.{Asked}
+use Rattle.zset_core.specs.CommandRequest.{Asked}
 use Rattle.zset_core.specs.World.{World, act}
 use Rattle.zset_core.specs.Views.{OwnerView}
 use Rattle.zset_core.specs.Refusal.{IsRefused}

@@ -4,7 +4,7 @@ use Rattle.std.specs.Prelude.{◌≡◌, ℕ, ◌⊎◌, List, None, Some, Resul
 use Rattle.std.specs.FinMap as fin
 use Rattle.resp_wire.specs.Response.{Response, response_of}
 use Rattle.zset_core.specs.CommandGrammar.{is_creating}
-use Rattle.zset_core.specs.CommandMeaning.{Asked, key_of}
+use Rattle.zset_core.specs.CommandRequest.{Asked, key_of}
 use Rattle.zset_core.specs.Semantics.{step}
 use Rattle.zset_core.specs.declared.refusal.Refusal.{Refusal}
 use Rattle.set_table.specs.Naming.{IsPlace, Grows}

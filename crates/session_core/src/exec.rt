@@ -2,7 +2,7 @@
 
 ghost use Rattle.std.specs.Prelude.{Result, ⊤};
 ghost use Rattle.resp_wire.specs.Response.{Response, response_of};
-ghost use Rattle.zset_core.specs.CommandMeaning.{Asked};
+ghost use Rattle.zset_core.specs.CommandRequest.{Asked};
 ghost use Rattle.zset_core.specs.declared.refusal.Refusal.{Refusal as RefusalValue};
 ghost use Rattle.session_core.specs.OwnerAnswers.{IsIdle, OwnerAnswers, LoggedAnswers};
 ghost use Rattle.session_core.specs.Exchange.{answer_of, Exchange};

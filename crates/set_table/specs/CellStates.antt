@@ -2,7 +2,7 @@
 use Rattle.std.specs.Prelude.{◌≡◌, ℕ, ◌+◌, ◌*◌, ◌^◌, ◌≤◌, ◌<◌, List, length, None}
 use Rattle.std.proofs.Math.ListN.{get_or, set, replicate}
 use Rattle.std.specs.FinMap as fin
-use Rattle.zset_core.specs.CommandMeaning.{Asked}
+use Rattle.zset_core.specs.CommandRequest.{Asked}
 use Rattle.zset_core.specs.RowEdits.{most_edits}
 use Rattle.zset_core.specs.Views.{SetView}
 use Rattle.zset_core.specs.declared.refusal.Refusal.{Refusal}

@@ -3,7 +3,7 @@ use Rattle.std.specs.Prelude.{◌≡◌, ℕ, ◌⊎◌, List, None, Some, false
 use Rattle.std.specs.FinMap as fin
 use Rattle.resp_wire.specs.Response.{response_of}
 use Rattle.zset_core.specs.CommandGrammar.{is_creating}
-use Rattle.zset_core.specs.CommandMeaning.{Asked, Meaning, key_of}
+use Rattle.zset_core.specs.CommandRequest.{Asked, Meaning, key_of}
 use Rattle.zset_core.specs.Semantics.{step}
 use Rattle.zset_core.specs.declared.refusal.Refusal.{Refusal}
 use Rattle.zset_core.specs.declared.refusal.Refusal.TheVariants.{NoMemory, TableFull, ScoreOverflow, LogBroken, LogFull, LogRefused, Spent, OutOfStep}

@@ -4,8 +4,8 @@ ghost use Rattle.std.specs.Prelude.{◌≡◌, ◌<◌, ◌≤◌, ◌^◌, ◌�
 ghost use Rattle.std.proofs.Math.ListN.{get_or, set};
 ghost use Rattle.std.specs.FinMap as map;
 ghost use Rattle.ripple_column.specs.Content.{Holds};
-ghost use Rattle.zset_core.specs.CommandMeaning.{key_of};
-ghost use Rattle.zset_core.specs.Readiness.{IsReadyFor};
+ghost use Rattle.zset_core.specs.CommandRequest.{key_of};
+ghost use Rattle.zset_core.specs.AnswersWithoutCracking.{IsReadyFor};
 ghost use Rattle.zset_core.specs.SortedSet.{pairs};
 ghost use Rattle.set_table.specs.CellStates.{HasNoReading, HasRead, HasRun, InStep, IsRefused, IsWhole, WasRun, counts_of, new_cell};
 ghost use Rattle.set_table.specs.TableAnswers.{IsSetRefusal};

@@ -1,7 +1,7 @@
 //! Sets behind locks of their own, found by names that are set once.
 
 ghost use Rattle.std.specs.Prelude.{◌≡◌, ◌<◌, false, length, IfOk, IfErr, IfSome, OnErr, IsSome, MatchOption};
-ghost use Rattle.zset_core.specs.CommandMeaning.{key_of, is_writing};
+ghost use Rattle.zset_core.specs.CommandRequest.{key_of, is_writing};
 ghost use Rattle.set_table.specs.Naming.{Grows, IsPlace};
 ghost use Rattle.set_table.specs.PassStates.{IsPassOf, WasAnswered};
 ghost use Rattle.set_table.specs.TableAnswers.{HasNoPlace, IsAnswered, IsClaimRefusal, IsSetRefusal, IsTableRefusal};

@@ -1,7 +1,7 @@
 //! Commands over a log, and records.
 
 ghost use Rattle.std.specs.Prelude.{◌≡◌, IsTrue, IfOk};
-ghost use Rattle.zset_core.specs.CommandMeaning.{is_writing};
+ghost use Rattle.zset_core.specs.CommandRequest.{is_writing};
 ghost use Rattle.zset_core.specs.Views.{IsPreparedFor};
 
 use crate::exchange::bytes_of;

@@ -1,7 +1,7 @@
 -- How the program ends: its exit status, and the lines on standard error.
 use Rattle.std.specs.Prelude.{◌≡◌, ℕ, ◌+◌, ◌-◌, ◌^◌, ◌≤◌, min, map, option_map, List, [], ◌∷◌, Option, None, Some, Result, Ok, Err, MatchResult}
 use Rattle.resp_wire.specs.FaultTexts.{number_of}
-use Rattle.zset_core.specs.CommandMeaning.{Asked}
+use Rattle.zset_core.specs.CommandRequest.{Asked}
 use Rattle.zset_core.specs.declared.refusal.Refusal.{Refusal}
 use Rattle.resp_wire.specs.Response.{Response}
 use Rattle.session_core.specs.declared.fault.Ended.{Ended}

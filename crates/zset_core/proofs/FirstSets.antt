@@ -15,7 +15,7 @@ use Rattle.std.specs.declared.snapshot.Snapshot.{Snapshot}
 use Rattle.std.specs.declared.vec.Vec.{Vec}
 use Rattle.zset_core.specs.SortedSet.{Members, bytes_cmp}
 use Rattle.zset_core.specs.BoundedWorld.{IsBoundedWorld, IsBoundedAt, IsBoundedOwner}
-use Rattle.zset_core.specs.CommandMeaning.{Asked}
+use Rattle.zset_core.specs.CommandRequest.{Asked}
 use Rattle.zset_core.specs.OwnerInvariant.{Keyed, world_of, set_in, IsAfter, IsRising, AllRest, IsOwned, IsHeld, owner_view}
 use Rattle.zset_core.specs.Taken.{IsFirst}
 use Rattle.zset_core.specs.Views.{SetView, OwnerView}

@@ -4,7 +4,7 @@ use Rattle.std.proofs.lemmas.Bool.{true≢false}
 use Rattle.std.specs.declared.snapshot.Snapshot.{Snapshot}
 use Rattle.resp_wire.specs.RequestEncoding.{IsArgument}
 use Rattle.resp_wire.specs.Response.{Response}
-use Rattle.zset_core.specs.CommandMeaning.{Meaning, Asked, key_of}
+use Rattle.zset_core.specs.CommandRequest.{Meaning, Asked, key_of}
 use Rattle.zset_core.specs.Views.{SetView, Next, OwnerView}
 use Rattle.zset_core.specs.World.{World, put_set, act_at}
 use Rattle.zset_core.specs.OwnerInvariant.{Keyed, world_of, set_in, next_at, IsHeld, IsOwned, owner_view, AllRest}

@@ -7,9 +7,9 @@ use Rattle.zset_core.specs.SortedSet.{Members, pairs}
 use Rattle.zset_core.specs.MemberEntries.{Entry, current_score, rows_by, members_by, IsSettled}
 use Rattle.zset_core.specs.RowEdits.{HasAtMost, HasRoom, most_edits}
 use Rattle.zset_core.specs.Plan.{Plans, Prepares, left_by}
-use Rattle.zset_core.specs.ChangeOutline.{IsOutline}
+use Rattle.zset_core.specs.ChangeCounts.{IsOutline}
 use Rattle.zset_core.specs.ColumnEffects.{edit_count}
-use Rattle.zset_core.specs.CommandMeaning.{Meaning}
+use Rattle.zset_core.specs.CommandRequest.{Meaning}
 use Rattle.zset_core.specs.Views.{SetView, Next}
 use Rattle.zset_core.specs.SetInvariant.{view_of, next_of, IsIdle, IsPlanned, IsSound}
 use Rattle.zset_core.specs.declared.set.plan.Plan.{Plan}

@@ -6,7 +6,7 @@ use Rattle.std.proofs.lemmas.List.{get_or_append_left, map-append, length-map}
 use Rattle.std.proofs.lemmas.List.Elements.{All-nil, All-cons, All-append, All-map}
 use Rattle.std.proofs.lemmas.List.Sorted.{All-permutation, IsPermutation-refl, IsPermutation-trans, IsPermutation-map, IsPermutation-append_left, IsPermutation-append_right, length_permutation}
 use Rattle.zset_core.specs.SortedSet.{Pair, pair_cmp}
-use Rattle.zset_core.specs.ListedPairs.{Shown, pair_of, pairs_of, shown_cmp}
+use Rattle.zset_core.specs.BorrowedPairs.{Shown, pair_of, pairs_of, shown_cmp}
 use Rattle.zset_core.specs.RankWindow.{ComesBefore, IsPart}
 use Rattle.zset_core.proofs.Order.{pair_total, pair_exact}
 

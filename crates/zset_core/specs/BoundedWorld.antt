@@ -6,8 +6,8 @@ use Rattle.std.specs.FinMap as fin
 use Rattle.resp_wire.specs.RequestEncoding.{IsArgument}
 use Rattle.score_bounds.specs.Scores.{IsScore}
 use Rattle.zset_core.specs.SortedSet.{Members, Pair}
-use Rattle.zset_core.specs.CommandMeaning.{Meaning, key_of}
-use Rattle.zset_core.specs.CommandMeaning as meanings
+use Rattle.zset_core.specs.CommandRequest.{Meaning, key_of}
+use Rattle.zset_core.specs.CommandRequest as meanings
 use Rattle.zset_core.specs.Views.{OwnerView}
 use Rattle.zset_core.specs.World.{World, is_empty}
 

@@ -7,9 +7,9 @@ use Rattle.std.specs.Str.{str_eq_ignore_ascii_case}
 use Rattle.score_bounds.specs.Scores.{score_value, integer_value}
 use Rattle.score_bounds.specs.Bounds.{range_value}
 use Rattle.score_bounds.specs.declared.bounds.Range.{Range}
-use Rattle.zset_core.specs.CommandMeaning.{Meaning}
-use Rattle.zset_core.specs.CommandMeaning as meanings
-use Rattle.zset_core.specs.ParsedArguments.{word_at}
+use Rattle.zset_core.specs.CommandRequest.{Meaning}
+use Rattle.zset_core.specs.CommandRequest as meanings
+use Rattle.zset_core.specs.ParsedForm.{word_at}
 use Rattle.zset_core.specs.declared.command.limit.Limit.{Limit}
 use Rattle.zset_core.specs.declared.set.pair_outcome.Flags.{Flags}
 use Rattle.zset_core.specs.declared.command.name.CommandName.{CommandName}

@@ -8,7 +8,7 @@ use Rattle.std.specs.FinMap as fin
 use Rattle.std.specs.declared.vec.Vec.{Vec}
 use Rattle.std.specs.declared.snapshot.Snapshot.{Snapshot}
 use Rattle.zset_core.specs.SortedSet.{bytes_cmp}
-use Rattle.zset_core.specs.CommandMeaning.{Asked, key_of}
+use Rattle.zset_core.specs.CommandRequest.{Asked, key_of}
 use Rattle.zset_core.specs.Views.{SetView, Next, OwnerView}
 use Rattle.zset_core.specs.World.{World, is_empty, put_set}
 

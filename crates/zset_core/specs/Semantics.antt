@@ -7,7 +7,7 @@ use Rattle.resp_wire.specs.Response.{Response, Integer, BulkString, NullBulk, Ar
 use Rattle.score_bounds.specs.Bounds.{is_in}
 use Rattle.score_bounds.specs.Scores.{is_score, score_text}
 use Rattle.zset_core.specs.SortedSet.{Members, Pair, listing}
-use Rattle.zset_core.specs.CommandMeaning.{Meaning, Ping, Add, Increase, Remove, Score, Card, Count, ListRange}
+use Rattle.zset_core.specs.CommandRequest.{Meaning, Ping, Add, Increase, Remove, Score, Card, Count, ListRange}
 use Rattle.zset_core.specs.declared.set.pair_outcome.Flags.{Flags}
 use Rattle.zset_core.specs.declared.set.pair_outcome.Outcome.{Outcome}
 use Rattle.zset_core.specs.declared.set.pair_outcome.Outcome.TheVariants.{Stopped, Added, Changed, Same}

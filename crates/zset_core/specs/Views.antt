@@ -6,7 +6,7 @@ use Rattle.std.specs.FinMap as fin
 use Rattle.resp_wire.specs.Response.{Response}
 use Rattle.ripple_column.specs.Content.{ColumnState}
 use Rattle.zset_core.specs.SortedSet.{Members}
-use Rattle.zset_core.specs.CommandMeaning.{Meaning}
+use Rattle.zset_core.specs.CommandRequest.{Meaning}
 use Rattle.zset_core.specs.Semantics.{step}
 use Rattle.zset_core.specs.World.{World, set_at}
 

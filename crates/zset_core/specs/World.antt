@@ -5,7 +5,7 @@ use Rattle.std.specs.FinMap as fin
 use Rattle.std.specs.FinMap.{FinMap}
 use Rattle.resp_wire.specs.Response.{Response}
 use Rattle.zset_core.specs.SortedSet.{Members, bytes_cmp}
-use Rattle.zset_core.specs.CommandMeaning.{Meaning, key_of}
+use Rattle.zset_core.specs.CommandRequest.{Meaning, key_of}
 use Rattle.zset_core.specs.Semantics.{step}
 
 -- the sets that are not empty, by their keys

@@ -18,5 +18,5 @@ pub use command::limit::Limit;
 pub use owner::OneOwner;
 pub use refusal::Refusal;
 pub use set::ZSet;
-pub use set::change_outline::Outline;
+pub use set::change_counts::Outline;
 pub use set::pair_outcome::{Flags, Outcome};

@@ -3,30 +3,30 @@ ghost use Rattle.std.specs.Prelude.{◌≡◌, None, IfOk, IfErr, IfSome, OnOk, 
 ghost use Rattle.std.specs.FinMap as map;
 ghost use Rattle.std.specs.Option.{option_copied};
 ghost use Rattle.resp_wire.specs.Response.{response_of};
-ghost use Rattle.zset_core.specs.CommandMeaning.{is_writing, key_of};
-ghost use Rattle.zset_core.specs.ChangeOutline.{IsOutline};
+ghost use Rattle.zset_core.specs.CommandRequest.{is_writing, key_of};
+ghost use Rattle.zset_core.specs.ChangeCounts.{IsOutline};
 ghost use Rattle.zset_core.specs.Refusal.{IsRefused};
 ghost use Rattle.zset_core.specs.BoundedWorld.{IsBoundedWorld};
 ghost use Rattle.zset_core.specs.SortedSet.{whole};
 ghost use Rattle.zset_core.specs.Views.{HasNoSet, IsPreparedAt, IsSetAt};
 ghost use Rattle.zset_core.specs.World.{act, key_behind, put_set, set_at};
 
-mod empty_set;
-mod key_order;
-mod prepare;
+mod new_set;
+mod keys_in_order;
+mod prepare_and_commit;
 mod run;
 mod take_first;
 mod tree;
 
 use crate::command::Command;
-use crate::owner::key_order::{first_key, next_key, nth_key};
-use crate::owner::prepare::{commit_at, drop_at, prepare_at};
+use crate::owner::keys_in_order::{first_key, next_key, nth_key};
+use crate::owner::prepare_and_commit::{commit_at, drop_at, prepare_at};
 use crate::owner::run::run_at;
 use crate::owner::tree::SetTree;
 use crate::query::ping::pong;
 use crate::refusal::Refusal;
 use crate::set::ZSet;
-use crate::set::change_outline::Outline;
+use crate::set::change_counts::Outline;
 use crack_kernel::Row;
 use resp_wire::Reply;
 use std::alloc::{AllocError, Allocator};

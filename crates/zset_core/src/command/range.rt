@@ -2,13 +2,13 @@
 
 ghost use Rattle.std.specs.Prelude.{◌≡◌, ◌≤◌, ◌||◌, length, is_none, option_map};
 ghost use Rattle.zset_core.specs.CommandGrammar.{asked_range, command_conditions, command_meaning, range_options};
-ghost use Rattle.zset_core.specs.ArgumentReading.{IsReading, choice_after, no_choice};
+ghost use Rattle.zset_core.specs.ParseResults.{IsReading, choice_after, no_choice};
 ghost use Rattle.zset_core.specs.declared.command.name.CommandName.TheVariants as names;
 
 use crate::command::dispatch::{argument, behind};
 use crate::command::limit::Limit;
 use crate::command::name::is_named;
-use crate::command::parsed::Form;
+use crate::command::parsed_form::Form;
 use crate::refusal::Refusal;
 use resp_wire::Bytes;
 use score_bounds::Range;

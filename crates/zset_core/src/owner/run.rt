@@ -1,7 +1,7 @@
 //! A command run on the set of its key.
 ghost use Rattle.std.specs.Prelude.{◌≡◌, None, Some, IfOk, IfErr, OnErr, IsSome};
 ghost use Rattle.resp_wire.specs.Response.{response_of};
-ghost use Rattle.zset_core.specs.CommandMeaning.{key_of};
+ghost use Rattle.zset_core.specs.CommandRequest.{key_of};
 ghost use Rattle.zset_core.specs.OwnerInvariant.{world_of, set_in, AllRest};
 ghost use Rattle.zset_core.specs.Refusal.{IsRefused};
 ghost use Rattle.zset_core.specs.Semantics.{step};

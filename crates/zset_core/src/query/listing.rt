@@ -3,7 +3,7 @@ ghost use Rattle.std.specs.Prelude.{◌≡◌, ◌++◌, ◌∷◌, [], OnOk, If
 ghost use Rattle.zset_core.specs.SortedSet.{whole};
 ghost use Rattle.zset_core.specs.Semantics.{elements};
 ghost use Rattle.zset_core.specs.MemberEntries.{current_score, members_by};
-ghost use Rattle.zset_core.specs.ListedPairs.{entry_pairs, pairs_of};
+ghost use Rattle.zset_core.specs.BorrowedPairs.{entry_pairs, pairs_of};
 
 use crate::score_replies::score_bytes;
 use crate::set::member_map::MemberMap;

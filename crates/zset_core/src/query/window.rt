@@ -5,7 +5,7 @@ ghost use Rattle.ripple_column.specs.Content.{IsUnchanged, SameContent};
 ghost use Rattle.zset_core.specs.ColumnEffects.{Narrows};
 ghost use Rattle.zset_core.specs.SortedSet.{Pair};
 ghost use Rattle.zset_core.specs.Semantics.{from_offset, at_most, apply_limit};
-ghost use Rattle.zset_core.specs.ListedPairs.{pairs_of, shown_cmp};
+ghost use Rattle.zset_core.specs.BorrowedPairs.{pairs_of, shown_cmp};
 ghost use Rattle.zset_core.specs.RankWindow.{IsPart, IsPieceStart, IsPieceEnd};
 
 use crate::command::limit::Limit;

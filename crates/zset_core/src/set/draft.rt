@@ -4,17 +4,16 @@ ghost use Rattle.std.specs.Prelude.{◌≡◌, ℕ, ◌<◌, ◌≤◌, true, No
 ghost use Rattle.std.specs.FinMap as map;
 ghost use Rattle.zset_core.specs.declared.set.member_map.ScoreSlot.{ScoreSlot as SlotType};
 ghost use Rattle.zset_core.specs.Semantics.{outcome_of, counted, put_one, put_all, count_all, increase_reply};
-ghost use Rattle.zset_core.specs.ParsedArguments.{given_pairs};
+ghost use Rattle.zset_core.specs.ParsedForm.{given_pairs};
 ghost use Rattle.zset_core.specs.RowEdits.{Notes};
 ghost use Rattle.zset_core.specs.MemberEntries.{current_score, staged_score, rows_by, members_by, slot_at, slots, IsSettled, IsWaiting, Grows};
 ghost use Rattle.resp_wire.specs.Response.{response_of};
 
 use crate::command::given_pairs::GivenPairs;
 use crate::score_replies::increase_reply;
-use crate::set::member_map::{MemberMap, ScoreSlot, find_slot};
+use crate::set::member_map::{MemberMap, ScoreSlot, discard_staged, find_slot};
 use crate::set::pair_outcome::{Flags, Outcome};
 use crate::set::row_edits::Edits;
-use crate::set::staged_scores::discard_staged;
 use resp_wire::Reply;
 use std::alloc::{AllocError, Allocator};
 use std::hash::BuildHasher;

@@ -1,8 +1,11 @@
-//! The members of one set, and the scores of each.
+//! The members of one set, and the scores of each: its own, and the one that is staged for it. Staged
+//! scores are adopted or discarded, and members that leave are taken out.
+
 ghost use Rattle.std.specs.Prelude.{◌≡◌, ◌<◌, ◌^◌, Some, slice_get, option_map, IfSome};
 ghost use Rattle.std.specs.FinMap as map;
 ghost use Rattle.indexmap.specs.IndexMap.{IsUnique};
-ghost use Rattle.zset_core.specs.MemberEntries.{current_score, staged_score, members_by, slot_at, slots, same_bytes};
+ghost use Rattle.zset_core.specs.MemberEntries.{current_score, staged_score, rows_by, members_by, slot_at, slots, same_bytes, IsSettled, IsWaiting, bytes_of};
+ghost use Rattle.zset_core.specs.Semantics.{remove_all};
 
 use indexmap::IndexMap;
 use std::alloc::Allocator;
@@ -55,5 +58,56 @@ pub fn score_of<H: BuildHasher, A: Allocator + Copy>(
     match members.get(member) {
         None => None,
         Some(slot) => Some(slot.current),
+    }
+}
+
+/// Staged scores become the members' own.
+pub fn adopt_staged<H: BuildHasher, A: Allocator + Copy>(
+    members: &mut MemberMap<H, A>,
+    touched: &[usize],
+)
+    requires { IsWaiting touched.now members.old.entries }
+    ensures staged { rows_by staged_score members.new.entries ≡ rows_by staged_score members.old.entries }
+    ensures settled { IsSettled members.new.entries }
+{
+    for place in touched {
+        let staged = members[*place].staged;
+        members[*place] = ScoreSlot {
+            current: staged,
+            staged,
+        };
+    }
+}
+
+/// Staged scores are discarded, and members keep theirs.
+pub fn discard_staged<H: BuildHasher, A: Allocator + Copy>(
+    members: &mut MemberMap<H, A>,
+    touched: &[usize],
+)
+    requires { IsWaiting touched.now members.old.entries }
+    ensures current { rows_by current_score members.new.entries ≡ rows_by current_score members.old.entries }
+    ensures settled { IsSettled members.new.entries }
+{
+    for place in touched {
+        let current = members[*place].current;
+        members[*place] = ScoreSlot {
+            current,
+            staged: current,
+        };
+    }
+}
+
+/// Members are taken out.
+pub fn take_out<H: BuildHasher, A: Allocator + Copy>(
+    members: &mut MemberMap<H, A>,
+    removed: &[Vec<u8, A>],
+)
+    requires { IsSettled members.old.entries }
+    ensures members { members_by current_score members.new.entries
+        ≡ remove_all (members_by current_score members.old.entries) (bytes_of removed.now) }
+    ensures settled { IsSettled members.new.entries }
+{
+    for member in removed {
+        members.swap_remove(member.as_slice());
     }
 }

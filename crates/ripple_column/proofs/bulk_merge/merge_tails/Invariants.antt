@@ -1,7 +1,7 @@
 use Rattle.std.proofs.Common.{◌+◌, ◌≤◌, length, vec_len, vec_capacity}
 use Rattle.ripple_column.specs.Content.{KeepsContent}
-use Rattle.ripple_column.specs.BlankGap.{TakenFrom}
-use Rattle.ripple_column.specs.Merge.{KeepsFrame}
+use Rattle.ripple_column.specs.MergeGap.{TakenFrom}
+use Rattle.ripple_column.specs.MergeEffects.{KeepsFrame}
 use Rattle.ripple_column.proofs.bulk_merge.merge_tails.Given as goal
 
 abbrev pub invariant-loop-turn : goal.invariant-loop-turn

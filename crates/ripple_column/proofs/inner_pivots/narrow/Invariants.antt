@@ -1,4 +1,4 @@
-use Rattle.ripple_column.specs.InnerCracks.{AreCracked}
+use Rattle.ripple_column.specs.InnerCrackEffects.{AreCracked}
 use Rattle.ripple_column.proofs.inner_pivots.narrow.Given as goal
 
 abbrev pub invariant-loop-turn : goal.invariant-loop-turn

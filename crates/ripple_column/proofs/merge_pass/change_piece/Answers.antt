@@ -1,5 +1,5 @@
 use Rattle.std.proofs.Common.{◌≡◌, ◌-◌, ◌≤◌, ℕ, pos, length, get_or, replicate, count_by, ap, arith}
-use Rattle.ripple_column.specs.BlankGap.{StandFrom, blank}
+use Rattle.ripple_column.specs.MergeGap.{StandFrom, blank}
 use Rattle.ripple_column.proofs.Blanks.{blanks_split}
 use Rattle.ripple_column.proofs.Counts.{count_moved}
 use Rattle.ripple_column.proofs.Gaps.{StandFrom-end}

@@ -1,6 +1,6 @@
 use Rattle.std.proofs.Common.{ℕ, replicate, count_by, ap, ◌∙◌, arith}
 use Rattle.std.proofs.lemmas.List.Sorted.{IsPermutation-trans}
-use Rattle.ripple_column.specs.BlankGap.{blank}
+use Rattle.ripple_column.specs.MergeGap.{blank}
 use Rattle.ripple_column.proofs.Counts.{count_moved}
 use Rattle.ripple_column.proofs.Gaps.{length-values}
 use Rattle.ripple_column.proofs.Frames.{KeepsFrame-more}

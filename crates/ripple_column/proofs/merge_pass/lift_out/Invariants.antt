@@ -1,6 +1,6 @@
 use Rattle.std.proofs.Common.{◌≡◌, ◌-◌, length, IsPermutation}
-use Rattle.ripple_column.specs.BlankGap.{HasGapAt}
-use Rattle.ripple_column.specs.Merge.{KeepsFrame}
+use Rattle.ripple_column.specs.MergeGap.{HasGapAt}
+use Rattle.ripple_column.specs.MergeEffects.{KeepsFrame}
 use Rattle.ripple_column.proofs.merge_pass.lift_out.Given as goal
 
 abbrev pub invariant-loop-piece : goal.invariant-loop-piece

@@ -1,5 +1,5 @@
 use Rattle.std.proofs.Common.{◌∙◌, ℕ, replicate, count_by, refl, ap, arith}
-use Rattle.ripple_column.specs.BlankGap.{blank}
+use Rattle.ripple_column.specs.MergeGap.{blank}
 use Rattle.ripple_column.proofs.Counts.{count_moved}
 use Rattle.ripple_column.proofs.Frames.{KeepsFrame-more}
 use Rattle.ripple_column.proofs.Gaps.{ObeysPivots-values}

@@ -1,6 +1,6 @@
 use Rattle.std.proofs.Common.{◌≡◌, ◌-◌, ◌<◌, pos, get_or}
-use Rattle.ripple_column.specs.BlankGap.{HasGapAt, KeepsContentBeside, TakenFrom}
-use Rattle.ripple_column.specs.Merge.{KeepsFrame}
+use Rattle.ripple_column.specs.MergeGap.{HasGapAt, KeepsContentBeside, TakenFrom}
+use Rattle.ripple_column.specs.MergeEffects.{KeepsFrame}
 use Rattle.ripple_column.proofs.merge_pass.run_pass.Given as goal
 
 abbrev pub invariant-loop-passed : goal.invariant-loop-passed

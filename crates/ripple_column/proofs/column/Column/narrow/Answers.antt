@@ -4,7 +4,7 @@ use Rattle.score_bounds.specs.Scores.{greatest}
 use Rattle.ripple_column.specs.RangeAnswer.{IsAnswer}
 use Rattle.ripple_column.specs.Content.{ColumnState}
 use Rattle.ripple_column.specs.ColumnInvariant.{state}
-use Rattle.ripple_column.specs.InnerCracks.{shown}
+use Rattle.ripple_column.specs.InnerCrackEffects.{shown}
 use Rattle.ripple_column.proofs.Selection.{CutsPart, HoldsRange-answer}
 use Rattle.ripple_column.proofs.Counts.{count_moved}
 use Rattle.ripple_column.proofs.InnerPivots.{IsAnswer-same, among_found}

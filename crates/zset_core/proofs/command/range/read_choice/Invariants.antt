@@ -1,7 +1,7 @@
 use Rattle.std.proofs.Common.{◌≡◌, length}
 use Rattle.std.specs.Prelude.{option_map}
 use Rattle.zset_core.specs.CommandGrammar.{range_options}
-use Rattle.zset_core.specs.ArgumentReading.{choice_after, no_choice}
+use Rattle.zset_core.specs.ParseResults.{choice_after, no_choice}
 use Rattle.zset_core.proofs.command.range.read_choice.Given as goal
 
 abbrev pub invariant-loop-rest : goal.invariant-loop-rest

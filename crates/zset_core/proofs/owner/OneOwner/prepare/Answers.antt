@@ -1,6 +1,6 @@
 use Rattle.std.proofs.Common.{◌∙◌, sym, ap, subst, List, ℕ, Option, Some, rules, IfSome}
 use Rattle.resp_wire.specs.RequestEncoding.{IsArgument}
-use Rattle.zset_core.specs.CommandMeaning.{Asked, key_of}
+use Rattle.zset_core.specs.CommandRequest.{Asked, key_of}
 use Rattle.zset_core.specs.OwnerInvariant.{world_of, next_at}
 use Rattle.zset_core.specs.BoundedWorld.{IsBoundedWorld}
 use Rattle.zset_core.proofs.Bounds.{IsBoundedNext, ready_bounded_at}

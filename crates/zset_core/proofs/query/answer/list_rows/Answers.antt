@@ -1,5 +1,5 @@
 use Rattle.std.proofs.Common.{refl, List, ◌+◌, ◌-◌, ap, subst, ◌∙◌}
-use Rattle.zset_core.specs.ListedPairs.{Shown, pairs_of}
+use Rattle.zset_core.specs.BorrowedPairs.{Shown, pairs_of}
 use Rattle.zset_core.specs.RankWindow.{IsPart}
 use Rattle.resp_wire.specs.Response.{Array}
 use Rattle.zset_core.specs.Semantics.{elements}

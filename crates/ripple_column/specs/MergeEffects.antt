@@ -1,0 +1,29 @@
+-- What a merge of pending rows keeps of a column.
+use Rattle.std.specs.Prelude.{◌≡◌, ℕ, ℤ, List, vec_capacity}
+use Rattle.std.specs.declared.vec.Vec.{Vec}
+use Rattle.crack_kernel.specs.RowBag.{IsSubBag}
+use Rattle.crack_kernel.specs.PivotList.{PivotList}
+use Rattle.ripple_column.specs.Content.{KeepsContent}
+use Rattle.ripple_column.specs.Cuts.{values}
+use Rattle.ripple_column.specs.declared.cracked.Cracked.{Cracked}
+use Rattle.ripple_column.specs.declared.pending_lists.Pending.{Pending}
+
+-- rows move among the pieces: the pivots keep their values, and pivots and rows their room
+pub record KeepsFrame {A : Type 0} (old_rows : Vec (ℤ × List ℕ) A) (old : PivotList) (new_rows : Vec (ℤ × List ℕ) A) (new : PivotList) : Type 0 where
+  pub values : values new.list ≡ values old.list
+  pub spare : new.spare ≡ old.spare
+  pub capacity : vec_capacity new_rows ≡ vec_capacity old_rows
+
+-- pending rows come in and go out, and none begins to wait: the content stays, and the pending deletions are among the rows
+pub record Merges {A : Type 0} (old new : Cracked A) (waited waits : Pending A) : Type 0 where
+  pub content : KeepsContent old.rows.items waited.insertions.items waited.deletions.items new.rows.items waits.insertions.items waits.deletions.items
+  pub part : IsSubBag waits.deletions.items new.rows.items
+  pub less_deletions : IsSubBag waits.deletions.items waited.deletions.items
+  pub less_insertions : IsSubBag waits.insertions.items waited.insertions.items
+
+-- nothing changed but the room
+pub record StaysAsItWas {A : Type 0} (old new : Cracked A) (waited waits : Pending A) : Type 0 where
+  pub rows : new.rows.items ≡ old.rows.items
+  pub pivots : new.pivots.list ≡ old.pivots.list
+  pub deletions : waits.deletions.items ≡ waited.deletions.items
+  pub insertions : waits.insertions.items ≡ waited.insertions.items

@@ -1,0 +1,22 @@
+-- Commands that are answered with the column as it stands.
+use Rattle.std.specs.Prelude.{ℕ}
+use Rattle.score_bounds.specs.declared.bounds.Range.{Range}
+use Rattle.ripple_column.specs.Content.{ColumnState}
+use Rattle.ripple_column.specs.RangeAnswer.{IsAnswer}
+use Rattle.zset_core.specs.CommandRequest.{Meaning, Ping, Add, Increase, Remove, Score, Card, Count, ListRange}
+
+-- the column has an answer for a range as it stands
+abbrev pub HasAnswer : ColumnState → Range → Type 0
+HasAnswer c range = (answer : ℕ × ℕ) × IsAnswer c range answer
+
+-- a command that reads a member or counts all of them always is, one that names a range where the column has its answer;
+-- one that asks no set, or changes one, never
+abbrev pub IsReadyFor : ColumnState → Meaning → Type 0
+IsReadyFor c (Ping text) = ⊥
+IsReadyFor c (Add key flags changed pairs) = ⊥
+IsReadyFor c (Increase key flags given member) = ⊥
+IsReadyFor c (Remove key members) = ⊥
+IsReadyFor c (Score key member) = Unit {0}
+IsReadyFor c (Card key) = Unit {0}
+IsReadyFor c (Count key range) = HasAnswer c range
+IsReadyFor c (ListRange key range with_scores limit) = HasAnswer c range

@@ -1,0 +1,115 @@
+//! A command prepared in the set of its key, and what becomes of it.
+ghost use Rattle.std.specs.Prelude.{◌≡◌, None, Some, IfOk, IfErr, IfSome, OnOk, OnErr, IsSome, IsTrue};
+ghost use Rattle.resp_wire.specs.Response.{response_of};
+ghost use Rattle.zset_core.specs.CommandRequest.{is_writing};
+ghost use Rattle.zset_core.specs.ChangeCounts.{IsOutline};
+ghost use Rattle.zset_core.specs.OwnerInvariant.{world_of, set_in, next_at, AllRest, OthersRest};
+ghost use Rattle.zset_core.specs.Refusal.{IsRefused};
+ghost use Rattle.zset_core.specs.Views.{IsPreparedAt};
+ghost use Rattle.zset_core.specs.World.{act_at, set_at, put_set};
+
+use crate::command::Command;
+use crate::owner::tree::{SetTree, insert_set};
+use crate::refusal::Refusal;
+use crate::set::ZSet;
+use crate::set::change_counts::Outline;
+use resp_wire::Reply;
+use std::alloc::Allocator;
+use std::hash::BuildHasher;
+
+/// Prepares a command on the key of a missing set, which is put in.
+fn prepare_absent<H: BuildHasher + Clone + Drop, A: Allocator + Copy>(
+    alloc: A,
+    hasher: &H,
+    sets: &mut SetTree<H, A>,
+    key: &[u8],
+    command: &Command<A>,
+) -> Result<Outline, Refusal>
+    requires writing { IsTrue (is_writing command.now.meaning) }
+    requires absent { set_in sets.old.entries key.now ≡ None }
+    requires rest { AllRest sets.old.entries }
+    ensures world { world_of sets.new.entries ≡ world_of sets.old.entries }
+    ensures ready { OnOk result (IsPreparedAt (world_of sets.old.entries) (Some key.now)
+        command.now.meaning (next_at sets.new.entries (Some key.now))) }
+    ensures outline { IfOk result
+        (λ outline. IfSome (next_at sets.new.entries (Some key.now))
+        (λ next. IsOutline outline (set_at (world_of sets.old.entries) next.0) next.1.members)) }
+    ensures others { OthersRest key.now sets.new.entries }
+    ensures refused { IfErr result
+        (λ refusal. IsRefused refusal
+        (act_at (world_of sets.old.entries) (Some key.now) command.now.meaning)) }
+    ensures err { OnErr result (AllRest sets.new.entries) }
+{
+    let mut set = ZSet::with_hasher(alloc, hasher.clone()?);
+    let outline = set.prepare(command)?;
+    insert_set(alloc, sets, key, set)?;
+    Ok(outline)
+}
+
+/// Prepares a command in the set of its key.
+pub fn prepare_at<H: BuildHasher + Clone + Drop, A: Allocator + Copy>(
+    alloc: A,
+    hasher: &H,
+    sets: &mut SetTree<H, A>,
+    key: &[u8],
+    command: &Command<A>,
+) -> Result<Outline, Refusal>
+    requires writing { IsTrue (is_writing command.now.meaning) }
+    requires rest { AllRest sets.old.entries }
+    ensures world { world_of sets.new.entries ≡ world_of sets.old.entries }
+    ensures ready { OnOk result (IsPreparedAt (world_of sets.old.entries) (Some key.now)
+        command.now.meaning (next_at sets.new.entries (Some key.now))) }
+    ensures outline { IfOk result
+        (λ outline. IfSome (next_at sets.new.entries (Some key.now))
+        (λ next. IsOutline outline (set_at (world_of sets.old.entries) next.0) next.1.members)) }
+    ensures others { OthersRest key.now sets.new.entries }
+    ensures refused { IfErr result
+        (λ refusal. IsRefused refusal
+        (act_at (world_of sets.old.entries) (Some key.now) command.now.meaning)) }
+    ensures err { OnErr result (AllRest sets.new.entries) }
+{
+    match sets.get_mut(key) {
+        None => prepare_absent(alloc, hasher, sets, key, command),
+        Some(set) => set.prepare(command),
+    }
+}
+
+/// Commits what is prepared in the set at a key.
+pub fn commit_at<H: BuildHasher + Drop, A: Allocator + Copy>(
+    sets: &mut SetTree<H, A>,
+    key: &[u8],
+) -> Reply<A>
+    requires prepared { IsSome (next_at sets.old.entries (Some key.now)) }
+    requires others { OthersRest key.now sets.old.entries }
+    ensures made { IfSome (next_at sets.old.entries (Some key.now))
+        (λ next. (world_of sets.new.entries
+        ≡ put_set (world_of sets.old.entries) key.now next.1.members)
+        × (response_of result ≡ next.1.reply)) }
+    ensures rest { AllRest sets.new.entries }
+{
+    match sets.get_mut(key) {
+        None => unreachable!(),
+        Some(set) => {
+            let reply = set.commit();
+            if set.card() == 0 {
+                sets.remove(key);
+            }
+            reply
+        }
+    }
+}
+
+/// Discards what is prepared in the set at a key.
+pub fn drop_at<H: BuildHasher + Drop, A: Allocator + Copy>(sets: &mut SetTree<H, A>, key: &[u8])
+    requires prepared { IsSome (next_at sets.old.entries (Some key.now)) }
+    requires others { OthersRest key.now sets.old.entries }
+    ensures world { world_of sets.new.entries ≡ world_of sets.old.entries }
+    ensures rest { AllRest sets.new.entries }
+{
+    if let Some(set) = sets.get_mut(key) {
+        set.drop_prepared();
+        if set.card() == 0 {
+            sets.remove(key);
+        }
+    }
+}
