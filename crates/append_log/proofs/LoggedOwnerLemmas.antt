@@ -6,9 +6,9 @@ use Rattle.zset_core.specs.SortedSet.{Members}
 use Rattle.zset_core.specs.CommandRequest.{Meaning, Asked, key_of, is_writing, Ping, Add, Increase, Remove, Score, Card, Count, ListRange}
 use Rattle.zset_core.specs.CommandGrammar.{asked}
 use Rattle.zset_core.specs.Semantics.{step}
-use Rattle.zset_core.specs.Views.{Next, ShowsAt, IsPreparedAt}
-use Rattle.zset_core.specs.ChangeCounts.{IsOutline}
-use Rattle.zset_core.specs.declared.set.change_counts.Outline.{Outline}
+use Rattle.zset_core.specs.SetAndOwnerViews.{Next, ShowsAt, IsPreparedAt}
+use Rattle.zset_core.specs.ChangeOutline.{IsOutline}
+use Rattle.zset_core.specs.declared.set.change_outline.Outline.{Outline}
 use Rattle.zset_core.specs.declared.refusal.Refusal.{Refusal}
 use Rattle.zset_core.specs.declared.refusal.Refusal.TheVariants.{NoMemory, ScoreOverflow}
 use Rattle.zset_core.specs.World.{World, set_at, put_set, act_at, act}

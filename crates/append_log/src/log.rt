@@ -193,12 +193,13 @@ impl<S: LogSink, L: Ledger> Log<S, L> {
             → Breaks self.old self.new (request entry.now) }
         ensures cause { IsErrOf result Refusal.LogRefused
             → Rose self.old.failures self.new.failures }
+        // Only a log that is neither broken nor full asks its sink.
         ensures asked { IsErrOf result Refusal.LogRefused → (self.old.broken ≡ false)
             × (self.old.appended ≢ self.old.limit) }
         ensures no_other { IsErr result → IsErrOf result Refusal.LogBroken
             ⊎ IsErrOf result Refusal.LogFull ⊎ IsErrOf result Refusal.LogRefused }
-        // Whichever records end the sink, they do so again, this one behind them where it was
-        // appended; on Err they may have a prefix of it behind them.
+        // Records that end the sink before the call end it afterwards with this one behind them, on Err
+        // with at most a prefix of it. Of a sink that does not tell its bytes this says nothing.
         ensures records { (records : _) → HasRecords self.old records
             → HasRecords self.new (records_after records entry.now result) }
     {

@@ -117,7 +117,7 @@ impl<H: BuildHasher, S: LogSink, L: Ledger, A: Allocator + Copy> Model for Logge
     ghost Value = { LoggedView };
 
     ghost use Rattle.std.specs.Coded.{codes};
-    ghost use Rattle.zset_core.specs.Views.{coded_members, coded_world};
+    ghost use Rattle.zset_core.specs.SetAndOwnerViews.{coded_members, coded_world};
 
     ghost coded = { Prim.hlevel (codes, coded_members, coded_world) };
 
@@ -167,10 +167,12 @@ impl<H: BuildHasher + Clone + Drop, S: LogSink, L: Ledger, A: Allocator + Copy> 
     pub fn run(&mut self, command: &Command<A>) -> Result<Reply<A>, Refusal>
         ensures ok { IfOk result (λ reply. Ran self.old self.new command.now (response_of reply)) }
         ensures err { IfErr result (λ refusal. Refused self.old self.new command.now refusal) }
+        // Once an append failed, only commands that change no set succeed.
         ensures unbroken { OnOk result
             (self.old.log.broken ≡ true → AreSame self.old.world self.new.world) }
-        // From whatever world the log's records replay to this one's, they do so again, refused
-        // or not.
+        // Take a world from which the records at the end of the sink replayed to this owner's sets before
+        // the call. They replay to its sets after the call too, also where it refused. Where the sink does
+        // not tell its bytes, as a file doesn't, this speaks of some records and not of the file's.
         ensures replays { (start : WorldType) → Replays start self.old → Replays start self.new }
     {
         if command.writes() {

@@ -2,8 +2,12 @@
 //! check and the command line changes rarely.
 #![tactic(auto)]
 
+mod serve;
+
+pub use crate::serve::ServeTask;
+use crate::serve::{asked_serve, file_option, serve_command};
 use clap::error::ErrorKind;
-use clap::{Arg, ArgAction, ArgMatches, Command, Error};
+use clap::{Arg, ArgMatches, Command, Error};
 use std::alloc::{AllocError, Global};
 
 /// What `--version` prints behind the program's name.
@@ -14,6 +18,8 @@ const VERSION: &str = "0.2.0";
 pub enum Task<'a> {
     /// Serve standard input to standard output, with an append file where one is named.
     Stdio { file: Option<&'a str> },
+    /// Serve clients over TCP.
+    Serve(ServeTask<'a>),
     /// Write a new append file that replays to the same sets as an old one.
     Rewrite { old: &'a str, new: &'a str },
 }
@@ -30,14 +36,9 @@ pub enum Unasked {
 }
 
 fn stdio_command<'a>(alloc: Global) -> Result<Command<'a>, AllocError> {
-    let file = Arg::new(alloc, "file")
-        .long("file")
-        .value_name("PATH")
-        .help("Keeps the changes in this append file, which is made where it is missing")
-        .action(ArgAction::Set);
     Command::new(alloc, "stdio")
         .about("Serves standard input to standard output")
-        .arg(file)
+        .arg(file_option(alloc))
 }
 
 fn rewrite_command<'a>(alloc: Global) -> Result<Command<'a>, AllocError> {
@@ -60,6 +61,7 @@ fn command<'a>(alloc: Global) -> Result<Command<'a>, AllocError> {
         .subcommand_required(true)
         .disable_help_subcommand(true)
         .subcommand(stdio_command(alloc)?)?
+        .subcommand(serve_command(alloc)?)?
         .subcommand(rewrite_command(alloc)?)
 }
 
@@ -69,6 +71,7 @@ fn asked<'a>(found: &ArgMatches<'a>) -> Option<Task<'a>> {
         "stdio" => Some(Task::Stdio {
             file: words.get_str("file"),
         }),
+        "serve" => Some(Task::Serve(asked_serve(words)?)),
         "rewrite" => Some(Task::Rewrite {
             old: words.get_str("OLD")?,
             new: words.get_str("NEW")?,

@@ -22,9 +22,13 @@ EachOnce handed n = (x : ℕ) → times x (all_of handed.taken.items) + times x 
 -- what became of the connections that came between two states of the arrivals
 pub record IsHandedOver {A H : Type 0} (came last : A → ℕ) (keeps : H → H → Type 0) (handled : H → ℕ) (before : A) (handlers : List H) (limit : ℕ) (after : A) (handed : HandedOver H) : Type 0 where
   pub rise : came before ≤ came after
+  -- each number is told once
   pub once : EachOnce handed (came after - came before)
   pub rises : All (λ list. IsStrictlyIncreasing list.items) handed.taken.items
+  -- a list a handler, and what each handler did with the numbers of its list
   pub lists : vec_len handed.taken ≡ length handlers
   pub served : Served keeps handled handlers handed.handlers.items handed.taken.items
+  -- the last arrival was a fault of accepting
   pub fault : IsTrue handed.fault ↔ (last after ≡ 3)
+  -- the limit was reached, the arrivals closed, or accepting failed
   pub stop : (came after ≡ came before + limit) ⊎ (last after ≡ 2) ⊎ (last after ≡ 3)

@@ -128,6 +128,11 @@ fn end<A>(last: &mut A)
 /// accepting fails, the answer says so (`fault`) and tells all that was handled before. Before the
 /// first connection it takes memory for `limit` numbers, and as many again for each handler.
 ///
+/// The connections that came are numbered from 0. Each number stands exactly once, in the list of the
+/// handler that took it or in `left`; lists rise; each handler kept what it promises and handled as
+/// many connections as its list has numbers. That it returns is not promised: without a handler it may
+/// wait for ever.
+///
 /// # Errors
 ///
 /// The handlers are dropped. [`HandOverFault::NoMemory`] before a connection was accepted;

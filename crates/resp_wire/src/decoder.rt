@@ -121,12 +121,16 @@ impl<A: Allocator + Copy> Decoder<A> {
         self.bytes.extend_from_slice(piece)
     }
 
-    /// The next request. None asks for more bytes. A fault of the protocol is answered for good;
-    /// after NoMemory the decoder is unchanged.
+    /// The first whole request of the bytes held, which is taken off them. None: there is none yet, and
+    /// what is left may still become one. A fault of the protocol: it can't, and each later call answers
+    /// the same. Empty and null arrays before it are taken off in all three cases. After NoMemory the
+    /// decoder is unchanged.
     pub fn next(&mut self) -> Result<Option<Request<A>>, WireFault>
+        // A fault that was told is told again.
         ensures failed { IfSome self.old.fault
             (λ f. (result ≡ Err (Protocol f)) × (self.new ≡ self.old)) }
         ensures next { IfNone self.old.fault (Nexts self.old result self.new) }
+        // Each byte is held, or counted as taken.
         ensures taken { self.new.taken + length self.new.held ≡ self.old.taken
             + length self.old.held }
     {

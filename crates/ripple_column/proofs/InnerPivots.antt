@@ -19,7 +19,7 @@ use Rattle.ripple_column.specs.Content.{ColumnState}
 use Rattle.ripple_column.specs.Cuts.{is_before, values, new_values, StandsAt}
 use Rattle.ripple_column.proofs.Values.{list_any-pivot}
 use Rattle.ripple_column.proofs.Selection.{Contains-one_place}
-use Rattle.ripple_column.specs.InnerPivots.{AreFound, HasCut, IsAmong, same_pivot, shown_of}
+use Rattle.ripple_column.specs.ShownPivots.{AreFound, HasCut, IsAmong, same_pivot, shown_of}
 
 both_true : (a b : Bool) → (a && b) ≡ true → (a ≡ true) × (b ≡ true)
 both_true true b is = (refl, is)

@@ -1,8 +1,13 @@
 -- The rows that wait in a range, gathered at the end of a list.
-use Rattle.std.proofs.Common.{◌≡◌, ℕ, true, not, ◌&&◌, ◌+◌, ◌≤◌, ℤ, List, length, get_or, take, drop, count_by, sym, ◌∙◌, ap, arith, IsPermutation}
+use Rattle.std.proofs.Common.{◌≡◌, ℕ, true, false, not, ◌&&◌, ◌+◌, ◌≤◌, ℤ, List, length, get_or, take, drop, count_by, sym, ◌∙◌, ap, arith, IsPermutation}
 use Rattle.std.specs.List.{AllWithin}
-use Rattle.std.proofs.lemmas.List.{length-drop, get_or-drop, take-append-drop}
+use Rattle.std.proofs.lemmas.List.{length-drop, get_or-drop, get_or-take, take-append-drop}
+use Rattle.std.proofs.lemmas.List.Sorted.{IsPermutation-refl}
+use Rattle.score_bounds.specs.declared.bounds.Range.{Range}
 use Rattle.crack_kernel.specs.RowBag.{Test, IsSubBag}
+use Rattle.ripple_column.specs.Content.{has_score_in, NoneIn, SameOutside}
+use Rattle.ripple_column.specs.MergeGap.{TakenFrom}
+use Rattle.ripple_column.specs.MergeEffects.{HasLast}
 use Rattle.ripple_column.proofs.Counts.{and_not, count_moved, count_none, count_all, count_split}
 use Rattle.ripple_column.proofs.Blanks.{count_append}
 
@@ -39,3 +44,28 @@ SameOutside-tail q n old mid new front moved same less =
     let here = ap (λ (z : List (ℤ × List ℕ)). count_by q z) same in
     let all = count_moved q old mid moved in
     omega (arith, front, parts, here, all, less q)
+
+-- rows taken from the end leave those without a score in the range, where all behind have one
+pub SameOutside-taken : (range : Range) (n : ℕ) (old new : List (ℤ × List ℕ)) → HasLast range old n → TakenFrom n old new → SameOutside range old new
+SameOutside-taken range n old new last taken p =
+    SameOutside-tail (λ r. p r && not (has_score_in range r)) n old old new
+    (count_outside p (has_score_in range) n old last.within last.inside) (IsPermutation-refl old) taken.before taken.less
+
+-- and those before, which have none, are the same
+pub outside-taken : (range : Range) (n : ℕ) (old new : List (ℤ × List ℕ)) → HasLast range old n → TakenFrom n old new
+    → AllWithin (λ r. has_score_in range r ≡ false) new 0 n
+outside-taken range n old new last taken k d low high =
+    ap (has_score_in range) (sym (get_or-take n new k d high) ∙ ap (λ (z : List (ℤ × List ℕ)). get_or z k d) taken.before ∙ get_or-take n old k d high)
+    ∙ last.outside k d low high
+
+-- a list that ends where rows with a score in the range would begin has none
+pub none_last : (range : Range) (n : ℕ) (xs : List (ℤ × List ℕ)) → HasLast range xs n → length xs ≤ n → NoneIn range xs
+none_last range n xs last ends k d h = last.outside k d (omega arith) (omega (arith, ends))
+
+-- and where no row has one, it ends there
+pub last_none : (range : Range) (n : ℕ) (old xs : List (ℤ × List ℕ)) → IsPermutation old xs → HasLast range xs n → NoneIn range old → length xs ≤ n
+last_none range n old xs moved last none =
+    let zero = count_none (has_score_in range) old none in
+    let same = count_moved (has_score_in range) old xs moved in
+    let tail = count_within_tail (has_score_in range) n xs last.within last.inside in
+    omega (arith, zero, same, tail)

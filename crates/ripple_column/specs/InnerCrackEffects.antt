@@ -1,8 +1,8 @@
 -- Cracks by inner pivots: what they leave of the rows, and of the pivots that are shown.
 use Rattle.std.specs.Prelude.{◌≡◌, ◌≤◌, ℕ, ℤ, true, min, max, List, length, IsPermutation, vec_capacity}
-use Rattle.ripple_column.specs.InnerPivots.{IsAmong, shown_of}
+use Rattle.ripple_column.specs.ShownPivots.{IsAmong, shown_of}
 use Rattle.ripple_column.specs.declared.pending_lists.Pending.{Pending}
-use Rattle.ripple_column.specs.declared.pieces.Pieces.{Pieces}
+use Rattle.ripple_column.specs.declared.cracked_and_shown.Pieces.{Pieces}
 
 -- the greatest number of pivots that inner ones make: two less than the greatest of all, for the cuts of a range
 abbrev pub most_with_inner : ℕ

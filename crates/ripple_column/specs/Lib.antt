@@ -7,5 +7,5 @@ pub mod MergeGap
 pub mod MergeEffects
 pub mod RowHash
 pub mod PendingFilter
-pub mod InnerPivots
+pub mod ShownPivots
 pub mod InnerCrackEffects

@@ -1,9 +1,11 @@
 -- What a merge of pending rows keeps of a column.
-use Rattle.std.specs.Prelude.{◌≡◌, ℕ, ℤ, List, vec_capacity}
+use Rattle.std.specs.Prelude.{◌≡◌, ◌≤◌, ℕ, ℤ, true, false, List, length, vec_capacity}
+use Rattle.std.specs.List.{AllWithin}
 use Rattle.std.specs.declared.vec.Vec.{Vec}
 use Rattle.crack_kernel.specs.RowBag.{IsSubBag}
 use Rattle.crack_kernel.specs.PivotList.{PivotList}
-use Rattle.ripple_column.specs.Content.{KeepsContent}
+use Rattle.score_bounds.specs.declared.bounds.Range.{Range}
+use Rattle.ripple_column.specs.Content.{KeepsContent, has_score_in}
 use Rattle.ripple_column.specs.Cuts.{values}
 use Rattle.ripple_column.specs.declared.cracked.Cracked.{Cracked}
 use Rattle.ripple_column.specs.declared.pending_lists.Pending.{Pending}
@@ -27,3 +29,14 @@ pub record StaysAsItWas {A : Type 0} (old new : Cracked A) (waited waits : Pendi
   pub pivots : new.pivots.list ≡ old.pivots.list
   pub deletions : waits.deletions.items ≡ waited.deletions.items
   pub insertions : waits.insertions.items ≡ waited.insertions.items
+
+-- the rows of a list that have scores in the range are those from an index on
+pub record HasLast (range : Range) (rows : List (ℤ × List ℕ)) (from : ℕ) : Type 0 where
+  pub within : from ≤ length rows
+  pub outside : AllWithin (λ r. has_score_in range r ≡ false) rows 0 from
+  pub inside : AllWithin (λ r. has_score_in range r ≡ true) rows from (length rows)
+
+-- the first rows of a list, as many, are known to have no score in the range
+pub record ArePassed (range : Range) (rows : List (ℤ × List ℕ)) (count : ℕ) : Type 0 where
+  pub within : count ≤ length rows
+  pub outside : AllWithin (λ r. has_score_in range r ≡ false) rows 0 count

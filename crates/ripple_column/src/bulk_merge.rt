@@ -7,19 +7,16 @@
 //! once, by as many places as it has to.
 
 ghost use Rattle.std.specs.Prelude.{◌≡◌, ◌+◌, ◌-◌, ◌≤◌, ◌&&◌, not, true, false, length, take, count_by, IsPermutation, vec_len, vec_capacity};
-ghost use Rattle.std.specs.List.{AllWithin};
-ghost use Rattle.crack_kernel.specs.RowBag.{Test, IsSubBag};
-ghost use Rattle.ripple_column.specs.Content.{has_score_in, KeepsContent, SameOutside};
+ghost use Rattle.ripple_column.specs.Content.{KeepsContent};
 ghost use Rattle.ripple_column.specs.MergeGap.{TakenFrom};
-ghost use Rattle.ripple_column.specs.MergeEffects.{KeepsFrame, Merges};
+ghost use Rattle.ripple_column.specs.MergeEffects.{KeepsFrame};
 
 use crate::cracked::Cracked;
 use crate::deletion_filter::DeletionFilter;
 use crate::merge_gap::Direction;
 use crate::merge_pass::{Pass, run_pass};
-use crate::pending_lists::Pending;
+use crate::pending_lists::{Pending, RangeTails};
 use crack_kernel::{Pivots, Row};
-use score_bounds::Range;
 use std::alloc::Allocator;
 
 /// From how many rows on a merge goes over the pieces once for all of them. The ripple moves of
@@ -149,27 +146,29 @@ fn merge_tails<A: Allocator + Copy>(
     }
 }
 
-/// Merges rows that wait and have scores in the range by passes over the pieces, where many wait
-/// there. What it leaves is for the ripple moves.
+/// Merges the rows that wait in the two lists from some index on by passes over the pieces, where many
+/// wait there. What it leaves is for the ripple moves.
 pub fn merge_many<A: Allocator + Copy>(
     cracked: &mut Cracked<A>,
     pending: &mut Pending<A>,
-    range: &Range,
+    tails: RangeTails,
 )
-    requires part { IsSubBag pending.old.deletions.items cracked.old.rows.items }
-    requires room { vec_len cracked.old.rows + count_by (has_score_in range.now) pending.old.insertions.items
-        ≤ vec_capacity cracked.old.rows }
-    ensures merges { Merges cracked.old cracked.new pending.old pending.new }
-    ensures waiting_deletions { SameOutside range.now pending.old.deletions.items pending.new.deletions.items }
-    ensures waiting_insertions { SameOutside range.now pending.old.insertions.items pending.new.insertions.items }
+    requires deletions { tails.deletions ≤ length pending.old.deletions.items }
+    requires insertions { tails.insertions ≤ length pending.old.insertions.items }
+    requires room { vec_len cracked.old.rows + length pending.old.insertions.items
+        ≤ vec_capacity cracked.old.rows + tails.insertions }
+    ensures content { KeepsContent cracked.old.rows.items pending.old.insertions.items pending.old.deletions.items
+        cracked.new.rows.items pending.new.insertions.items pending.new.deletions.items }
+    ensures deletions { TakenFrom tails.deletions pending.old.deletions.items pending.new.deletions.items }
+    ensures insertions { TakenFrom tails.insertions pending.old.insertions.items pending.new.insertions.items }
     ensures frame { KeepsFrame cracked.old.rows cracked.old.pivots cracked.new.rows cracked.new.pivots }
 {
-    let deletions = pending.deletions.count_within(range);
-    let insertions = pending.insertions.count_within(range);
+    let deletions = pending.deletions.len() - tails.deletions;
+    let insertions = pending.insertions.len() - tails.insertions;
     if deletions.saturating_add(insertions) < MANY {
         return;
     }
-    let deletions_from = pending.deletions.line_up(range);
-    let insertions_from = pending.insertions.line_up(range);
-    merge_tails(cracked, pending, deletions_from, insertions_from);
+    pending.deletions.sort_from(tails.deletions);
+    pending.insertions.sort_from(tails.insertions);
+    merge_tails(cracked, pending, tails.deletions, tails.insertions);
 }

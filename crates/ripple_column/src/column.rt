@@ -6,12 +6,12 @@ ghost use Rattle.crack_kernel.specs.PivotList.{ObeysPivots};
 ghost use Rattle.ripple_column.specs.RangeAnswer.{AddsCuts, HoldsRange, IsAnswer, StandsStill, low_cut, high_cut, pivots_with_cuts};
 ghost use Rattle.ripple_column.specs.Content.{HasRow, IsUnchanged, NoneIn, Pends, SameContent, SameOutside, content_count, most_pending};
 ghost use Rattle.ripple_column.specs.Cuts.{is_before, values};
-ghost use Rattle.ripple_column.specs.InnerPivots.{IsAmong};
+ghost use Rattle.ripple_column.specs.ShownPivots.{IsAmong};
 
+use crate::cracked_and_shown::Pieces;
 use crate::cracking::is_before;
 use crate::inner_pivots::{is_wide, narrow};
 use crate::pending_lists::{MAX_PENDING, MAX_RESERVED, Pending};
-use crate::pieces::Pieces;
 use crate::select::{select_between, settled_places};
 use crack_kernel::{MAX_PIVOTS, Row};
 use score_bounds::Range;
@@ -174,8 +174,10 @@ impl<A: Allocator + Copy> Column<A> {
         ensures refused { OnErr result (IsUnchanged self.old self.new) }
         ensures empty { is_before (low_cut range.now) (high_cut range.now) ≡ false
             → IsUnchanged self.old self.new × (result ≡ Ok (0, 0)) }
+        // What waits outside the range goes on waiting.
         ensures waiting_insertions { SameOutside range.now self.old.insertions self.new.insertions }
         ensures waiting_deletions { SameOutside range.now self.old.deletions self.new.deletions }
+
         ensures pivots { OnOk result (is_before (low_cut range.now) (high_cut range.now) ≡ true
             → AddsCuts range.now self.old.pivots self.new.pivots) }
 
@@ -188,11 +190,13 @@ impl<A: Allocator + Copy> Column<A> {
         select_between(&mut self.pieces, &mut self.pending, range, &first, &second)
     }
 
-    /// Cracks the pieces around two places near them, by inner pivots, so that mostly few rows stand
-    /// between each place and the pivots around it. How few is not promised, and any places may be given.
-    /// Rows stay between the pivots that are shown, so each answer of a range holds as before; the range
-    /// given is the one of which that is told. Where memory is refused the cracks so far stay, and no more
-    /// come.
+    /// Makes it cheap to list the rows from one place to another: it adds inner pivots near both, so that
+    /// mostly few rows stand between each of them and the pivots around it. That is a hint: no clause says
+    /// how few, and any two places may be given. What is promised is that nothing else moves: the content,
+    /// the shown pivots and what waits are the same, and rows only change places between shown pivots.
+    ///
+    /// `range` does no work. It names the range whose answer the caller holds: that answer is still right
+    /// afterwards. Where memory is refused, the cracks so far stay and no more come.
     pub fn narrow(&mut self, range: &Range, from: usize, to: usize)
         ensures content { SameContent self.old self.new }
         ensures pivots { self.new.pivots ≡ self.old.pivots }

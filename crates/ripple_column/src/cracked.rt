@@ -3,7 +3,7 @@
 ghost use Rattle.std.specs.Prelude.{[], ◌≡◌};
 ghost use Rattle.crack_kernel.specs.PivotList.{ObeysPivots};
 
-use crate::rows::Rows;
+use crate::fingerprinted_rows::Rows;
 use crack_kernel::Pivots;
 use std::alloc::Allocator;
 

@@ -6,12 +6,11 @@
 ghost use Rattle.ripple_column.specs.InnerCrackEffects.{AreCracked};
 
 use crate::cracked::Cracked;
+use crate::cracked_and_shown::Pieces;
 use crate::cracking::crack_at;
-use crate::pending_lists::{PendingList, is_within};
-use crate::pieces::Pieces;
+use crate::pending_lists::PendingList;
 use crate::ripple::{place_or, start_below};
 use crack_kernel::{MAX_PIVOTS, Row};
-use score_bounds::{Interval, Range};
 use std::alloc::Allocator;
 
 /// How many scores of a piece are read to find one that parts it: few beside the rows of the
@@ -104,27 +103,17 @@ fn break_piece<A: Allocator>(pieces: &mut Pieces<A>, score: i64)
     }
 }
 
-/// Cracks the piece of a row that waits, if it is coarse and the row's score is in the interval.
-fn break_at<A: Allocator>(pieces: &mut Pieces<A>, row: &Row<A>, interval: &Interval)
-    ensures { AreCracked pieces.old pieces.new }
-{
-    if is_within(row, interval) {
-        break_piece(pieces, row.score());
-    }
-}
-
-/// Cracks the coarse pieces of the rows that wait and have scores in the range. Where all rows together
-/// would not make a coarse piece, there is none.
-pub fn break_up<A: Allocator>(pieces: &mut Pieces<A>, waiting: &PendingList<A>, range: &Range)
+/// Cracks the coarse pieces of the rows that wait from the index `from` on. Where all rows together would
+/// not make a coarse piece, there is none.
+pub fn break_up<A: Allocator>(pieces: &mut Pieces<A>, waiting: &PendingList<A>, from: usize)
     ensures { AreCracked pieces.old pieces.new }
 {
     let cracked = &pieces.cracked;
     if !is_coarse(cracked.rows.len(), cracked.pivots.len()) {
         return;
     }
-    let interval = range.interval();
-    for i in 0..waiting.len() {
-        break_at(pieces, &waiting.list()[i], &interval);
+    for i in from..waiting.len() {
+        break_piece(pieces, waiting.list()[i].score());
     }
 }
 

@@ -10,20 +10,21 @@
 mod bulk_merge;
 mod column;
 mod cracked;
+mod cracked_and_shown;
 mod cracking;
 mod deletion_filter;
+mod fingerprinted_rows;
 mod inner_pivots;
 mod merge;
 mod merge_gap;
 mod merge_pass;
 mod pending_filter;
 mod pending_lists;
-mod pieces;
 mod ripple;
 mod row_hash;
-mod rows;
 mod select;
 mod shown_pivots;
+mod waiting_rows;
 
 pub use column::Column;
 pub use pending_lists::{MAX_PENDING, MAX_RESERVED};

@@ -3,25 +3,32 @@
 //!
 //! The order of the rows that go on waiting is left open.
 
-ghost use Rattle.std.specs.Prelude.{◌≡◌, ◌+◌, ◌<◌, ◌≤◌, OnOk, OnErr, [], min, max, length, count_by, vec_len, vec_capacity};
+ghost use Rattle.std.specs.Prelude.{◌≡◌, ◌+◌, ◌<◌, ◌≤◌, OnOk, OnErr, [], false, min, max, length, count_by, vec_len, vec_capacity};
+ghost use Rattle.std.specs.List.{AllWithin};
 ghost use Rattle.crack_kernel.specs.RowBag.{Test, IsSubBag};
 ghost use Rattle.ripple_column.specs.Content.{has_score_in, NoneIn, SameOutside};
 ghost use Rattle.ripple_column.specs.Cuts.{values};
-ghost use Rattle.ripple_column.specs.MergeEffects.{KeepsFrame, Merges, StaysAsItWas};
+ghost use Rattle.ripple_column.specs.MergeEffects.{HasLast, KeepsFrame, Merges, StaysAsItWas};
 
 use crate::bulk_merge::merge_many;
 use crate::cracked::Cracked;
-use crate::pending_lists::{MAX_PENDING, MAX_RESERVED, Pending, PendingList, is_within};
+use crate::pending_lists::{
+    MAX_PENDING, MAX_RESERVED, Pending, PendingList, RangeTails, is_within,
+};
 use crate::ripple::{ripple_insert, ripple_remove};
 use score_bounds::{Bound, Range};
 use std::alloc::{AllocError, Allocator};
 
-/// Takes the rows that wait as deletions and have scores in the range out of the column.
+/// Takes the rows that wait as deletions and have scores in the range out of the column. They stand from
+/// the index `from` on.
 fn merge_deletions<A: Allocator>(
     cracked: &mut Cracked<A>,
     deletions: &mut PendingList<A>,
     range: &Range,
+    from: usize,
 )
+    requires from { from ≤ length deletions.old.items }
+    requires outside { AllWithin (λ r. has_score_in range.now r ≡ false) deletions.old.items 0 from }
     requires part { IsSubBag deletions.old.items cracked.old.rows.items }
     ensures part { IsSubBag deletions.new.items cracked.new.rows.items }
     ensures content { (p : Test) → count_by p cracked.new.rows.items + count_by p deletions.old.items
@@ -32,7 +39,7 @@ fn merge_deletions<A: Allocator>(
     ensures frame { KeepsFrame cracked.old.rows cracked.old.pivots cracked.new.rows cracked.new.pivots }
 {
     let interval = range.interval();
-    let mut i = 0;
+    let mut i = from;
     while i < deletions.len() {
         let next = &deletions.list()[i];
         if is_within(next, &interval) {
@@ -44,12 +51,16 @@ fn merge_deletions<A: Allocator>(
     }
 }
 
-/// Puts the rows that wait as insertions and have scores in the range into the column.
+/// Puts the rows that wait as insertions and have scores in the range into the column. They stand from
+/// the index `from` on.
 fn merge_insertions<A: Allocator>(
     cracked: &mut Cracked<A>,
     insertions: &mut PendingList<A>,
     range: &Range,
+    from: usize,
 )
+    requires from { from ≤ length insertions.old.items }
+    requires outside { AllWithin (λ r. has_score_in range.now r ≡ false) insertions.old.items 0 from }
     requires room { vec_len cracked.old.rows + count_by (has_score_in range.now) insertions.old.items
         ≤ vec_capacity cracked.old.rows }
     ensures content { (p : Test) → count_by p cracked.new.rows.items + count_by p insertions.new.items
@@ -60,7 +71,7 @@ fn merge_insertions<A: Allocator>(
     ensures frame { KeepsFrame cracked.old.rows cracked.old.pivots cracked.new.rows cracked.new.pivots }
 {
     let interval = range.interval();
-    let mut i = 0;
+    let mut i = from;
     while i < insertions.len() {
         let next = &insertions.list()[i];
         if is_within(next, &interval) {
@@ -88,9 +99,33 @@ pub fn merge_range<A: Allocator + Copy>(
     ensures waiting_insertions { SameOutside range.now pending.old.insertions.items pending.new.insertions.items }
     ensures frame { KeepsFrame cracked.old.rows cracked.old.pivots cracked.new.rows cracked.new.pivots }
 {
-    merge_many(cracked, pending, range);
-    merge_deletions(cracked, &mut pending.deletions, range);
-    merge_insertions(cracked, &mut pending.insertions, range);
+    let tails = pending.gather(range);
+    merge_gathered(cracked, pending, range, tails);
+}
+
+/// Merges all rows that wait and have scores in the range, which are gathered at the ends of the two
+/// lists.
+pub fn merge_gathered<A: Allocator + Copy>(
+    cracked: &mut Cracked<A>,
+    pending: &mut Pending<A>,
+    range: &Range,
+    tails: RangeTails,
+)
+    requires part { IsSubBag pending.old.deletions.items cracked.old.rows.items }
+    requires deletions { HasLast range.now pending.old.deletions.items tails.deletions }
+    requires insertions { HasLast range.now pending.old.insertions.items tails.insertions }
+    requires room { vec_len cracked.old.rows + count_by (has_score_in range.now) pending.old.insertions.items
+        ≤ vec_capacity cracked.old.rows }
+    ensures merges { Merges cracked.old cracked.new pending.old pending.new }
+    ensures merged_deletions { NoneIn range.now pending.new.deletions.items }
+    ensures merged_insertions { NoneIn range.now pending.new.insertions.items }
+    ensures waiting_deletions { SameOutside range.now pending.old.deletions.items pending.new.deletions.items }
+    ensures waiting_insertions { SameOutside range.now pending.old.insertions.items pending.new.insertions.items }
+    ensures frame { KeepsFrame cracked.old.rows cracked.old.pivots cracked.new.rows cracked.new.pivots }
+{
+    merge_many(cracked, pending, tails);
+    merge_deletions(cracked, &mut pending.deletions, range, tails.deletions);
+    merge_insertions(cracked, &mut pending.insertions, range, tails.insertions);
 }
 
 /// Merges all rows that wait. On Err, all is unchanged.

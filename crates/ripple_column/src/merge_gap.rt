@@ -12,9 +12,9 @@ ghost use Rattle.ripple_column.specs.MergeGap.{AllParted, ChangedPlaces, HasGap,
 ghost use Rattle.ripple_column.specs.MergeEffects.{KeepsFrame};
 
 use crate::deletion_filter::DeletionFilter;
+use crate::fingerprinted_rows::Rows;
 use crate::pending_lists::{PendingList, row_cmp};
 use crate::ripple::{place_or, start_below};
-use crate::rows::Rows;
 use crack_kernel::{Pivots, Row};
 use std::alloc::Allocator;
 

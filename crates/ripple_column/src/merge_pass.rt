@@ -9,12 +9,12 @@ ghost use Rattle.ripple_column.specs.MergeGap.{AllParted, HasGapAt, KeepsContent
 ghost use Rattle.ripple_column.specs.MergeEffects.{KeepsFrame};
 
 use crate::deletion_filter::DeletionFilter;
+use crate::fingerprinted_rows::Rows;
 use crate::merge_gap::{
     Direction, Gap, Tail, close_gap, fill_gap, is_in_piece, lift_gap, open_gap, sink_gap, take_out,
 };
 use crate::pending_lists::Pending;
 use crate::ripple::place_or;
-use crate::rows::Rows;
 use crack_kernel::{Pivots, Row};
 use std::alloc::Allocator;
 

@@ -108,6 +108,14 @@ impl<A: Allocator> PendingFilter<A> {
             self.is_wiped = true;
         }
     }
+
+    /// Gives back the marks: each row counts as marked then.
+    pub fn give_back(&mut self)
+        ensures { self.new.words.items ≡ [] }
+    {
+        self.words.clear();
+        self.words.shrink_to_fit();
+    }
 }
 
 /// Marks all these rows.

@@ -1,14 +1,16 @@
 //! The rows that wait.
 
-ghost use Rattle.std.specs.Prelude.{◌≡◌, ◌+◌, ◌-◌, ◌<◌, ◌≤◌, ◌≢◌, ◌≤ℤ◌, ◌++◌, ◌∷◌, ◌↔◌, ◌&&◌, not, true, false, ℕ, ℤ, List, [], Some, IsSome, length, take, Contains, MatchOption, OnOk, IsFalse, count_by, slice_index_or, option_to_list, IsPermutation, vec_len, vec_capacity};
+ghost use Rattle.std.specs.Prelude.{◌≡◌, ◌+◌, ◌-◌, ◌<◌, ◌≤◌, ◌≢◌, ◌≤ℤ◌, ◌++◌, ◌∷◌, ◌↔◌, ◌&&◌, not, true, false, ℕ, ℤ, List, [], Some, IsSome, length, take, Contains, MatchOption, OnOk, IsFalse, IsTrue, count_by, slice_index_or, option_to_list, IsPermutation, vec_len, vec_capacity};
 ghost use Rattle.std.specs.List.{AllWithin, HoldsAt, list_any, remove, swap_remove};
 ghost use Rattle.score_bounds.specs.Scores.{greatest};
 ghost use Rattle.crack_kernel.specs.RowBag.{Test};
 ghost use Rattle.ripple_column.specs.Content.{has_score_in, NoneIn, Pends};
+ghost use Rattle.ripple_column.specs.MergeEffects.{HasLast};
 ghost use Rattle.ripple_column.specs.RowHash.{hash_of};
 
 use crate::pending_filter::PendingFilter;
 use crate::row_hash::hash_of;
+use crate::waiting_rows::WaitingRows;
 use crack_kernel::Row;
 use score_bounds::{Interval, Range};
 use std::alloc::{AllocError, Allocator};
@@ -25,13 +27,17 @@ pub const MAX_RESERVED: usize = 1027;
 /// From how many rows on a list gets marks. Fewer rows are as quickly looked through.
 const MARKED_FROM: usize = 128;
 
+/// Beside so many rows or more the lists keep their room once all that waited is merged. Beside fewer it
+/// would be as much as these take.
+const KEEPS_ROOM_FROM: usize = 1024;
+
 /// Rows that wait, in no order, beside their marks, so that mostly no row is looked at where the one
 /// that is looked for does not wait.
 ///
 /// Contracts see the rows alone, as a `Vec`.
 #[derive(Drop)]
 pub struct PendingList<A: Allocator> {
-    rows: Vec<Row<A>, A>,
+    rows: WaitingRows<A>,
     marks: PendingFilter<A>,
 }
 
@@ -53,7 +59,7 @@ impl<A: Allocator + Copy> PendingList<A> {
         ensures { result.items ≡ [] }
     {
         PendingList {
-            rows: Vec::new(alloc),
+            rows: WaitingRows::new(alloc),
             marks: PendingFilter::new(alloc),
         }
     }
@@ -71,7 +77,7 @@ impl<A: Allocator> PendingList<A> {
     pub fn list(&self) -> &[Row<A>]
         ensures { result.now ≡ self.now.items }
     {
-        &self.rows
+        self.rows.list()
     }
 
     /// Whether a row with a score in the range waits.
@@ -79,7 +85,7 @@ impl<A: Allocator> PendingList<A> {
         ensures { result ≡ list_any (has_score_in range.now) self.now.items }
     {
         let interval = range.interval();
-        self.rows.iter().any(|row| is_within(row, &interval))
+        self.list().iter().any(|row| is_within(row, &interval))
     }
 
     /// How many rows have scores in the range.
@@ -87,7 +93,7 @@ impl<A: Allocator> PendingList<A> {
         ensures { result ≡ count_by (has_score_in range.now) self.now.items }
     {
         let interval = range.interval();
-        self.rows
+        self.list()
             .iter()
             .filter(|row| is_within(*row, &interval))
             .count()
@@ -100,7 +106,7 @@ impl<A: Allocator> PendingList<A> {
             ≡ row.now) self.now.items i × (i < length self.now.items)) }
     {
         if self.marks.may_have(hash) {
-            position_of(&self.rows, row)
+            position_of(self.rows.list(), row)
         } else {
             None
         }
@@ -113,12 +119,24 @@ impl<A: Allocator> PendingList<A> {
         ensures len { vec_len self.new ≡ vec_len self.old }
         ensures room { OnOk result (vec_len self.new + n ≤ vec_capacity self.new) }
     {
-        if self.rows.is_empty() {
+        let len = self.rows.len();
+        if len == 0 {
             self.marks.wipe();
-        } else if self.rows.len() >= MARKED_FROM && self.marks.is_empty() {
-            self.marks.mark_rows(&self.rows)?;
+        } else if len >= MARKED_FROM && self.marks.is_empty() {
+            self.marks.mark_rows(self.rows.list())?;
         }
         self.rows.reserve(n)
+    }
+
+    /// Gives back all room, and the marks, where no row waits.
+    pub fn give_back(&mut self)
+        ensures items { self.new.items ≡ self.old.items }
+        ensures freed { vec_len self.old ≡ 0 → vec_capacity self.new ≡ 0 }
+    {
+        if self.rows.len() == 0 {
+            self.rows.give_back();
+            self.marks.give_back();
+        }
     }
 
     /// Puts a row, of which the hash is given, behind the last one. It takes no memory.
@@ -170,17 +188,24 @@ impl<A: Allocator> PendingList<A> {
         self.rows.pop()
     }
 
-    /// Puts the rows with scores in the range last, by falling scores, and answers how many others
-    /// there are.
-    pub fn line_up(&mut self, range: &Range) -> usize
+    /// Puts the rows with scores in the range last, and answers how many others there are.
+    pub fn gather(&mut self, range: &Range) -> usize
         ensures rows { IsPermutation self.old.items self.new.items }
-        ensures others { result ≤ length self.new.items }
-        ensures arriving { length self.new.items ≤ result + count_by (has_score_in range.now) self.old.items }
-        ensures outside { (p : Test) → count_by (λ r. p r && not (has_score_in range.now r)) (take result self.new.items)
-            ≡ count_by (λ r. p r && not (has_score_in range.now r)) self.old.items }
+        ensures last { HasLast range.now self.new.items result }
         ensures capacity { vec_capacity self.new ≡ vec_capacity self.old }
     {
-        line_up(&mut self.rows, range)
+        self.rows.gather(range)
+    }
+
+    /// Sorts the rows from the index `from` on by falling scores, and those of one score by falling
+    /// members.
+    pub fn sort_from(&mut self, from: usize)
+        requires { from ≤ length self.old.items }
+        ensures rows { IsPermutation self.old.items self.new.items }
+        ensures before { take from self.new.items ≡ take from self.old.items }
+        ensures capacity { vec_capacity self.new ≡ vec_capacity self.old }
+    {
+        self.rows.sort_from(from);
     }
 
     /// Turns the order of the rows from the index `from` on round.
@@ -190,7 +215,7 @@ impl<A: Allocator> PendingList<A> {
         ensures before { take from self.new.items ≡ take from self.old.items }
         ensures capacity { vec_capacity self.new ≡ vec_capacity self.old }
     {
-        reverse_tail(&mut self.rows, from);
+        self.rows.reverse_from(from);
     }
 
     /// Puts `row` into the list, unless it waits in the other list, whose effect it would undo: then
@@ -221,6 +246,14 @@ pub fn is_within<A: Allocator>(row: &Row<A>, interval: &Interval) -> bool
     interval.contains(row.score())
 }
 
+/// From which indices on the rows of a range stand in the two lists of rows that wait, once they are
+/// gathered there.
+#[derive(Clone, Copy)]
+pub struct RangeTails {
+    pub deletions: usize,
+    pub insertions: usize,
+}
+
 /// The rows that wait to be taken out, and those that wait to be put in.
 #[derive(Drop)]
 pub struct Pending<A: Allocator> {
@@ -247,6 +280,39 @@ impl<A: Allocator> Pending<A> {
         ensures { IsFalse result ↔ (NoneIn range.now self.now.deletions.items × NoneIn range.now self.now.insertions.items) }
     {
         self.deletions.has_within(range) || self.insertions.has_within(range)
+    }
+
+    /// Puts the rows with scores in the range last in both lists, and answers where they begin.
+    pub fn gather(&mut self, range: &Range) -> RangeTails
+        ensures deletions { IsPermutation self.old.deletions.items self.new.deletions.items }
+        ensures insertions { IsPermutation self.old.insertions.items self.new.insertions.items }
+        ensures last_deletions { HasLast range.now self.new.deletions.items result.deletions }
+        ensures last_insertions { HasLast range.now self.new.insertions.items result.insertions }
+    {
+        RangeTails {
+            deletions: self.deletions.gather(range),
+            insertions: self.insertions.gather(range),
+        }
+    }
+
+    /// Gives back the room of each list in which no row waits, beside a column of so many rows, if these
+    /// are few.
+    pub fn give_back(&mut self, rows_len: usize)
+        ensures deletions { self.new.deletions.items ≡ self.old.deletions.items }
+        ensures insertions { self.new.insertions.items ≡ self.old.insertions.items }
+    {
+        if rows_len < KEEPS_ROOM_FROM {
+            self.deletions.give_back();
+            self.insertions.give_back();
+        }
+    }
+
+    /// Whether both lists end where the rows of a range would begin.
+    pub fn ends_before(&self, tails: RangeTails) -> bool
+        ensures { IsTrue result ↔ ((length self.now.deletions.items ≤ tails.deletions)
+            × (length self.now.insertions.items ≤ tails.insertions)) }
+    {
+        self.deletions.len() <= tails.deletions && self.insertions.len() <= tails.insertions
     }
 }
 
@@ -301,89 +367,10 @@ pub fn position_of<A: Allocator>(rows: &[Row<A>], row: &Row<A>) -> Option<usize>
     None
 }
 
-/// Puts the rows with scores in the range last, and answers how many others there are.
-fn partition_within<A: Allocator>(list: &mut Vec<Row<A>, A>, range: &Range) -> usize
-    ensures rows { IsPermutation list.old.items list.new.items }
-    ensures others { result ≤ length list.new.items }
-    ensures within { AllWithin (λ r. has_score_in range.now r ≡ true) list.new.items result (length list.new.items) }
-    ensures capacity { vec_capacity list.new ≡ vec_capacity list.old }
-{
-    let interval = range.interval();
-    let mut others = 0;
-    for i in 0..list.len() {
-        let inside = is_within(&list[i], &interval);
-        list.swap(i, others);
-        if !inside {
-            others += 1;
-        }
-    }
-    others
-}
-
 /// How two rows stand to one another: by their scores, and where these are the same, by their members.
 pub fn row_cmp<A: Allocator>(x: &Row<A>, y: &Row<A>) -> Ordering {
     match x.score().cmp(&y.score()) {
         Ordering::Equal => x.member().cmp(y.member()),
         apart => apart,
     }
-}
-
-/// Sorts rows by falling scores, and those of one score by falling members.
-fn sort_falling<A: Allocator>(rows: &mut [Row<A>])
-    ensures { IsPermutation rows.old rows.new }
-{
-    rows.sort_unstable_by(|x, y| row_cmp(y, x));
-}
-
-/// Sorts the rows from the index `from` on by falling scores.
-fn sort_from<A: Allocator>(rows: &mut [Row<A>], from: usize)
-    requires { from ≤ length rows.old }
-    ensures rows { IsPermutation rows.old rows.new }
-    ensures before { take from rows.new ≡ take from rows.old }
-{
-    sort_falling(&mut rows[from..]);
-}
-
-/// Sorts the rows of a list from the index `from` on by falling scores.
-fn sort_tail<A: Allocator>(list: &mut Vec<Row<A>, A>, from: usize)
-    requires { from ≤ length list.old.items }
-    ensures rows { IsPermutation list.old.items list.new.items }
-    ensures before { take from list.new.items ≡ take from list.old.items }
-    ensures capacity { vec_capacity list.new ≡ vec_capacity list.old }
-{
-    sort_from(list, from);
-}
-
-/// Turns the order of the rows from the index `from` on round.
-fn reverse_from<A: Allocator>(rows: &mut [Row<A>], from: usize)
-    requires { from ≤ length rows.old }
-    ensures rows { IsPermutation rows.old rows.new }
-    ensures before { take from rows.new ≡ take from rows.old }
-{
-    rows[from..].reverse();
-}
-
-/// Turns the order of the rows of a list from the index `from` on round.
-fn reverse_tail<A: Allocator>(list: &mut Vec<Row<A>, A>, from: usize)
-    requires { from ≤ length list.old.items }
-    ensures rows { IsPermutation list.old.items list.new.items }
-    ensures before { take from list.new.items ≡ take from list.old.items }
-    ensures capacity { vec_capacity list.new ≡ vec_capacity list.old }
-{
-    reverse_from(list, from);
-}
-
-/// Puts the rows with scores in the range last, by falling scores, and answers how many others
-/// there are.
-fn line_up<A: Allocator>(list: &mut Vec<Row<A>, A>, range: &Range) -> usize
-    ensures rows { IsPermutation list.old.items list.new.items }
-    ensures others { result ≤ length list.new.items }
-    ensures arriving { length list.new.items ≤ result + count_by (has_score_in range.now) list.old.items }
-    ensures outside { (p : Test) → count_by (λ r. p r && not (has_score_in range.now r)) (take result list.new.items)
-        ≡ count_by (λ r. p r && not (has_score_in range.now r)) list.old.items }
-    ensures capacity { vec_capacity list.new ≡ vec_capacity list.old }
-{
-    let others = partition_within(list, range);
-    sort_tail(list, others);
-    others
 }

@@ -10,7 +10,7 @@ ghost use Rattle.crack_kernel.specs.PivotList.{ObeysPivots};
 ghost use Rattle.ripple_column.specs.RowPlace.{StandsWithin};
 ghost use Rattle.ripple_column.specs.MergeEffects.{KeepsFrame};
 
-use crate::rows::Rows;
+use crate::fingerprinted_rows::Rows;
 use crack_kernel::{Pivots, Row};
 use std::alloc::Allocator;
 

@@ -8,11 +8,11 @@ ghost use Rattle.ripple_column.specs.MergeEffects.{Merges};
 ghost use Rattle.ripple_column.specs.InnerCrackEffects.{HasRoom, StaysAsShown, most_with_inner, shown};
 ghost use Rattle.ripple_column.specs.Cuts.{is_before, values, cut_values, count_with_cuts, new_values, values_with_cuts, StandsAt, IsUncracked};
 
+use crate::cracked_and_shown::Pieces;
 use crate::cracking::{count_missing, crack_between, is_before};
 use crate::inner_pivots::break_up;
-use crate::merge::merge_range;
+use crate::merge::merge_gathered;
 use crate::pending_lists::{Pending, PendingList};
-use crate::pieces::Pieces;
 use crate::shown_pivots::{renew_places, show_cuts};
 use crack_kernel::{MAX_PIVOTS, Pivots};
 use score_bounds::{Cut, Range};
@@ -123,12 +123,14 @@ fn settle<A: Allocator + Copy>(pieces: &mut Pieces<A>, pending: &mut Pending<A>,
     ensures still { NoneIn range.now pending.old.deletions.items → NoneIn range.now pending.old.insertions.items
         → (pieces.new.cracked.rows.items ≡ pieces.old.cracked.rows.items) × (shown pieces.new ≡ shown pieces.old) }
 {
-    if !pending.has_within(range) {
+    let tails = pending.gather(range);
+    if pending.ends_before(tails) {
         return;
     }
-    break_up(pieces, &pending.deletions, range);
-    merge_range(&mut pieces.cracked, pending, range);
+    break_up(pieces, &pending.deletions, tails.deletions);
+    merge_gathered(&mut pieces.cracked, pending, range, tails);
     renew_places(pieces.apart, &mut pieces.kept, &pieces.cracked.pivots);
+    pending.give_back(pieces.cracked.rows.len());
 }
 
 /// Cracks the rows at two cuts, of which the first is below the second, shows these as pivots, and

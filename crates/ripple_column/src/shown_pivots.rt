@@ -4,13 +4,13 @@ ghost use Rattle.std.specs.Prelude.{◌≡◌, ◌+◌, ◌<◌, ◌≤◌, ◌+
 ghost use Rattle.crack_kernel.specs.RowBag.{IsSubBag};
 ghost use Rattle.crack_kernel.specs.PivotList.{IsRising};
 ghost use Rattle.ripple_column.specs.Cuts.{is_before, values, count_with_cuts, new_values, values_with_cuts, StandsAt};
-ghost use Rattle.ripple_column.specs.InnerPivots.{HasCut, IsAmong, shown_of};
+ghost use Rattle.ripple_column.specs.ShownPivots.{HasCut, IsAmong, shown_of};
 ghost use Rattle.ripple_column.specs.MergeEffects.{Merges};
 ghost use Rattle.ripple_column.specs.InnerCrackEffects.{HasRoom, StaysAsShown, shown};
 
+use crate::cracked_and_shown::Pieces;
 use crate::merge::{merge_all, reserve_write};
 use crate::pending_lists::{MAX_PENDING, MAX_RESERVED, Pending};
-use crate::pieces::Pieces;
 use crack_kernel::{MAX_PIVOTS, Pivots};
 use score_bounds::Cut;
 use std::alloc::{AllocError, Allocator};

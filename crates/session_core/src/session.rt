@@ -234,7 +234,11 @@ fn flush<D: ByteDrain>(drain: &mut D, progress: &Progress) -> Result<(), Session
 ///
 /// # Errors
 ///
-/// As [`SessionFault`] has them; what was run and written then stands in specs/SessionEnd.antt.
+/// [`SessionFault::ReadFault`], [`SessionFault::TooManyReads`]: all requests that were read whole were run,
+/// and their replies written. [`SessionFault::Wire`]: these, and behind them the error text of the fault.
+/// [`SessionFault::WriteFault`]: so many bytes of that were taken, so only the last reply is cut.
+/// [`SessionFault::NoMemory`]: whole replies, of which the last may be missing. Of a device that does not
+/// tell its bytes, as a socket doesn't, this holds of some bytes.
 pub fn serve<R, A: Allocator + Copy, S: ByteSource, D: ByteDrain, E: Exec<R, A>>(
     rt: &R,
     alloc: A,
@@ -253,6 +257,7 @@ pub fn serve<R, A: Allocator + Copy, S: ByteSource, D: ByteDrain, E: Exec<R, A>>
         (D.told drain.old) (D.told drain.new) result exec.new }
     ensures at_end { OnOk result (IsAtEnd (S.told source.new)) }
     ensures reads { S.calls source.new ≤ S.calls source.old + max_reads }
+    // So many reads were made, as far as the source counts.
     ensures many { result ≡ Err TooManyReads → min (S.calls source.old + max_reads) (2 ^ 64 - 1)
         ≤ S.calls source.new }
     ensures source_failures { MatchResult result

@@ -1,5 +1,5 @@
 -- A pass learns a name.
-use Rattle.std.proofs.Common.{◌≡◌, ℕ, ◌+◌, ◌-◌, ◌%◌, ◌<◌, ◌⊎◌, inl, inr, List, [], ◌∷◌, ◌++◌, take, length, map, get_or, set, mod-lt, mod-eq_of_lt, sym, ap, ◌∙◌, refl, subst, arith, get_or-set_same, get_or-set_other, length-set, MatchOption, MatchResult, Result, Ok, Err}
+use Rattle.std.proofs.Common.{◌≡◌, ◌≢◌, ℕ, ◌+◌, ◌-◌, ◌%◌, ◌<◌, ◌⊎◌, inl, inr, List, [], ◌∷◌, ◌++◌, take, length, map, get_or, set, mod-lt, mod-eq_of_lt, sym, ap, ◌∙◌, refl, subst, arith, get_or-set_same, get_or-set_other, length-set, MatchOption, MatchResult, Result, Ok, Err}
 use Rattle.std.proofs.lemmas.List.{get_or-map, length-map, map-set, map_push, take_more}
 use Rattle.std.proofs.Math.Seq.{map-set_same}
 use Rattle.std.proofs.Math.Nat.{add-mod_right}
@@ -71,11 +71,11 @@ settled f xs p s t (Ok r) within at h = seat_learns f xs p s t r.now within at h
 -- the pass is still the table's, with another seat of the same cell
 pub still_own : {S T : Type 0} (f : S → ℕ) (g : S → Option (List ℕ)) (h : T → ℕ) (xs : List S) (ys : List T) (p : ℕ) (s t : S) (cells : List ℕ)
     → s ≡ get_or xs p s → f t ≡ f s → map f xs ≡ cells
-    → AreNotesOf cells (record { cells = map f (set xs p t); known = map g (set xs p t) })
+    → AreNotesOf cells (record { names = map f (set xs p t); known = map g (set xs p t) })
 still_own f g h xs ys p s t cells at same own =
     let e : map f (set xs p t) ≡ map f xs = map-set_same f xs p t s (same ∙ ap f at) in
     record {
-      cells_are = e ∙ own;
+      names_are = e ∙ own;
       places = length-map (set xs p t) g ∙ length-set xs p t ∙ sym (length-map xs f) ∙ ap length own;
     }
 
@@ -144,6 +144,15 @@ pub went_on : (old new : Naming) (key : List ℕ) (n i p : ℕ) (x : List ℕ) �
 went_on old new key n i p x h l ne at places =
     passed_more new key i (passed_grows old new key i l.grows h)
     (x, ap (name_at new) (ap (λ m. walk m key i) places ∙ sym at) ∙ l.here, ne)
+
+-- or it passes a place by whose name is known to be another
+pub went_by : (names : Naming) (key : List ℕ) (n i p : ℕ) → Passed names key i → BearsOther names key p → p ≡ walk n key i → length names ≡ n → Passed names key (i + 1)
+went_by names key n i p h o at places =
+    passed_more names key i h (subst (λ (q : ℕ). BearsOther names key q) (at ∙ ap (λ m. walk m key i) (sym places)) o)
+
+-- a name with another hash is another
+pub other_hash : (x key : List ℕ) (h k : ℕ) → h ≡ hash_from 7 x → k ≡ hash_from 7 key → h ≢ k → x ≡ key → ⊥
+other_hash x key h k hx hk apart same = apart (hx ∙ ap (hash_from 7) same ∙ sym hk)
 
 -- a test that answered no
 pub told_apart : {P : Type 0} (b : Bool) → (P → IsTrue b) → b ≡ false → P → ⊥

@@ -20,7 +20,7 @@ use Rattle.std.proofs.lemmas.List.Elements.{All-push}
 use Rattle.std.proofs.lemmas.List.Sums.{sum_by-cons, sum_by-set, sum_by_more}
 use Rattle.std.proofs.lemmas.Map.Text.{is_eq-slice_cmp}
 use Rattle.zset_core.specs.SortedSet.{Members, bytes_cmp}
-use Rattle.zset_core.specs.Views.{SetView}
+use Rattle.zset_core.specs.SetAndOwnerViews.{SetView}
 use Rattle.zset_core.specs.World.{World}
 use Rattle.set_table.specs.CellStates.{CellView, new_cell}
 use Rattle.set_table.specs.Naming.{Naming, NotesView, AreNotesOf, Grows, IsPlace, name_at, hash_from}
@@ -256,7 +256,7 @@ sized places cells names opened sets named placed is made =
     record { names_are = sym placed ∙ sym all; cells_are = made ∙ sym all; places_are = all ∙ placed ∙ named }
 
 pub opened_table : (w : World) (places passes max_runs records before : ℕ) (names opened cards : List ℕ) → length opened ≡ places → opened ≡ cards → before ≡ records → sum_of cards ≡ members_of (fin.entries w)
-    → IsOpened w places passes max_runs records (record { cells = names; opened = opened; passes = passes; max_runs = max_runs; records_before = before })
+    → IsOpened w places passes max_runs records (record { names = names; opened = opened; passes = passes; max_runs = max_runs; records_before = before })
 opened_table w places passes max_runs records before names opened cards sizes is same sum = record {
   places_are = sizes;
   members = ap sum_of is ∙ sum;
@@ -273,7 +273,7 @@ shares_of opened number shares h = record {
       record { place_is = ap (λ (s : ShareView). s.place) at; pass_is = ap (λ (s : ShareView). s.pass) at; opened_is = ap (λ (s : ShareView). s.opened) at };
 }
 
-pub new_passes_of : (w : World) (table : TableView) (notes : NotesView) (passes : List PassView) → length passes ≡ table.passes → AreNotesOf table.cells notes → AllHavePlaces w notes.known table.opened
+pub new_passes_of : (w : World) (table : TableView) (notes : NotesView) (passes : List PassView) → length passes ≡ table.passes → AreNotesOf table.names notes → AllHavePlaces w notes.known table.opened
     → ((i : ℕ) → i < table.passes → IsNewPass table.opened notes i (pass_at passes i)) → AreNewPasses table w passes
 new_passes_of w table notes passes count own known each =
     let at : (i : ℕ) → i < length passes → IsNewPass table.opened notes i (pass_at passes i) = λ i less. each i (omega (arith, less, count)) in
@@ -281,7 +281,7 @@ new_passes_of w table notes passes count own known each =
       count = count;
       number = λ i less. (at i less).number_is;
       own = λ i less. let p = at i less in record {
-        notes = subst (AreNotesOf table.cells) (sym p.notes_are) own;
+        notes = subst (AreNotesOf table.names) (sym p.notes_are) own;
         shares = subst (λ (n : ℕ). AreSharesOf table.opened n (pass_at passes i).shares) (sym p.number_is) (shares_of table.opened i (pass_at passes i).shares p.shares);
       };
       shares = λ i less. (at i less).shares;

@@ -3,10 +3,10 @@ use Rattle.std.proofs.Common.{◌≡◌, ℕ, ◌+◌, true, false, Option, Some
 use Rattle.resp_wire.specs.Response.{Response}
 use Rattle.zset_core.specs.SortedSet.{Members}
 use Rattle.zset_core.specs.CommandRequest.{Asked, is_writing, Meaning}
-use Rattle.zset_core.specs.ChangeCounts.{IsOutline}
+use Rattle.zset_core.specs.ChangeOutline.{IsOutline}
 use Rattle.zset_core.specs.Semantics.{step}
-use Rattle.zset_core.specs.Views.{Next, Shows, IsPreparedFor}
-use Rattle.zset_core.specs.declared.set.change_counts.Outline.{Outline}
+use Rattle.zset_core.specs.SetAndOwnerViews.{Next, Shows, IsPreparedFor}
+use Rattle.zset_core.specs.declared.set.change_outline.Outline.{Outline}
 use Rattle.zset_core.specs.declared.refusal.Refusal.{Refusal}
 use Rattle.zset_core.specs.declared.refusal.Refusal.TheVariants.{NoMemory, UnknownCommand, WrongArity, Syntax, NxAndXx, GtLtNx, IncrPair, BadScore, BadBound, BadInteger, TableFull, Spent, ScoreOverflow, LogBroken, LogFull, LogRefused, OutOfStep}
 use Rattle.zset_core.proofs.CallerLemmas.{missing_none}

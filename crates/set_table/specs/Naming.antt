@@ -55,10 +55,10 @@ IsUnclaimed TableFull names key = IsFull names key
 
 -- what contracts see of a pass's notes: of which places' names they are, and which of these are known
 pub record NotesView : Type 0 where
-  pub cells : List ℕ
+  pub names : List ℕ
   pub known : Naming
 
 -- the notes are of these places' names
-pub record AreNotesOf (cells : List ℕ) (notes : NotesView) : Type 0 where
-  pub cells_are : notes.cells ≡ cells
-  pub places : length notes.known ≡ length cells
+pub record AreNotesOf (names : List ℕ) (notes : NotesView) : Type 0 where
+  pub names_are : notes.names ≡ names
+  pub places : length notes.known ≡ length names

@@ -4,7 +4,7 @@ use Rattle.std.specs.List.{All, sum_by}
 use Rattle.std.specs.FinMap as fin
 use Rattle.std.proofs.Math.ListN.{get_or}
 use Rattle.zset_core.specs.SortedSet.{Members}
-use Rattle.zset_core.specs.Views.{SetView}
+use Rattle.zset_core.specs.SetAndOwnerViews.{SetView}
 use Rattle.zset_core.specs.World.{World}
 use Rattle.set_table.specs.CellStates.{CellView, new_cell}
 use Rattle.set_table.specs.Naming.{Naming, NotesView, IsPlace}
@@ -51,7 +51,7 @@ pub record AreNewShares (opened : List ℕ) (number : ℕ) (shares : List ShareV
   pub each : (place : ℕ) → place < length opened → get_or shares place no_share ≡ record { place = place; pass = number; opened = get_or opened place 0; tally = empty_tally }
 
 abbrev pub no_pass : PassView
-no_pass = record { number = 0; notes = record { cells = []; known = [] }; shares = [] }
+no_pass = record { number = 0; notes = record { names = []; known = [] }; shares = [] }
 
 abbrev pub pass_at : List PassView → ℕ → PassView
 pass_at passes i = get_or passes i no_pass

@@ -9,7 +9,7 @@ use Rattle.set_table.specs.SetSteps.{AnswerView, IsLawful}
 -- a table: its places' names (each once cell's own), the members of each place at opening, how many passes it has, how
 -- many runs a place may answer, and how many records its log had at opening
 pub record TableView : Type 0 where
-  pub cells : List ℕ
+  pub names : List ℕ
   pub opened : List ℕ
   pub passes : ℕ
   pub max_runs : ℕ
@@ -35,7 +35,7 @@ pub record AreSharesOf (opened : List ℕ) (number : ℕ) (shares : List ShareVi
 
 -- the pass is one of the table's
 pub record IsPassOf (table : TableView) (pass : PassView) : Type 0 where
-  pub notes : AreNotesOf table.cells pass.notes
+  pub notes : AreNotesOf table.names pass.notes
   pub shares : AreSharesOf table.opened pass.number pass.shares
 
 -- what an answer at a place says by the pass's shares before and after: a run moved those of the place alone, or the

@@ -4,7 +4,7 @@ use Rattle.std.specs.FinMap as fin
 use Rattle.resp_wire.specs.Response.{Response}
 use Rattle.zset_core.specs.SortedSet.{Members}
 use Rattle.zset_core.specs.CommandRequest.{Asked, is_writing}
-use Rattle.zset_core.specs.ChangeCounts.{missing}
+use Rattle.zset_core.specs.ChangeOutline.{missing}
 use Rattle.zset_core.specs.RowEdits.{most_edits}
 use Rattle.zset_core.specs.Semantics.{step}
 use Rattle.zset_core.specs.declared.refusal.Refusal.{Refusal}

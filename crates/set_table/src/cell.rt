@@ -5,7 +5,7 @@ ghost use Rattle.std.proofs.Math.ListN.{get_or, set};
 ghost use Rattle.std.specs.FinMap as map;
 ghost use Rattle.ripple_column.specs.Content.{Holds};
 ghost use Rattle.zset_core.specs.CommandRequest.{key_of};
-ghost use Rattle.zset_core.specs.AnswersWithoutCracking.{IsReadyFor};
+ghost use Rattle.zset_core.specs.ReadyCommands.{IsReadyFor};
 ghost use Rattle.zset_core.specs.SortedSet.{pairs};
 ghost use Rattle.set_table.specs.CellStates.{HasNoReading, HasRead, HasRun, InStep, IsRefused, IsWhole, WasRun, counts_of, new_cell};
 ghost use Rattle.set_table.specs.TableAnswers.{IsSetRefusal};
@@ -50,7 +50,7 @@ impl<H: BuildHasher, L: Ledger, A: Allocator + Copy> Model for Cell<H, L, A> {
     ghost Value = { CellView };
 
     ghost use Rattle.std.specs.Coded.{codes};
-    ghost use Rattle.zset_core.specs.Views.{coded_members};
+    ghost use Rattle.zset_core.specs.SetAndOwnerViews.{coded_members};
 
     ghost coded = { Prim.hlevel (codes, coded_members) };
 
@@ -60,8 +60,14 @@ impl<H: BuildHasher, L: Ledger, A: Allocator + Copy> Model for Cell<H, L, A> {
 }
 
 impl<H: BuildHasher + Drop, L: Ledger, A: Allocator + Copy> Cell<H, L, A> {
-    /// A cell of which no pass was told anything yet.
-    pub(crate) fn new(
+    /// A cell of a set at a place, of which none of so many passes was told anything yet. It may answer
+    /// `max_runs` runs, and takes a share of a log's records that tells of none yet. A table makes its
+    /// own cells.
+    ///
+    /// # Errors
+    ///
+    /// [`AllocError`] where there is no memory for the passes' tallies.
+    pub fn new(
         alloc: A,
         place: usize,
         sorted_set: ZSet<H, A>,

@@ -4,5 +4,6 @@ pub(crate) mod copying;
 pub(crate) mod knowledge;
 pub(crate) mod memory;
 pub(crate) mod name;
+pub(crate) mod name_hashes;
 pub(crate) mod names;
 pub(crate) mod notes;

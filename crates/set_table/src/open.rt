@@ -31,11 +31,14 @@ pub enum OpenFault {
 }
 
 impl<H: BuildHasher + Clone + Drop, S: LogSink + Drop, L: Ledger> Table<H, S, L, Global> {
-    /// A table of an owner's sets, and its passes, one for each worker. The sets get their places in the
-    /// byte order of their keys; each other place has an empty set and no name. A place may answer
-    /// `max_runs` runs; readings under a shared lock don't count. The table appends to the log, of which
-    /// each place takes one part, and counts the records from now on. Of the sets behind the locks the
-    /// contract tells the numbers of members.
+    /// A table of an owner's sets, and its passes, one for each worker. A place may answer `max_runs` runs;
+    /// readings under a shared lock don't count. The table appends to the log, which must have more
+    /// shares left than there are places, since each place takes one, and counts records from now on.
+    ///
+    /// Promised are the numbers of places, passes and runs; that the members at all places add up to the
+    /// owner's; and that each pass knows the place of every set, with that set's number of members. Of the
+    /// sets behind the locks no contract tells more: that they are the owner's, that they stand in the byte
+    /// order of their keys, and that each other place has an empty set and no name, tests show.
     ///
     /// # Errors
     ///

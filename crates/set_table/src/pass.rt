@@ -38,6 +38,12 @@ impl<A: Allocator> Pass<A> {
         self.number
     }
 
+    /// How often a name was compared with a key to find a place, a number that wraps: what finding
+    /// places costs, of which nothing is promised.
+    pub fn compared(&self) -> u64 {
+        self.knowledge.compared
+    }
+
     /// What it was answered at a place.
     pub(crate) fn share(&self, place: usize) -> &Shares
         requires { place < length self.now.shares }

@@ -6,8 +6,9 @@ ghost use Rattle.set_table.specs.Tallies.{empty_tally};
 use crate::counts::Tally;
 use std::marker::Model;
 
-/// What a pass was answered at one place, which its cell tells too. A table makes them when it is
-/// opened, and they can't be cloned: else a pass could forget what it was answered.
+/// What a pass was answered at one place, which its cell tells too. A table makes those of its passes
+/// when it is opened; they stay in the pass and can't be cloned, or it could forget what it was
+/// answered.
 #[derive(Drop)]
 pub struct Shares {
     pub(crate) place: usize,
@@ -25,8 +26,9 @@ impl Model for Shares {
 }
 
 impl Shares {
-    /// Those of a pass at a place that had so many members at opening, before any run.
-    pub(crate) fn new(place: usize, pass: usize, opened: u64) -> Self
+    /// Those of a pass at a place that had so many members at opening, before any run. A cell refuses
+    /// others than it has told.
+    pub fn new(place: usize, pass: usize, opened: u64) -> Self
         ensures { result
             ≡ record { place = place; pass = pass; opened = opened; tally = empty_tally } }
     {

@@ -45,7 +45,7 @@ impl<H: BuildHasher, S: LogSink, L: Ledger, A: Allocator + Copy> Model for Table
 
     ghost Value = { TableView };
 
-    ghost view = { λ t. record { cells = t.names; opened = t.opened.items; passes = t.passes; max_runs = t.max_runs; records_before = t.records_before } };
+    ghost view = { λ t. record { names = t.names; opened = t.opened.items; passes = t.passes; max_runs = t.max_runs; records_before = t.records_before } };
 
     ghost invariant = { λ t. (length t.names ≡ length t.opened.items) × (length t.cells.items ≡ length t.opened.items) × (0 < length t.names) × (length t.names ≤ 4096) };
 }
@@ -99,9 +99,12 @@ impl<H: BuildHasher, S: LogSink, L: Ledger, A: Allocator + Copy> Table<H, S, L, 
     /// one, and any other gets the reply of an empty set, as PING gets its own. A command that reads is
     /// asked under the shared lock first. `rt` waits for locks; the gate is called inside each one.
     ///
-    /// What the reply tells is one step of the command on some set with as many members as the answer
-    /// says: others write the sets between two calls, so that it is the key's own is shown by tests. The
-    /// pass's share of the place moves by the answer's counts.
+    /// On [`Answered::Ran`] the place is the key's, by what the pass knows then. Reply and counts are those
+    /// of one step of the command on some set with as many members as the answer's `found` tells, and
+    /// `found` is no less than what this pass was told there before: others write the sets between two
+    /// calls, so that it is the key's own set is shown by tests. The pass's share of that place counts
+    /// one run more and the members of the answer's `own`, or stays where a reading was answered under
+    /// the shared lock. No other share moves.
     ///
     /// # Errors
     ///

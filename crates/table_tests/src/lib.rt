@@ -3,7 +3,11 @@
 #![tactic(auto)]
 
 #[cfg(test)]
+mod cells;
+#[cfg(test)]
 mod closing;
+#[cfg(test)]
+mod comparisons;
 #[cfg(test)]
 mod examples;
 #[cfg(test)]
@@ -14,3 +18,5 @@ mod gates;
 mod places;
 #[cfg(test)]
 mod two_adders;
+#[cfg(test)]
+mod two_workers;

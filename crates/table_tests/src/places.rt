@@ -100,3 +100,24 @@ fn more_keys_than_places(rt: HostRuntime) -> Result<(), Fail> {
     assert!(rt; is_too_small::<Brand>(&rt, Blank::new(4))?);
     Ok(())
 }
+
+// How many passes a table of the greatest size has, at each limit of `open`.
+fn passes_of_the_greatest<L: Ledger>(rt: &HostRuntime, blank: Blank) -> Result<usize, Fail>
+    requires name { blank.name ≡ L.name }
+    requires parts { blank.parts ≡ L.parts }
+    requires many { 4098 ≤ blank.parts }
+{
+    let alloc = rt.alloc();
+    let owner = owner_of(rt, &["ZADD a 1 x", "ZADD b 1 x"])?;
+    let log = Log::<_, L>::new(blank, MemorySink::new(alloc, 64), 1000);
+    match Table::open(alloc, owner, log, 4096, 64, 1 << 40) {
+        Ok((_table, passes)) => Ok(passes.len()),
+        Err(_) => Err("not opened")?,
+    }
+}
+
+#[test]
+fn the_greatest_table_opens(rt: HostRuntime) -> Result<(), Fail> {
+    assert_eq!(rt; passes_of_the_greatest::<Brand>(&rt, Blank::new(4098))?, 64);
+    Ok(())
+}

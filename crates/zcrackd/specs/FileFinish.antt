@@ -17,7 +17,7 @@ use Rattle.append_log.specs.declared.drafting.RenewFault.{RenewFault}
 use Rattle.append_log.specs.declared.drafting.RenewFault.TheVariants as renews
 use Rattle.session_core.specs.OwnerAnswers.{LoggedAnswers}
 use Rattle.zcrackd.specs.DeviceStates.{SourceState, DrainState}
-use Rattle.zcrackd.specs.Finish.{noticed, Finishes}
+use Rattle.zcrackd.specs.Finish.{finish_by, noticed, Finishes}
 use Rattle.zcrackd.specs.declared.finish.Line.{Line}
 use Rattle.zcrackd.specs.declared.finish.Line.TheVariants as lines
 use Rattle.zcrackd.specs.declared.finish.Unusable.TheVariants as unusable
@@ -42,15 +42,6 @@ renew_line (renews.File fault) = lines.CannotUseFile (unusable.New fault)
 renew_line (renews.Rewrite rewrites.NoMemory) = lines.OutOfMemory
 renew_line (renews.Rewrite rewrites.Sink) = lines.WriteFault
 
--- status 4 out of memory, 1 where something could not be written, else 3
-abbrev pub status_of : Line → ℕ
-status_of lines.OutOfMemory = 4
-status_of lines.WriteFault = 1
-status_of _ = 3
-
-abbrev pub file_fault : Line → Finish
-file_fault line = record { status = status_of line; lines = Some line ∷ None ∷ [] }
-
 -- the notice of a torn end, where there is one
 abbrev pub torn_notice : Loaded → Option Line
 torn_notice loaded = if loaded.torn == 0 then None else Some (lines.TornEnd loaded.torn)
@@ -69,13 +60,13 @@ Prints count (Err line) drain₀ drain₁ = ((line ≡ lines.OutOfMemory) × (dr
 
 abbrev pub end_of : Result ℕ Line → Finish
 end_of (Ok count) = record { status = 0; lines = None ∷ None ∷ [] }
-end_of (Err line) = file_fault line
+end_of (Err line) = finish_by line
 
 -- a new file was made with so many records, and their number printed; or it was not made
 abbrev pub EndsBehind : Result ℕ RenewFault → World → DrainState → DrainState → Finish → Type 0
 EndsBehind (Ok count) world drain₀ drain₁ finish =
     (printed : Result ℕ Line) × (count ≡ min (length (dump world)) (2 ^ 64 - 1)) × Prints count printed drain₀ drain₁ × (finish ≡ end_of printed)
-EndsBehind (Err fault) world drain₀ drain₁ finish = (drain₁.told ≡ drain₀.told) × (finish ≡ file_fault (renew_line fault))
+EndsBehind (Err fault) world drain₀ drain₁ finish = (drain₁.told ≡ drain₀.told) × (finish ≡ finish_by (renew_line fault))
 
 -- what became of a new file, where the old one replays to this world
 pub record Renews (world : World) (drain₀ drain₁ : DrainState) (finish : Finish) : Type 0 where
@@ -87,7 +78,7 @@ pub record Renews (world : World) (drain₀ drain₁ : DrainState) (finish : Fin
 abbrev pub EndsAfter : Result Loaded OpenFault → World → DrainState → DrainState → Finish → Type 0
 EndsAfter (Ok loaded) world drain₀ drain₁ finish =
     (end : Finish) × Renews world drain₀ drain₁ end × (finish ≡ noticed (torn_notice loaded) end)
-EndsAfter (Err fault) world drain₀ drain₁ finish = (drain₁.told ≡ drain₀.told) × (finish ≡ file_fault (open_line fault))
+EndsAfter (Err fault) world drain₀ drain₁ finish = (drain₁.told ≡ drain₀.told) × (finish ≡ finish_by (open_line fault))
 
 -- a rewrite
 pub record Rewrites (drain₀ drain₁ : DrainState) (finish : Finish) : Type 0 where
@@ -120,7 +111,7 @@ pub record ServesFrom (world : World) (source₀ source₁ : SourceState) (drain
 abbrev pub ServesAfter : Result Loaded OpenFault → World → SourceState → SourceState → DrainState → DrainState → Finish → Type 0
 ServesAfter (Ok loaded) world source₀ source₁ drain₀ drain₁ finish =
     (end : Finish) × ServesFrom world source₀ source₁ drain₀ drain₁ end × (finish ≡ noticed (torn_notice loaded) end)
-ServesAfter (Err fault) world source₀ source₁ drain₀ drain₁ finish = (source₁ ≡ source₀) × (drain₁ ≡ drain₀) × (finish ≡ file_fault (open_line fault))
+ServesAfter (Err fault) world source₀ source₁ drain₀ drain₁ finish = (source₁ ≡ source₀) × (drain₁ ≡ drain₀) × (finish ≡ finish_by (open_line fault))
 
 pub record ServesFile (source₀ source₁ : SourceState) (drain₀ drain₁ : DrainState) (finish : Finish) : Type 0 where
   pub file : Result Loaded OpenFault

@@ -14,6 +14,25 @@ use Rattle.zcrackd.specs.declared.finish.Line.{Line}
 use Rattle.zcrackd.specs.declared.finish.Line.TheVariants as lines
 use Rattle.zcrackd.specs.declared.finish.Finish.{Finish}
 
+-- the exit status of an end for a cause; 0 for a notice, after which the work goes on
+abbrev pub status_of : Line → ℕ
+status_of (lines.TornEnd bytes) = 0
+status_of lines.BadCommandLine = 2
+status_of (lines.CannotUseFile cause) = 3
+status_of (lines.FileDamaged at) = 3
+status_of (lines.NoCommandInFile at) = 3
+status_of lines.FileReadFault = 3
+status_of lines.FileReadTooOften = 3
+status_of lines.MoreKeysThanPlaces = 3
+status_of lines.CannotListen = 3
+status_of lines.OutOfMemory = 4
+status_of lines.CannotStartWorkers = 4
+status_of _ = 1
+
+-- the end for one cause
+abbrev pub finish_by : Line → Finish
+finish_by line = record { status = status_of line; lines = Some line ∷ None ∷ [] }
+
 -- the first of the lines of an end
 abbrev pub first_line : List (Option Line) → Option Line
 first_line [] = None

@@ -9,12 +9,13 @@ ghost use Rattle.zcrackd.specs.FileFinish.{FailsBy, Prints, Renews, Rewrites, Se
 ghost use Rattle.zcrackd.specs.declared.finish.Line.TheVariants as lines;
 
 use crate::finish::{Finish, Line, Unusable};
+use crate::printing::print;
 use crate::stdio::stdio_run;
 use append_log::{
     FileSink, Loaded, LockFile, Log, LogSink, LoggedOwner, OpenFault, ReloadFault, RenewFault,
     RewriteFault, open_to_append, open_to_read, write_anew,
 };
-use resp_wire::{ByteDrain, ByteSource, write_all};
+use resp_wire::{ByteDrain, ByteSource};
 use std::alloc::Global;
 use std::fs::Files;
 use std::hash::{BuildHasher, RandomState};
@@ -52,20 +53,8 @@ fn renew_line(fault: RenewFault) -> Line
     }
 }
 
-/// How the program ends where a file can't be used, for the cause of the line.
-fn file_fault(line: Line) -> Finish
-    ensures { result ≡ files.file_fault line }
-{
-    let status = match line {
-        Line::OutOfMemory => 4,
-        Line::WriteFault => 1,
-        _ => 3,
-    };
-    Finish::with_line(status, line)
-}
-
 /// The notice of a torn end, where there is one.
-fn torn_notice(loaded: &Loaded) -> Option<Line>
+pub fn torn_notice(loaded: &Loaded) -> Option<Line>
     ensures { result ≡ files.torn_notice loaded.now }
 {
     if loaded.torn == 0 {
@@ -156,23 +145,11 @@ where
     let mut owner = OneOwner::new(alloc, hasher);
     let (sink, loaded) = match open_file(rt, alloc, path, &mut owner) {
         Ok(opened) => opened,
-        Err(line) => return file_fault(line),
+        Err(line) => return Finish::by(line),
     };
     let opened = Opened { owner, sink };
     let finish = serve_logged::<Brand, _, _, _, _>(rt, alloc, Blank::new(2), opened, source, drain);
     finish.after_notice(torn_notice(&loaded))
-}
-
-/// Writes a text to the drain, and sends it on.
-fn print<D: ByteDrain>(drain: &mut D, text: &[u8]) -> Result<(), Line>
-    ensures told { OnOk result (D.told drain.new ≡ append_known (D.told drain.old) text.now) }
-    ensures cause { IfErr result (λ line. (line ≡ lines.WriteFault)
-        × Rose (D.failures drain.old) (D.failures drain.new)) }
-{
-    if write_all(drain, text).is_err() {
-        return Err(Line::WriteFault);
-    }
-    drain.flush().map_err(|_| Line::WriteFault)
 }
 
 /// Prints the number of records, and gives it.
@@ -209,9 +186,9 @@ where
     match write_anew(rt, alloc, path, owner) {
         Ok(records) => match print_records(alloc, drain, records) {
             Ok(_) => Finish::quiet(0),
-            Err(line) => file_fault(line),
+            Err(line) => Finish::by(line),
         },
-        Err(fault) => file_fault(renew_line(fault)),
+        Err(fault) => Finish::by(renew_line(fault)),
     }
 }
 
@@ -237,7 +214,7 @@ where
     // The old file stays locked until the new one is whole.
     let (_locked, loaded) = match open_to_read(rt, alloc, old, &mut owner) {
         Ok(opened) => opened,
-        Err(fault) => return file_fault(open_line(fault)),
+        Err(fault) => return Finish::by(open_line(fault)),
     };
     let finish = renew(rt, alloc, new, &owner, drain);
     finish.after_notice(torn_notice(&loaded))

@@ -46,9 +46,44 @@ pub enum Line {
     /// The fault's number.
     ProtocolFault(u8),
     ReadTooOften,
+    /// The append file has more keys than the server has places.
+    MoreKeysThanPlaces,
+    /// The address can't be listened on.
+    CannotListen,
+    /// The system gives no thread for a worker.
+    CannotStartWorkers,
+    /// No more connections could be accepted.
+    AcceptFault,
+    /// What the workers were told doesn't add up with the sets, or with the records.
+    TotalsDisagree,
 }
 
 impl Line {
+    /// The exit status of an end for this cause. After a notice the work goes on.
+    pub fn status(self) -> u8
+        ensures { result ≡ ends.status_of self }
+    {
+        match self {
+            Line::TornEnd(_) => 0,
+            Line::BadCommandLine => 2,
+            Line::CannotUseFile(_)
+            | Line::FileDamaged(_)
+            | Line::NoCommandInFile(_)
+            | Line::FileReadFault
+            | Line::FileReadTooOften
+            | Line::MoreKeysThanPlaces
+            | Line::CannotListen => 3,
+            Line::OutOfMemory | Line::CannotStartWorkers => 4,
+            Line::ReadFault
+            | Line::WriteFaultAfter(_)
+            | Line::WriteFault
+            | Line::ProtocolFault(_)
+            | Line::ReadTooOften
+            | Line::AcceptFault
+            | Line::TotalsDisagree => 1,
+        }
+    }
+
     /// The same line, where of the bytes that it counts so many were held back.
     fn without_held(self, held: usize) -> Line
         ensures { result ≡ ends.line_without_held held self }
@@ -78,6 +113,11 @@ impl fmt::Display for Line {
             Line::WriteFaultAfter(out) => write!(f, "zcrackd: write fault after {out} bytes"),
             Line::ProtocolFault(number) => write!(f, "zcrackd: protocol fault {number}"),
             Line::ReadTooOften => f.write_str("zcrackd: read too often"),
+            Line::MoreKeysThanPlaces => f.write_str("zcrackd: more keys than places"),
+            Line::CannotListen => f.write_str("zcrackd: cannot listen"),
+            Line::CannotStartWorkers => f.write_str("zcrackd: cannot start workers"),
+            Line::AcceptFault => f.write_str("zcrackd: accept fault"),
+            Line::TotalsDisagree => f.write_str("zcrackd: totals disagree"),
         }
     }
 }
@@ -105,6 +145,13 @@ impl Finish {
         ensures { result ≡ record { status = 4; lines = Some lines.OutOfMemory ∷ None ∷ [] } }
     {
         Finish::with_line(4, Line::OutOfMemory)
+    }
+
+    /// The end for one cause: its line, with its status.
+    pub fn by(line: Line) -> Self
+        ensures { result ≡ ends.finish_by line }
+    {
+        Finish::with_line(line.status(), line)
     }
 
     /// An end with one line.

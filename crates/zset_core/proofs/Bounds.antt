@@ -16,11 +16,11 @@ use Rattle.zset_core.specs.CommandRequest.{Meaning, key_of}
 use Rattle.zset_core.specs.CommandRequest as meanings
 use Rattle.zset_core.specs.Semantics.{outcome_of, writes, put_one, put_all, remove_all, sum_of, is_barred, increase_reply, step}
 use Rattle.zset_core.specs.World.{World, is_empty, set_at, put_set, act_at}
-use Rattle.zset_core.specs.Views.{Next, ShowsAt, IsPreparedAt}
+use Rattle.zset_core.specs.SetAndOwnerViews.{Next, ShowsAt, IsPreparedAt}
 use Rattle.zset_core.specs.ParsedForm.{word_at}
 use Rattle.zset_core.specs.CommandGrammar.{add_options, add_pairs, has_option, pairs_value, add_meaning, increase, asked_flags, command_meaning, meaning, command_named, refusal_of, asked, asked_range, asked_options, RangeOption, is_with_scores, last_limit}
 use Rattle.score_bounds.specs.declared.bounds.Range.{Range}
-use Rattle.zset_core.specs.BoundedWorld.{IsSpelled, IsBoundedSet, IsBoundedAt, IsBoundedWorld, PutsSpelled, IsBoundedMeaning}
+use Rattle.zset_core.specs.ReplayableWorld.{IsSpelled, IsBoundedSet, IsBoundedAt, IsBoundedWorld, PutsSpelled, IsBoundedMeaning}
 use Rattle.zset_core.specs.declared.command.name.CommandName.{CommandName}
 use Rattle.zset_core.specs.declared.command.name.CommandName.TheVariants.{Ping, Add, Remove, Score, Card, Count, ListRange}
 use Rattle.zset_core.specs.declared.set.pair_outcome.Flags.{Flags}

@@ -14,7 +14,7 @@ use Rattle.std.proofs.lemmas.Map.{lookup-none}
 use Rattle.std.proofs.lemmas.Map.Keys.{IsDistinct-head, IsDistinct-tail}
 use Rattle.std.proofs.lemmas.Map.Text.{is_eq-slice_cmp}
 use Rattle.zset_core.specs.SortedSet.{bytes_cmp}
-use Rattle.zset_core.specs.MemberEntries.{Entry, rows_by, members_by, slot_at, same_bytes}
+use Rattle.zset_core.specs.StagedEntries.{Entry, rows_by, members_by, slot_at, same_bytes}
 use Rattle.zset_core.specs.declared.set.member_map.ScoreSlot.{ScoreSlot}
 
 pub exact : IsAntisymmetric bytes_cmp

@@ -4,7 +4,7 @@ use Rattle.std.proofs.lemmas.Bool.{cases_lt}
 use Rattle.std.specs.List.Sorted.{IsPartitionPoint}
 use Rattle.std.proofs.lemmas.Bool.Decides.{nat_tests}
 use Rattle.std.proofs.lemmas.List.{get_or_default}
-use Rattle.zset_core.specs.RankWindow.{IsPieceStart, IsPieceEnd}
+use Rattle.zset_core.specs.WindowPieces.{IsPieceStart, IsPieceEnd}
 
 module _ (ps : List (ℤ × ℕ)) (count : ℕ) where
   at_place : (k : ℕ) (d : ℤ × ℕ) → k < length ps → Any (λ p. p.1 ≡ (get_or ps k d).1) ps

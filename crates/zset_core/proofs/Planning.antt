@@ -4,13 +4,13 @@ use Rattle.std.specs.FinMap as fin
 use Rattle.resp_wire.specs.Response.{Response}
 use Rattle.ripple_column.specs.Content.{ColumnState, Holds, SameContent, IsUnchanged, most_pending}
 use Rattle.zset_core.specs.SortedSet.{Members, pairs}
-use Rattle.zset_core.specs.MemberEntries.{Entry, current_score, rows_by, members_by, IsSettled}
+use Rattle.zset_core.specs.StagedEntries.{Entry, current_score, rows_by, members_by, IsSettled}
 use Rattle.zset_core.specs.RowEdits.{HasAtMost, HasRoom, most_edits}
 use Rattle.zset_core.specs.Plan.{Plans, Prepares, left_by}
-use Rattle.zset_core.specs.ChangeCounts.{IsOutline}
+use Rattle.zset_core.specs.ChangeOutline.{IsOutline}
 use Rattle.zset_core.specs.ColumnEffects.{edit_count}
 use Rattle.zset_core.specs.CommandRequest.{Meaning}
-use Rattle.zset_core.specs.Views.{SetView, Next}
+use Rattle.zset_core.specs.SetAndOwnerViews.{SetView, Next}
 use Rattle.zset_core.specs.SetInvariant.{view_of, next_of, IsIdle, IsPlanned, IsSound}
 use Rattle.zset_core.specs.declared.set.plan.Plan.{Plan}
 use Rattle.zset_core.specs.declared.set.Prepared.{Prepared}

@@ -7,7 +7,7 @@ use Rattle.std.proofs.lemmas.List.Elements.{All-nil, All-cons, All-append, All-m
 use Rattle.std.proofs.lemmas.List.Sorted.{All-permutation, IsPermutation-refl, IsPermutation-trans, IsPermutation-map, IsPermutation-append_left, IsPermutation-append_right, length_permutation}
 use Rattle.zset_core.specs.SortedSet.{Pair, pair_cmp}
 use Rattle.zset_core.specs.BorrowedPairs.{Shown, pair_of, pairs_of, shown_cmp}
-use Rattle.zset_core.specs.RankWindow.{ComesBefore, IsPart}
+use Rattle.zset_core.specs.WindowPieces.{ComesBefore, IsPart}
 use Rattle.zset_core.proofs.Order.{pair_total, pair_exact}
 
 module _ {X : Type 0} where

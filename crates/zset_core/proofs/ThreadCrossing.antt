@@ -5,6 +5,7 @@ use denote.RattleType.{RattleType}
 use denote.Struct.Declared.{shape, fields}
 use denote.Param.Send.{IsSend, IsSync, AllSend, AllSync, Frees, sendable, view_send, view_sync, recorded_send, recorded_sync, struct_send, struct_sync}
 use Rattle.std.proofs.Crossing.{crosses}
+use Rattle.std.proofs.boxed.Box.TheSendSync as block
 use Rattle.std.proofs.vec.Vec.TheSendSync as vec
 use Rattle.std.proofs.collections.btree_map.BTreeMap.TheSendSync as tree
 use Rattle.std.specs.declared.alloc.Allocator as alloc
@@ -22,6 +23,8 @@ use Rattle.indexmap.proofs.map.IndexMap.TheSendSync as index
 use Rattle.ripple_column.proofs.column.Column.TheSendSync as column
 use Rattle.zset_core.specs.contracts.command.Command as Command
 use Rattle.zset_core.specs.contracts.owner.OneOwner as Owner
+use Rattle.zset_core.specs.contracts.owner.kept_set.KeptSet as KeptSet
+use Rattle.zset_core.specs.contracts.owner.kept_set.KeptSet.TheInside as KeptFields
 use Rattle.zset_core.specs.contracts.owner.OneOwner.TheInside as OwnerFields
 use Rattle.zset_core.specs.contracts.set.Prepared as Prepared
 use Rattle.zset_core.specs.contracts.set.ZSet as ZSet
@@ -57,6 +60,12 @@ module _ (H A T : RattleType) (b : builder.Ghosts H.Denot T.Denot) (w : hasher.G
       let all : AllSync (fields O) = (ya, (index.the_sync _ _ H A T _ _ b w g key slot.the_sync yh ya, (column.the_sync A g ya, (search (prepared_sync A g ya, sendable) depth 20, tt)))) in
       view_sync _ _ _ _ _ (recorded_sync _ O.D O.to O.to_one (struct_sync (shape O) all))
 
+  kept_send : IsSend H → IsSend A → Frees g g.dealloc_token → IsSend (KeptSet.the_row H A T b w g)
+  kept_send sh sa f =
+      let O = KeptFields.the_type H A T b w g in
+      let all : AllSend (fields O) = (block.the_send (ZSet.the_row H A T b w g) A g (set_send sh sa f) sa f, tt) in
+      view_send _ _ _ _ _ (recorded_send _ O.D O.to O.to_one (struct_send (shape O) all))
+
   pub owner_send : IsSend H → IsSend A → Frees g g.dealloc_token → IsSend (Owner.the_row H A T b w g)
   owner_send sh sa f =
       let O = OwnerFields.the_type H A T b w g in
@@ -65,5 +74,5 @@ module _ (H A T : RattleType) (b : builder.Ghosts H.Denot T.Denot) (w : hasher.G
       let order = before.ghosts u8 A ByteOrd.ghosts no ByteEq.ghosts no BytePartialEq.ghosts no BytePartialOrd.ghosts no g no no in
       let equal = same.ghosts u8 A BytePartialEq.ghosts same.no_dict g same.no_dict same.no_dict in
       let partial = maybe_before.ghosts u8 A BytePartialOrd.ghosts maybe_before.no_dict BytePartialEq.ghosts maybe_before.no_dict g maybe_before.no_dict maybe_before.no_dict in
-      let all : AllSend (fields O) = (sa, (sh, (tree.the_send _ _ A order equal partial g key (set_send sh sa f) sa f, (search (note_send (Command.the_row A g), sendable) depth 20, tt)))) in
+      let all : AllSend (fields O) = (sa, (sh, (tree.the_send _ _ A order equal partial g key (kept_send sh sa f) sa f, (search (note_send (Command.the_row A g), sendable) depth 20, tt)))) in
       view_send _ _ _ _ _ (recorded_send _ O.D O.to O.to_one (struct_send (shape O) all))

@@ -26,7 +26,7 @@ use Rattle.crack_kernel.proofs.PivotOrder.{IsRising-le}
 use Rattle.zset_core.proofs.Tests.{first, second}
 use Rattle.zset_core.specs.SortedSet.{Members, Pair, bytes_cmp, pair_cmp, pairs, marks, listing}
 use Rattle.zset_core.specs.BorrowedPairs.{Shown, pairs_of, shown_cmp}
-use Rattle.zset_core.specs.RankWindow.{ComesBefore, IsPart, IsPieceStart, IsPieceEnd}
+use Rattle.zset_core.specs.WindowPieces.{ComesBefore, IsPart, IsPieceStart, IsPieceEnd}
 use Rattle.zset_core.proofs.Order.{is_pair, is_equal, pair_total, listing_is, rises, rises_pairs, rises_step, rows_apart, filter_apart, len_marks, pairs_apart, keys_marks}
 use Rattle.zset_core.specs.Semantics.{apply_limit}
 use Rattle.zset_core.specs.declared.command.limit.Limit.{Limit}

@@ -3,7 +3,7 @@ use Rattle.std.specs.Prelude.{ℕ, ℤ, List, map}
 use Rattle.std.specs.Borrow.{Bor}
 use Rattle.std.specs.declared.cmp.Ordering.{Ordering}
 use Rattle.zset_core.specs.SortedSet.{Pair, pair_cmp}
-use Rattle.zset_core.specs.MemberEntries.{Entry, current_score}
+use Rattle.zset_core.specs.StagedEntries.{Entry, current_score}
 
 -- a score, and a member's bytes
 abbrev pub Shown : Type 0

@@ -5,7 +5,7 @@ use Rattle.score_bounds.specs.declared.bounds.Range.{Range}
 use Rattle.ripple_column.specs.RangeAnswer.{AddsCuts, StandsStill, low_cut, high_cut, pivots_with_cuts}
 use Rattle.ripple_column.specs.Content.{ColumnState, IsUnchanged, NoneIn, SameOutside}
 use Rattle.ripple_column.specs.Cuts.{is_before}
-use Rattle.zset_core.specs.AnswersWithoutCracking.{HasAnswer}
+use Rattle.zset_core.specs.ReadyCommands.{HasAnswer}
 use Rattle.zset_core.specs.SortedSet.{Members}
 use Rattle.zset_core.specs.CommandRequest.{Meaning, Ping, Add, Increase, Remove, Score, Card, Count, ListRange}
 use Rattle.zset_core.specs.Semantics.{outcome_of, counted, count_all, sum_of, remove_all}

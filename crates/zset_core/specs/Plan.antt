@@ -3,8 +3,8 @@ use Rattle.std.specs.Prelude.{◌≡◌, List, length, Option, None, Some}
 use Rattle.resp_wire.specs.Response.{Response, response_of}
 use Rattle.zset_core.specs.SortedSet.{Members}
 use Rattle.zset_core.specs.Semantics.{remove_all}
-use Rattle.zset_core.specs.MemberEntries.{Entry, current_score, staged_score, members_by, IsWaiting, Grows, bytes_of}
-use Rattle.zset_core.specs.ChangeCounts.{IsOutline}
+use Rattle.zset_core.specs.StagedEntries.{Entry, current_score, staged_score, members_by, IsWaiting, Grows, bytes_of}
+use Rattle.zset_core.specs.ChangeOutline.{IsOutline}
 use Rattle.zset_core.specs.RowEdits.{Turns, IsFew}
 use Rattle.zset_core.specs.declared.set.plan.Plan.{Plan}
 

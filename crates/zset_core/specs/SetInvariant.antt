@@ -2,13 +2,13 @@
 use Rattle.std.specs.Prelude.{ℕ, ◌≤◌, List, length, take, Option, None, Some}
 use Rattle.std.specs.FinMap as fin
 use Rattle.resp_wire.specs.Response.{response_of}
-use Rattle.zset_core.specs.MemberEntries.{Entry, current_score, rows_by, members_by, IsSettled, IsWaiting}
+use Rattle.zset_core.specs.StagedEntries.{Entry, current_score, rows_by, members_by, IsSettled, IsWaiting}
 use Rattle.ripple_column.specs.Content.{ColumnState, Holds}
 use Rattle.zset_core.specs.RowEdits.{HasRoom, TurnsInto}
 use Rattle.zset_core.specs.Plan.{left_by}
 use Rattle.zset_core.specs.SortedSet.{pairs}
 use Rattle.zset_core.specs.declared.set.plan.Plan.{Plan}
-use Rattle.zset_core.specs.Views.{SetView, Next}
+use Rattle.zset_core.specs.SetAndOwnerViews.{SetView, Next}
 use Rattle.zset_core.specs.declared.set.Prepared.{Prepared}
 
 abbrev pub next_of : {A : Type 0} → List (Entry A) → Prepared A → Next

@@ -3,7 +3,7 @@
 ghost use Rattle.std.specs.Prelude.{◌≡◌, ◌≢◌, IfOk, IfErr, Ok, Err};
 ghost use Rattle.std.specs.Option.{option_copied};
 ghost use Rattle.zset_core.specs.CommandGrammar.{asked, is_creating};
-ghost use Rattle.zset_core.specs.BoundedWorld.{IsBoundedMeaning};
+ghost use Rattle.zset_core.specs.ReplayableWorld.{IsBoundedMeaning};
 ghost use Rattle.zset_core.specs.ParsedForm.{meaning_of, IsWhole};
 ghost use Rattle.zset_core.specs.CommandRequest.{key_of, is_writing};
 ghost use Rattle.zset_core.specs.declared.refusal.Refusal.TheVariants as refusals;

@@ -1,8 +1,8 @@
 //! Sorted sets: members with scores, the commands on them, and sets by key.
 //!
-//! Three rooms: `command` reads a request as a command, `set` is one sorted set and how a command
-//! changes it, `query` answers the commands that change nothing. Beside them stand the replies, the
-//! refusals, the owner of sets by key, and laws of the definitions.
+//! Four folders: `command` reads a request as a command, `set` is one sorted set and how a command
+//! changes it, `query` answers the commands that change nothing, and `owner` keeps sets by key. Beside
+//! them stand replies, refusals, and laws of the definitions.
 #![tactic(auto)]
 
 mod command;
@@ -10,7 +10,7 @@ pub mod laws;
 mod owner;
 mod query;
 mod refusal;
-mod score_replies;
+mod score_and_count_replies;
 mod set;
 
 pub use command::Command;
@@ -18,5 +18,5 @@ pub use command::limit::Limit;
 pub use owner::OneOwner;
 pub use refusal::Refusal;
 pub use set::ZSet;
-pub use set::change_counts::Outline;
+pub use set::change_outline::Outline;
 pub use set::pair_outcome::{Flags, Outcome};

@@ -4,14 +4,15 @@ ghost use Rattle.std.specs.FinMap as map;
 ghost use Rattle.std.specs.Option.{option_copied};
 ghost use Rattle.resp_wire.specs.Response.{response_of};
 ghost use Rattle.zset_core.specs.CommandRequest.{is_writing, key_of};
-ghost use Rattle.zset_core.specs.ChangeCounts.{IsOutline};
+ghost use Rattle.zset_core.specs.ChangeOutline.{IsOutline};
 ghost use Rattle.zset_core.specs.Refusal.{IsRefused};
-ghost use Rattle.zset_core.specs.BoundedWorld.{IsBoundedWorld};
+ghost use Rattle.zset_core.specs.ReplayableWorld.{IsBoundedWorld};
 ghost use Rattle.zset_core.specs.SortedSet.{whole};
-ghost use Rattle.zset_core.specs.Views.{HasNoSet, IsPreparedAt, IsSetAt};
+ghost use Rattle.zset_core.specs.SetAndOwnerViews.{HasNoSet, IsPreparedAt, IsSetAt};
 ghost use Rattle.zset_core.specs.World.{act, key_behind, put_set, set_at};
 
-mod new_set;
+mod empty_set;
+mod kept_set;
 mod keys_in_order;
 mod prepare_and_commit;
 mod run;
@@ -26,7 +27,7 @@ use crate::owner::tree::SetTree;
 use crate::query::ping::pong;
 use crate::refusal::Refusal;
 use crate::set::ZSet;
-use crate::set::change_counts::Outline;
+use crate::set::change_outline::Outline;
 use crack_kernel::Row;
 use resp_wire::Reply;
 use std::alloc::{AllocError, Allocator};
@@ -47,17 +48,17 @@ pub struct OneOwner<H: BuildHasher, A: Allocator + Copy> {
 }
 
 impl<H: BuildHasher, A: Allocator + Copy> Model for OneOwner<H, A> {
-    ghost use Rattle.zset_core.specs.Views.{OwnerView};
+    ghost use Rattle.zset_core.specs.SetAndOwnerViews.{OwnerView};
 
     ghost Value = { OwnerView };
 
     ghost use Rattle.std.specs.Coded.{codes};
-    ghost use Rattle.zset_core.specs.Views.{coded_members, coded_world};
+    ghost use Rattle.zset_core.specs.SetAndOwnerViews.{coded_members, coded_world};
 
     ghost coded = { Prim.hlevel (codes, coded_members, coded_world) };
 
-    ghost use Rattle.zset_core.specs.OwnerInvariant.{owner_view, IsOwned};
-    ghost use Rattle.zset_core.specs.BoundedWorld.{IsBoundedOwner};
+    ghost use Rattle.zset_core.specs.OwnerEntries.{owner_view, IsOwned};
+    ghost use Rattle.zset_core.specs.ReplayableWorld.{IsBoundedOwner};
 
     ghost view = { λ o. owner_view o.sets.entries o.asked };
 
@@ -160,7 +161,10 @@ impl<H: BuildHasher + Clone + Drop, A: Allocator + Copy> OneOwner<H, A> {
         ensures { MatchOption result (HasNoSet self.now key.now)
             (λ set. IsSetAt self.now key.now set.now) }
     {
-        self.sets.get(key)
+        match self.sets.get(key) {
+            None => None,
+            Some(kept) => Some(kept.get()),
+        }
     }
 
     /// A law: a request can carry each key and each pair of the sets, and no set that is kept is
@@ -209,7 +213,7 @@ impl<H: BuildHasher + Clone + Drop, A: Allocator + Copy> OneOwner<H, A> {
     {
         match self.sets.get(key) {
             None => Ok(Vec::new(self.alloc)),
-            Some(set) => set.pairs(),
+            Some(kept) => kept.get().pairs(),
         }
     }
 }

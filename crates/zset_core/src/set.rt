@@ -2,34 +2,34 @@
 ghost use Rattle.std.specs.Prelude.{◌≡◌, ◌+◌, ◌<◌, ◌≤◌, ◌^◌, ◌⊎◌, ◌↔◌, length, true, false, Some, None, IsSome, IfSome, IfOk, IfErr, OnOk, OnErr, IsTrue, take, option_map};
 ghost use Rattle.std.specs.FinMap as map;
 ghost use Rattle.indexmap.specs.IndexMap.{IsUnique};
-ghost use Rattle.zset_core.specs.MemberEntries.{current_score, slot_at, same_bytes};
+ghost use Rattle.zset_core.specs.StagedEntries.{current_score, slot_at, same_bytes};
 ghost use Rattle.zset_core.specs.SetInvariant.{kept_of};
 ghost use Rattle.zset_core.specs.CommandRequest.{is_writing, key_of};
-ghost use Rattle.zset_core.specs.ChangeCounts.{IsOutline};
+ghost use Rattle.zset_core.specs.ChangeOutline.{IsOutline};
 ghost use Rattle.zset_core.specs.Refusal.{IsRefused};
 ghost use Rattle.ripple_column.specs.Content.{Holds, IsUnchanged, most_pending};
 ghost use Rattle.ripple_column.specs.Cuts.{values};
 ghost use Rattle.zset_core.specs.ColumnEffects.{NarrowsFor, Reads, changes_named, edit_count};
 ghost use Rattle.zset_core.specs.RowEdits.{most_edits};
-ghost use Rattle.zset_core.specs.AnswersWithoutCracking.{IsReadyFor};
+ghost use Rattle.zset_core.specs.ReadyCommands.{IsReadyFor};
 ghost use Rattle.zset_core.specs.SortedSet.{pairs, whole};
 ghost use Rattle.zset_core.specs.Semantics.{step};
-ghost use Rattle.zset_core.specs.Views.{IsPreparedFor};
+ghost use Rattle.zset_core.specs.SetAndOwnerViews.{IsPreparedFor};
 ghost use Rattle.resp_wire.specs.Response.{response_of};
 
-pub mod change_counts;
+pub mod change_outline;
 pub mod draft;
+pub mod member_map;
 pub mod pair_outcome;
 pub mod plan;
 pub mod removal_search;
 pub mod row_edits;
-pub mod member_map;
 
 use crate::command::Command;
 use crate::query::answer::{answer_from, is_wide_for, narrow_for, ready_from};
 use crate::query::listing::all_rows;
 use crate::refusal::Refusal;
-use crate::set::change_counts::Outline;
+use crate::set::change_outline::Outline;
 use crate::set::member_map::MemberMap;
 use crate::set::plan::{Plan, apply_plan, discard, make_plan};
 use crack_kernel::Row;
@@ -63,12 +63,12 @@ pub struct ZSet<H: BuildHasher, A: Allocator + Copy> {
 }
 
 impl<H: BuildHasher, A: Allocator + Copy> Model for ZSet<H, A> {
-    ghost use Rattle.zset_core.specs.Views.{SetView};
+    ghost use Rattle.zset_core.specs.SetAndOwnerViews.{SetView};
 
     ghost Value = { SetView };
 
     ghost use Rattle.std.specs.Coded.{codes};
-    ghost use Rattle.zset_core.specs.Views.{coded_members};
+    ghost use Rattle.zset_core.specs.SetAndOwnerViews.{coded_members};
 
     ghost coded = { Prim.hlevel (codes, coded_members) };
 

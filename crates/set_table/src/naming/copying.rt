@@ -4,6 +4,7 @@ ghost use Rattle.std.specs.Prelude.{◌≡◌, IfOk};
 
 use crate::naming::knowledge::Knowledge;
 use crate::naming::memory::Memory;
+use crate::naming::name_hashes::NameHashes;
 use crate::naming::notes::{Notes, PlaceNote};
 use std::alloc::{AllocError, Global};
 
@@ -14,9 +15,12 @@ impl Knowledge {
         ensures copy { IfOk result (λ copy. copy ≡ self.old) }
     {
         let slots = Vec::from_slice(alloc, &self.memory.slots)?;
+        let hashes = Vec::from_slice(alloc, &self.hashes.hashes)?;
         Ok(Knowledge {
             notes: self.notes.again(alloc)?,
             memory: Memory { slots },
+            hashes: NameHashes { hashes },
+            compared: 0,
         })
     }
 }

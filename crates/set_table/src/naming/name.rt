@@ -6,9 +6,10 @@ ghost use Rattle.set_table.specs.Naming.{hash_from};
 use std::alloc::{AllocError, Global};
 use std::marker::Model;
 
-/// A key that a place bears as its name. A contract sees its bytes.
+/// A key that a place bears as its name, with its hash. A contract sees its bytes.
 #[derive(Drop)]
 pub(crate) struct Name {
+    hash: u64,
     bytes: Vec<u8>,
 }
 
@@ -18,6 +19,11 @@ impl Model for Name {
     ghost Value = { List ℕ };
 
     ghost view = { λ n. n.bytes.items };
+
+    ghost use Rattle.std.specs.Prelude.{◌≡◌, ◌<◌, ◌^◌};
+    ghost use Rattle.set_table.specs.Naming.{hash_from};
+
+    ghost invariant = { λ n. (n.hash ≡ hash_from 7 n.bytes.items) × (n.hash < 2 ^ 32) };
 }
 
 impl Name {
@@ -26,6 +32,7 @@ impl Name {
         ensures { IfOk result (λ name. name ≡ key.now) }
     {
         Ok(Name {
+            hash: hash(key),
             bytes: Vec::from_slice(alloc, key)?,
         })
     }
@@ -35,6 +42,14 @@ impl Name {
         ensures { IsTrue result ↔ (self.now ≡ key.now) }
     {
         self.bytes.as_slice() == key
+    }
+
+    /// Its hash as a key.
+    pub(crate) fn hash(&self) -> u64
+        ensures value { result ≡ hash_from 7 self.now }
+        ensures fits { result < 2 ^ 32 }
+    {
+        self.hash
     }
 }
 

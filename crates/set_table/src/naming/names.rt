@@ -1,6 +1,6 @@
 //! The places' names, and the walk by which a key finds its own.
 
-ghost use Rattle.std.specs.Prelude.{◌≡◌, ◌<◌, ◌≤◌, ◌^◌, List, ℕ, None, Some, map, length, IfOk, IfErr, IfSome, IfNone, MatchOption, MatchResult};
+ghost use Rattle.std.specs.Prelude.{◌≡◌, ◌<◌, ◌≤◌, ◌%◌, List, ℕ, None, Some, map, length, IfOk, IfErr, IfSome, IfNone, MatchOption, MatchResult};
 ghost use Rattle.std.proofs.Math.ListN.{get_or};
 ghost use Rattle.once_cell.specs.Once.{cell_name, Agrees};
 ghost use Rattle.set_table.specs.Naming.{AreNotesOf, Grows, IsPlace, IsUnclaimed, Learns, hash_from, name_at, walk};
@@ -10,6 +10,7 @@ mod agreement;
 use crate::naming::knowledge::Knowledge;
 use crate::naming::memory::{Memory, mixed_hash};
 use crate::naming::name::{Name, hash};
+use crate::naming::name_hashes::NameHashes;
 use crate::naming::notes::{Notes, PlaceNote};
 use once_cell::race::{Note, OnceBox};
 use std::alloc::{AllocError, Global};
@@ -79,6 +80,8 @@ impl Names {
         Ok(Knowledge {
             notes: self.notes(alloc)?,
             memory: Memory::new(alloc, self.places())?,
+            hashes: NameHashes::new(alloc, self.places())?,
+            compared: 0,
         })
     }
 
@@ -96,7 +99,7 @@ impl Names {
         if let Some(place) = self.recall(known, hash, key) {
             return Some(place);
         }
-        let place = self.find_by_walk(&mut known.notes, key)?;
+        let place = self.find_by_walk(known, key)?;
         known.memory.remember(hash, place);
         Some(place)
     }
@@ -114,7 +117,7 @@ impl Names {
         if let Some(place) = self.recall(known, hash, key) {
             return Ok(place);
         }
-        let place = self.claim_by_walk(&mut known.notes, key)?;
+        let place = self.claim_by_walk(known, key)?;
         known.memory.remember(hash, place);
         Ok(place)
     }
@@ -129,27 +132,34 @@ impl Names {
     {
         let place = known.memory.place_of(hash)?;
         let name = self.name_of(&mut known.notes, place)?;
-        if !name.is(key) {
+        if !known.bears(name, key) {
             return None;
         }
         Some(place)
     }
 
     /// The key's place, by a walk over the places from where the key's hash says, to the first that
-    /// bears the key or has no name.
-    fn find_by_walk(&self, notes: &mut Notes, key: &[u8]) -> Option<usize>
-        requires own { AreNotesOf self.now notes.old }
+    /// bears the key or has no name. A name that the pass met is read only where its hash is the key's.
+    fn find_by_walk(&self, known: &mut Knowledge, key: &[u8]) -> Option<usize>
+        requires own { AreNotesOf self.now known.old }
         requires places { (0 < length self.now) × (length self.now ≤ 4096) }
-        ensures own { AreNotesOf self.now notes.new }
-        ensures grows { Grows notes.old.known notes.new.known }
-        ensures found { IfSome result (λ place. IsPlace notes.new.known key.now place) }
-        ensures none { IfNone result ((place : ℕ) → IsPlace notes.old.known key.now place → ⊥) }
+        ensures own { AreNotesOf self.now known.new }
+        ensures grows { Grows known.old.known known.new.known }
+        ensures found { IfSome result (λ place. IsPlace known.new.known key.now place) }
+        ensures none { IfNone result ((place : ℕ) → IsPlace known.old.known key.now place → ⊥) }
     {
         let hash = hash(key);
+        let first = self.first_place(key, hash);
         for step in 0..self.places() {
-            let place = self.walk(key, hash, step);
-            let name = self.name_of(notes, place)?;
-            if name.is(key) {
+            let place = self.walk(key, first, step);
+            if known.has_other_hash(place, hash) {
+                continue;
+            }
+            let name = self.meet(known, place)?;
+            if name.hash() != hash {
+                continue;
+            }
+            if known.bears(name, key) {
                 return Some(place);
             }
         }
@@ -158,40 +168,93 @@ impl Names {
 
     /// The key's place, by its walk: the first place that has no name takes the key's, unless
     /// another thread was quicker there. Then the walk goes on by the name that that thread set.
-    fn claim_by_walk(&self, notes: &mut Notes, key: &[u8]) -> Result<usize, ClaimFault>
-        requires own { AreNotesOf self.now notes.old }
+    fn claim_by_walk(&self, known: &mut Knowledge, key: &[u8]) -> Result<usize, ClaimFault>
+        requires own { AreNotesOf self.now known.old }
         requires places { (0 < length self.now) × (length self.now ≤ 4096) }
-        ensures own { AreNotesOf self.now notes.new }
-        ensures grows { Grows notes.old.known notes.new.known }
-        ensures ok { IfOk result (λ place. IsPlace notes.new.known key.now place) }
-        ensures err { IfErr result (λ fault. IsUnclaimed fault notes.new.known key.now) }
+        ensures own { AreNotesOf self.now known.new }
+        ensures grows { Grows known.old.known known.new.known }
+        ensures ok { IfOk result (λ place. IsPlace known.new.known key.now place) }
+        ensures err { IfErr result (λ fault. IsUnclaimed fault known.new.known key.now) }
     {
         let hash = hash(key);
+        let first = self.first_place(key, hash);
         for step in 0..self.places() {
-            let place = self.walk(key, hash, step);
-            let given = match self.name_or_key(notes, place, key) {
+            let place = self.walk(key, first, step);
+            if known.has_other_hash(place, hash) {
+                continue;
+            }
+            let given = match self.meet_or_name(known, place, key) {
                 Ok(name) => name,
                 Err(_) => return Err(ClaimFault::NoMemory),
             };
-            if given.is(key) {
+            if given.hash() != hash {
+                continue;
+            }
+            if known.bears(given, key) {
                 return Ok(place);
             }
         }
         Err(ClaimFault::TableFull)
     }
 
-    /// A place of the key's walk.
-    fn walk(&self, key: &[u8], hash: u64, step: usize) -> usize
+    /// The place where the key's walk begins.
+    fn first_place(&self, key: &[u8], hash: u64) -> usize
         requires hash { hash ≡ hash_from 7 key.now }
-        requires fits { hash < 2 ^ 32 }
         requires some { 0 < length self.now }
+        ensures value { result ≡ hash_from 7 key.now % length self.now }
+        ensures within { result < length self.now }
+    {
+        (hash % self.names.len() as u64) as usize
+    }
+
+    /// A place of the key's walk.
+    fn walk(&self, key: &[u8], first: usize, step: usize) -> usize
+        requires first { first ≡ hash_from 7 key.now % length self.now }
+        requires began { first < length self.now }
         requires within { step < length self.now }
         requires few { length self.now ≤ 4096 }
         ensures value { result ≡ walk (length self.now) key.now step }
         ensures within { result < length self.now }
     {
-        let places = self.names.len();
-        ((hash % places as u64) as usize + step) % places
+        let place = first + step;
+        if place < self.names.len() {
+            place
+        } else {
+            place - self.names.len()
+        }
+    }
+
+    /// A place's name, if it has one, which the pass then knows with its hash.
+    fn meet<'a>(&'a self, known: &mut Knowledge, place: usize) -> Option<&'a Name>
+        requires own { AreNotesOf self.now known.old }
+        requires within { place < length self.now }
+        ensures own { AreNotesOf self.now known.new }
+        ensures seen { MatchOption result
+            ((name_at known.old.known place ≡ None) × (known.new.known ≡ known.old.known))
+            (λ name. Learns known.old.known known.new.known place name.now) }
+    {
+        let name = self.name_of(&mut known.notes, place)?;
+        known.hashes.learn(place, name.hash());
+        Some(name)
+    }
+
+    /// A place's name, which is the key where it had none, and which the pass then knows with its hash.
+    fn meet_or_name<'a>(
+        &'a self,
+        known: &mut Knowledge,
+        place: usize,
+        key: &[u8],
+    ) -> Result<&'a Name, AllocError>
+        requires own { AreNotesOf self.now known.old }
+        requires within { place < length self.now }
+        ensures own { AreNotesOf self.now known.new }
+        ensures seen { MatchResult result
+            (λ name. Learns known.old.known known.new.known place name.now)
+            (λ _. known.new.known ≡ known.old.known) }
+    {
+        let name = self.name_or_key(&mut known.notes, place, key)?;
+        known.hashes.learn(place, name.hash());
+        Ok(name)
     }
 
     /// A place's name, if it has one, which the pass then knows.

@@ -26,7 +26,7 @@ impl Model for Notes {
 
     ghost Value = { NotesView };
 
-    ghost view = { λ n. record { cells = map (λ p. p.note.cell) n.places.items; known = map (λ p. p.note.known) n.places.items } };
+    ghost view = { λ n. record { names = map (λ p. p.note.cell) n.places.items; known = map (λ p. p.note.known) n.places.items } };
 }
 
 impl Notes {
@@ -34,7 +34,7 @@ impl Notes {
     pub(crate) fn note_of(&mut self, place: usize) -> Note<Name>
         requires { place < length self.old.known }
         ensures same { self.new ≡ self.old }
-        ensures cell { result.cell ≡ get_or self.old.cells place 0 }
+        ensures cell { result.cell ≡ get_or self.old.names place 0 }
         ensures known { result.known ≡ name_at self.old.known place }
     {
         self.places[place].note.again()

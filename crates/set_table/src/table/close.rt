@@ -36,19 +36,24 @@ impl<H: BuildHasher + Drop, S: LogSink + Drop, L: Ledger, A: Allocator + Copy> T
     /// Ends the table, and tells what became of its sets by what the passes were answered: the
     /// totals, and the log. The passes may come in any order.
     ///
+    /// Promised are that each total is the sum over the places of what all passes were told, members being
+    /// those at opening, with those added and without those removed; that the log has as many records
+    /// more than at opening as the totals tell; that passes which know a place's name know the same one;
+    /// and that no key has two places.
+    ///
     /// # Errors
     ///
     /// Table and passes are dropped. [`CloseFault::MissingPass`] exactly where the numbers of the
     /// passes are not 0 to the last, each once; [`CloseFault::OutOfStep`] where a cell and a pass
     /// are not in step, or the cells' records are not those that the log took since the table was
-    /// opened. With the table's own passes that would be a fault of this crate; no contract sees what
-    /// stands behind the locks, so it is asked and not proved.
+    /// opened. With the table's own passes that would be a fault of this crate. No contract sees what
+    /// stands behind the locks, so the numbers are compared here, and that they agree is not proved.
     pub fn close(self, passes: Vec<Pass<A>, A>) -> Result<(Totals, Log<S, L>), CloseFault>
         requires own { (i : ℕ) → i < length passes.items → IsPassOf self (pass_at passes.items i) }
         ensures totals { IfOk result (λ closed. AddsUp passes.items self.opened closed.0) }
         ensures records { IfOk result
             (λ closed. closed.0.records + self.records_before ≡ closed.1.appended) }
-        ensures agree { OnOk result ((place : ℕ) → place < length self.cells
+        ensures agree { OnOk result ((place : ℕ) → place < length self.names
             → AgreeAt passes.items place) }
         ensures one_place { OnOk result (HaveOnePlace passes.items) }
         ensures numbered { OnOk result (AreNumbered passes.items self.passes) }

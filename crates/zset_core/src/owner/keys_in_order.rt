@@ -2,7 +2,7 @@
 ghost use Rattle.std.specs.Prelude.{◌≡◌, None, Some, IsSome, option_map, slice_get};
 ghost use Rattle.std.specs.Map.{keys_of};
 ghost use Rattle.std.specs.Option.{option_copied};
-ghost use Rattle.zset_core.specs.OwnerInvariant.{names_of, IsRising, set_in};
+ghost use Rattle.zset_core.specs.OwnerEntries.{names_of, IsRising, set_in};
 ghost use Rattle.zset_core.specs.World.{key_behind};
 
 use crate::owner::tree::SetTree;

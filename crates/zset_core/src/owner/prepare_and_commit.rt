@@ -2,17 +2,17 @@
 ghost use Rattle.std.specs.Prelude.{◌≡◌, None, Some, IfOk, IfErr, IfSome, OnOk, OnErr, IsSome, IsTrue};
 ghost use Rattle.resp_wire.specs.Response.{response_of};
 ghost use Rattle.zset_core.specs.CommandRequest.{is_writing};
-ghost use Rattle.zset_core.specs.ChangeCounts.{IsOutline};
-ghost use Rattle.zset_core.specs.OwnerInvariant.{world_of, set_in, next_at, AllRest, OthersRest};
+ghost use Rattle.zset_core.specs.ChangeOutline.{IsOutline};
+ghost use Rattle.zset_core.specs.OwnerEntries.{world_of, set_in, next_at, AllRest, OthersRest};
 ghost use Rattle.zset_core.specs.Refusal.{IsRefused};
-ghost use Rattle.zset_core.specs.Views.{IsPreparedAt};
+ghost use Rattle.zset_core.specs.SetAndOwnerViews.{IsPreparedAt};
 ghost use Rattle.zset_core.specs.World.{act_at, set_at, put_set};
 
 use crate::command::Command;
 use crate::owner::tree::{SetTree, insert_set};
 use crate::refusal::Refusal;
 use crate::set::ZSet;
-use crate::set::change_counts::Outline;
+use crate::set::change_outline::Outline;
 use resp_wire::Reply;
 use std::alloc::Allocator;
 use std::hash::BuildHasher;

@@ -2,7 +2,7 @@
 ghost use Rattle.std.specs.Prelude.{◌≡◌, None, Some, IfOk, IfErr, OnErr, IsSome};
 ghost use Rattle.resp_wire.specs.Response.{response_of};
 ghost use Rattle.zset_core.specs.CommandRequest.{key_of};
-ghost use Rattle.zset_core.specs.OwnerInvariant.{world_of, set_in, AllRest};
+ghost use Rattle.zset_core.specs.OwnerEntries.{world_of, set_in, AllRest};
 ghost use Rattle.zset_core.specs.Refusal.{IsRefused};
 ghost use Rattle.zset_core.specs.Semantics.{step};
 ghost use Rattle.zset_core.specs.World.{act_at};
@@ -16,7 +16,7 @@ use std::alloc::Allocator;
 use std::hash::BuildHasher;
 
 /// Runs a command on the set of its key.
-fn run_set<H: BuildHasher, A: Allocator + Copy>(
+pub fn run_set<H: BuildHasher, A: Allocator + Copy>(
     set: &mut ZSet<H, A>,
     command: &Command<A>,
 ) -> Result<Reply<A>, Refusal>
@@ -86,7 +86,7 @@ pub fn run_at<H: BuildHasher + Clone + Drop, A: Allocator + Copy>(
     match sets.get_mut(key) {
         None => run_absent(alloc, hasher, sets, key, command),
         Some(set) => {
-            let ran = run_set(set, command);
+            let ran = set.run(command);
             if set.card() == 0 {
                 sets.remove(key);
             }

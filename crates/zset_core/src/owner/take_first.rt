@@ -2,7 +2,7 @@
 
 ghost use Rattle.std.specs.Prelude.{◌≡◌, ◌∷◌, [], None, IfSome, MatchOption};
 ghost use Rattle.std.specs.FinMap as map;
-ghost use Rattle.zset_core.specs.OwnerInvariant.{IsAfter, IsRising};
+ghost use Rattle.zset_core.specs.OwnerEntries.{IsAfter, IsRising};
 ghost use Rattle.zset_core.specs.Taken.{IsFirst};
 
 use crate::owner::OneOwner;
@@ -37,5 +37,8 @@ fn pop_first<H: BuildHasher + Drop, A: Allocator + Copy>(
     ensures ordered { IsRising sets.old.entries }
 {
     let _count = sets.len();
-    sets.pop_first()
+    match sets.pop_first() {
+        None => None,
+        Some((key, kept)) => Some((key, kept.into_set())),
+    }
 }

@@ -5,10 +5,10 @@ ghost use Rattle.resp_wire.specs.Response.{Array, Integer, response_of};
 ghost use Rattle.ripple_column.specs.Content.{Holds, IsUnchanged, SameContent};
 ghost use Rattle.zset_core.specs.CommandRequest.{is_writing, key_of};
 ghost use Rattle.zset_core.specs.ColumnEffects.{NarrowsFor, Reads};
-ghost use Rattle.zset_core.specs.AnswersWithoutCracking.{IsReadyFor};
+ghost use Rattle.zset_core.specs.ReadyCommands.{IsReadyFor};
 ghost use Rattle.zset_core.specs.SortedSet.{Members, listing, pairs};
 ghost use Rattle.zset_core.specs.Semantics.{elements, apply_limit, step};
-ghost use Rattle.zset_core.specs.MemberEntries.{current_score, members_by, IsSettled, same_bytes};
+ghost use Rattle.zset_core.specs.StagedEntries.{current_score, members_by, IsSettled, same_bytes};
 
 use crate::command::Command;
 use crate::command::limit::Limit;
@@ -17,7 +17,7 @@ use crate::query::listing::elements_of;
 use crate::query::window::{
     is_wide_window, narrow_window, piece_end, piece_start, ranks_of, shown_rows, window_of,
 };
-use crate::score_replies::{count_reply, score_reply};
+use crate::score_and_count_replies::{count_reply, score_reply};
 use crate::set::member_map::{MemberMap, card_of, score_of};
 use resp_wire::Reply;
 use ripple_column::Column;

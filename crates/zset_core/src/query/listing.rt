@@ -2,10 +2,10 @@
 ghost use Rattle.std.specs.Prelude.{◌≡◌, ◌++◌, ◌∷◌, [], OnOk, IfOk};
 ghost use Rattle.zset_core.specs.SortedSet.{whole};
 ghost use Rattle.zset_core.specs.Semantics.{elements};
-ghost use Rattle.zset_core.specs.MemberEntries.{current_score, members_by};
+ghost use Rattle.zset_core.specs.StagedEntries.{current_score, members_by};
 ghost use Rattle.zset_core.specs.BorrowedPairs.{entry_pairs, pairs_of};
 
-use crate::score_replies::score_bytes;
+use crate::score_and_count_replies::score_bytes;
 use crate::set::member_map::MemberMap;
 use crack_kernel::Row;
 use resp_wire::{Bytes, BytesList};
@@ -19,7 +19,7 @@ fn pairs_in<'a, H: BuildHasher, A: Allocator + Copy>(
 ) -> Result<Vec<(i64, &'a [u8]), A>, AllocError>
     ensures { IfOk result (λ pairs. pairs_of pairs.items ≡ entry_pairs members.now.entries) }
 {
-    let mut pairs = Vec::new(alloc);
+    let mut pairs = Vec::with_capacity(alloc, members.len())?;
     for place in 0..members.len() {
         match members.get_index(place) {
             None => unreachable!(),
@@ -69,7 +69,8 @@ pub fn elements_of<A: Allocator + Copy>(
 ) -> Result<BytesList<A>, AllocError>
     ensures { IfOk result (λ list. list ≡ elements with_scores (pairs_of pairs.now)) }
 {
-    let mut list = Vec::new(alloc);
+    let elements_each = if with_scores { 2 } else { 1 };
+    let mut list = Vec::with_capacity(alloc, pairs.len().saturating_mul(elements_each))?;
     for (score, member) in pairs {
         put_elements(alloc, &mut list, with_scores, *score, member)?;
     }
@@ -83,7 +84,7 @@ fn rows_of<A: Allocator + Copy>(
 ) -> Result<Vec<Row<A>, A>, AllocError>
     ensures { IfOk result (λ rows. rows.items ≡ pairs_of pairs.now) }
 {
-    let mut rows = Vec::new(alloc);
+    let mut rows = Vec::with_capacity(alloc, pairs.len())?;
     for (score, member) in pairs {
         rows.push(Row::new(*score, Vec::from_slice(alloc, member)?))?;
     }

@@ -6,7 +6,7 @@ ghost use Rattle.zset_core.specs.ColumnEffects.{Narrows};
 ghost use Rattle.zset_core.specs.SortedSet.{Pair};
 ghost use Rattle.zset_core.specs.Semantics.{from_offset, at_most, apply_limit};
 ghost use Rattle.zset_core.specs.BorrowedPairs.{pairs_of, shown_cmp};
-ghost use Rattle.zset_core.specs.RankWindow.{IsPart, IsPieceStart, IsPieceEnd};
+ghost use Rattle.zset_core.specs.WindowPieces.{IsPart, IsPieceStart, IsPieceEnd};
 
 use crate::command::limit::Limit;
 use crack_kernel::Row;

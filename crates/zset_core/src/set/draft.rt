@@ -6,11 +6,11 @@ ghost use Rattle.zset_core.specs.declared.set.member_map.ScoreSlot.{ScoreSlot as
 ghost use Rattle.zset_core.specs.Semantics.{outcome_of, counted, put_one, put_all, count_all, increase_reply};
 ghost use Rattle.zset_core.specs.ParsedForm.{given_pairs};
 ghost use Rattle.zset_core.specs.RowEdits.{Notes};
-ghost use Rattle.zset_core.specs.MemberEntries.{current_score, staged_score, rows_by, members_by, slot_at, slots, IsSettled, IsWaiting, Grows};
+ghost use Rattle.zset_core.specs.StagedEntries.{current_score, staged_score, rows_by, members_by, slot_at, slots, IsSettled, IsWaiting, Grows};
 ghost use Rattle.resp_wire.specs.Response.{response_of};
 
 use crate::command::given_pairs::GivenPairs;
-use crate::score_replies::increase_reply;
+use crate::score_and_count_replies::increase_reply;
 use crate::set::member_map::{MemberMap, ScoreSlot, discard_staged, find_slot};
 use crate::set::pair_outcome::{Flags, Outcome};
 use crate::set::row_edits::Edits;

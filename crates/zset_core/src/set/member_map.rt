@@ -4,7 +4,7 @@
 ghost use Rattle.std.specs.Prelude.{◌≡◌, ◌<◌, ◌^◌, Some, slice_get, option_map, IfSome};
 ghost use Rattle.std.specs.FinMap as map;
 ghost use Rattle.indexmap.specs.IndexMap.{IsUnique};
-ghost use Rattle.zset_core.specs.MemberEntries.{current_score, staged_score, rows_by, members_by, slot_at, slots, same_bytes, IsSettled, IsWaiting, bytes_of};
+ghost use Rattle.zset_core.specs.StagedEntries.{current_score, staged_score, rows_by, members_by, slot_at, slots, same_bytes, IsSettled, IsWaiting, bytes_of};
 ghost use Rattle.zset_core.specs.Semantics.{remove_all};
 
 use indexmap::IndexMap;

@@ -2,7 +2,7 @@
 ghost use Rattle.std.specs.Prelude.{◌≡◌, ◌+◌, length, IfOk, OnOk};
 ghost use Rattle.std.specs.FinMap as map;
 ghost use Rattle.zset_core.specs.Semantics.{remove_all};
-ghost use Rattle.zset_core.specs.MemberEntries.{current_score, members_by, bytes_of};
+ghost use Rattle.zset_core.specs.StagedEntries.{current_score, members_by, bytes_of};
 ghost use Rattle.zset_core.specs.RowEdits.{Notes};
 ghost use Rattle.zset_core.specs.RemovalSearch.{AreFound};
 

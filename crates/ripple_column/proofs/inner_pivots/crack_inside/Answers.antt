@@ -1,7 +1,7 @@
 use Rattle.std.proofs.Common.{◌≡◌, ◌∷◌, ◌∙◌, true, ℤ, ℕ, List, IsPermutation, vec_capacity, ap, sym, arith}
 use Rattle.std.proofs.lemmas.List.Sorted.{length_permutation}
 use Rattle.crack_kernel.specs.PivotList.{PivotList}
-use Rattle.ripple_column.specs.InnerPivots.{IsAmong}
+use Rattle.ripple_column.specs.ShownPivots.{IsAmong}
 use Rattle.ripple_column.proofs.InnerPivots.{found_more, shown_own}
 use Rattle.ripple_column.proofs.Values.{Contains-added}
 use Rattle.ripple_column.proofs.inner_pivots.crack_inside.Goals as goal

@@ -1,45 +1,39 @@
-use Rattle.std.proofs.Common.{◌∙◌, true, sym, arith}
-use Rattle.std.proofs.lemmas.Bool.{false≢true}
+use Rattle.std.proofs.Common.{◌∙◌, ◌&&◌, not, arith}
 use Rattle.crack_kernel.specs.RowBag.{Test}
 use Rattle.ripple_column.specs.Content.{has_score_in}
-use Rattle.ripple_column.proofs.Counts.{count_all, count_split}
-use Rattle.ripple_column.proofs.Frames.{KeepsFrame-more}
+use Rattle.ripple_column.proofs.Counts.{count_moved}
 use Rattle.ripple_column.proofs.merge.merge_range.Goals as goal
 
-pub merge_insertions-requires : goal.merge_insertions-requires
-merge_insertions-requires g c =
-    let w : Test = has_score_in c.args.range.now in
-    let t : Test = λ r. true in
-    let m = c.merge_many.ensures in
-    let d = c.merge_deletions.ensures in
-    let all = m.merges.content t in
-    let gone = d.content t in
-    let less_m = m.merges.less_deletions t in
-    let less_d = d.less t in
-    let rows0 = count_all c.args.cracked.now.rows.items in
-    let rows2 = count_all c.merge_deletions.new.cracked.rows.items in
-    let split0 = count_split t w c.args.pending.now.insertions.items in
-    let split1 = count_split t w c.merge_many.new.pending.insertions.items in
-    let waits = m.waiting_insertions t in
-    omega (arith, all, gone, less_m, less_d, rows0, rows2, split0, split1, waits, m.frame.capacity, d.frame.capacity, c.requires.room)
+pub merge_gathered-requires-clause-part : goal.merge_gathered-requires-clause-part
+merge_gathered-requires-clause-part g c p =
+    let moved = count_moved p c.args.pending.now.deletions.items c.gather-tails.new.self.deletions.items c.gather-tails.ensures.deletions in
+    omega (arith, moved, c.requires.part p)
+
+pub merge_gathered-requires-clause-room : goal.merge_gathered-requires-clause-room
+merge_gathered-requires-clause-room g c =
+    let moved = count_moved (has_score_in c.args.range.now) c.args.pending.now.insertions.items c.gather-tails.new.self.insertions.items c.gather-tails.ensures.insertions in
+    omega (arith, moved, c.requires.room)
 
 pub returns-clause-merges : goal.returns-clause-merges
 returns-clause-merges g c =
-    let m = c.merge_many.ensures.merges in
-    let d = c.merge_deletions.ensures in
-    let i = c.merge_insertions.ensures in
+    let m = c.merge_gathered.ensures.merges in
+    let a = λ (p : Test). count_moved p c.args.pending.now.deletions.items c.gather-tails.new.self.deletions.items c.gather-tails.ensures.deletions in
+    let b = λ (p : Test). count_moved p c.args.pending.now.insertions.items c.gather-tails.new.self.insertions.items c.gather-tails.ensures.insertions in
     record {
-      content = λ p. omega (arith, m.content p, d.content p, i.content p);
-      part = λ p. omega (arith, d.part p, i.content p, i.less p);
-      less_deletions = λ p. omega (arith, d.less p, m.less_deletions p);
-      less_insertions = λ p. omega (arith, i.less p, m.less_insertions p);
+      content = λ p. let a' = a p in let b' = b p in omega (arith, a', b', m.content p);
+      part = m.part;
+      less_deletions = λ p. let a' = a p in omega (arith, a', m.less_deletions p);
+      less_insertions = λ p. let b' = b p in omega (arith, b', m.less_insertions p);
     }
 
 pub returns-clause-waiting_deletions : goal.returns-clause-waiting_deletions
-returns-clause-waiting_deletions g c p = c.merge_deletions.ensures.waiting p ∙ c.merge_many.ensures.waiting_deletions p
+returns-clause-waiting_deletions g c p =
+    let w : Test = has_score_in c.args.range.now in
+    c.merge_gathered.ensures.waiting_deletions p
+    ∙ count_moved (λ r. p r && not (w r)) c.args.pending.now.deletions.items c.gather-tails.new.self.deletions.items c.gather-tails.ensures.deletions
 
 pub returns-clause-waiting_insertions : goal.returns-clause-waiting_insertions
-returns-clause-waiting_insertions g c p = c.merge_insertions.ensures.waiting p ∙ c.merge_many.ensures.waiting_insertions p
-
-pub returns-clause-frame : goal.returns-clause-frame
-returns-clause-frame g c = KeepsFrame-more c.merge_many.ensures.frame (KeepsFrame-more c.merge_deletions.ensures.frame c.merge_insertions.ensures.frame)
+returns-clause-waiting_insertions g c p =
+    let w : Test = has_score_in c.args.range.now in
+    c.merge_gathered.ensures.waiting_insertions p
+    ∙ count_moved (λ r. p r && not (w r)) c.args.pending.now.insertions.items c.gather-tails.new.self.insertions.items c.gather-tails.ensures.insertions

@@ -1,4 +1,4 @@
-use Rattle.ripple_column.specs.InnerPivots.{IsAmong}
+use Rattle.ripple_column.specs.ShownPivots.{IsAmong}
 use Rattle.ripple_column.specs.InnerCrackEffects.{shown}
 use Rattle.ripple_column.proofs.InnerPivots.{among_found, among_own, found_own}
 use Rattle.ripple_column.proofs.Values.{IsUncracked-kept}

@@ -1,6 +1,5 @@
 use Rattle.std.proofs.Common.{Option, Ok, Err, refl, ◌∙◌, ap}
-use Rattle.zcrackd.specs.FileFinish as files
-use Rattle.zcrackd.specs.Finish.{noticed}
+use Rattle.zcrackd.specs.Finish.{finish_by, noticed}
 use Rattle.zcrackd.specs.declared.finish.Line.{Line}
 use Rattle.zcrackd.proofs.file.rewrite_run.Goals as goal
 
@@ -9,7 +8,7 @@ returns-in-Err g c = record {
   old = Err c.in-Err.fault;
   world = c.open_to_read.new.owner.world;
   opened = rw c.new-owner.ensures.world at c.in-Err.ensures.fails;
-  ended = (refl, c.file_fault.ensures ∙ ap files.file_fault c.open_line.ensures);
+  ended = (refl, c.by.ensures ∙ ap finish_by c.open_line.ensures);
 }
 
 pub returns : goal.returns

@@ -1,6 +1,5 @@
 use Rattle.std.proofs.Common.{Option, Ok, Err, refl, ◌∙◌, ap}
-use Rattle.zcrackd.specs.FileFinish as files
-use Rattle.zcrackd.specs.Finish.{noticed}
+use Rattle.zcrackd.specs.Finish.{finish_by, noticed}
 use Rattle.zcrackd.specs.declared.finish.Line.{Line}
 use Rattle.zcrackd.proofs.file.serve_file.Goals as goal
 
@@ -11,7 +10,7 @@ returns-in-Err g c =
       file = Err cause.0;
       world = c.open_file.new.owner.world;
       opened = cause.2;
-      served = (refl, refl, c.file_fault.ensures ∙ ap files.file_fault cause.1);
+      served = (refl, refl, c.by.ensures ∙ ap finish_by cause.1);
     }
 
 pub returns : goal.returns

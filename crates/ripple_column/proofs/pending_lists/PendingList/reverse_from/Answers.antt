@@ -2,4 +2,4 @@ use Rattle.ripple_column.proofs.Marking.{covers_moved}
 use Rattle.ripple_column.proofs.pending_lists.PendingList.reverse_from.Goals as goal
 
 pub invariant_of-self : goal.invariant_of-self
-invariant_of-self g c = covers_moved _ _ _ c.reverse_tail.ensures.rows c.self.invariant
+invariant_of-self g c = covers_moved _ _ _ c.reverse_from.ensures.rows c.self.invariant

@@ -19,7 +19,7 @@ other_fault : OutOfStep ≡ MissingPass → ⊥
 other_fault e = cc
 
 pub compare_names-requires : goal.compare_names-requires
-compare_names-requires g c = record { own = λ i less. subst (λ (v : TableView). AreNotesOf v.cells (pass_at c.args.passes.items i).notes) (sym c.self.view_is) (c.requires.own i less).notes }
+compare_names-requires g c = record { own = λ i less. subst (λ (v : TableView). AreNotesOf v.names (pass_at c.args.passes.items i).notes) (sym c.self.view_is) (c.requires.own i less).notes }
 
 pub returns-then-not-put_in_order-clause-missing : goal.returns-then-not-put_in_order-clause-missing
 returns-then-not-put_in_order-clause-missing g c = (
@@ -39,12 +39,12 @@ returns-in-Some-clause-totals g c =
 
 pub returns-in-Some-clause-agree : goal.returns-in-Some-clause-agree
 returns-in-Some-clause-agree g c =
-    subst (λ (v : TableView). (place : ℕ) → place < length v.cells → AgreeAt c.args.passes.items place) c.self.view_is c.compare_names.ensures.agree
+    subst (λ (v : TableView). (place : ℕ) → place < length v.names → AgreeAt c.args.passes.items place) c.self.view_is c.compare_names.ensures.agree
 
 pub returns-in-Some-clause-one_place : goal.returns-in-Some-clause-one_place
 returns-in-Some-clause-one_place g c =
     one_place (length c.self.inside.names) c.args.passes.items c.compare_names.ensures.agree
-    (λ i less. (c.requires.own i less).notes.places ∙ ap (λ (v : TableView). length v.cells) (sym c.self.view_is))
+    (λ i less. (c.requires.own i less).notes.places ∙ ap (λ (v : TableView). length v.names) (sym c.self.view_is))
 
 pub returns-in-Some-clause-numbered : goal.returns-in-Some-clause-numbered
 returns-in-Some-clause-numbered g c =

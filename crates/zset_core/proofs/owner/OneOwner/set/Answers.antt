@@ -1,11 +1,9 @@
-use Rattle.zset_core.specs.Views.{IsSetAt, HasNoSet}
-use Rattle.zset_core.specs.OwnerInvariant.{set_in}
-use Rattle.zset_core.proofs.OwnerViews.{match_of, view_some, view_none}
+use Rattle.std.proofs.Common.{sym}
+use Rattle.zset_core.proofs.OwnerViews.{view_some, view_none}
 use Rattle.zset_core.proofs.owner.OneOwner.set.Goals as goal
 
-pub returns : goal.returns
-returns g c =
-    let es = c.self.inside.sets.entries in
-    let q = c.args.key.now in
-    match_of c.get.result (set_in es q) (HasNoSet c.args.self.now q) (λ s. IsSetAt c.args.self.now q s) c.get.ensures.value
-    (view_none es c.self.inside.asked c.args.self.now q c.self.view_is c.self.invariant.0) (λ s. view_some es c.self.inside.asked c.args.self.now q s c.self.view_is c.self.invariant.0)
+pub returns-in-None : goal.returns-in-None
+returns-in-None g c = view_none c.self.inside.sets.entries c.self.inside.asked c.args.self.now c.args.key.now c.self.view_is c.self.invariant.0 (sym c.in-None.ensures.value)
+
+pub returns-in-Some : goal.returns-in-Some
+returns-in-Some g c = rw c.get-in-Some.ensures (view_some c.self.inside.sets.entries c.self.inside.asked c.args.self.now c.args.key.now c.in-Some.kept.now c.self.view_is c.self.invariant.0 (sym c.in-Some.ensures.value))

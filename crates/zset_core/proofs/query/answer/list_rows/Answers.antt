@@ -1,6 +1,6 @@
 use Rattle.std.proofs.Common.{refl, List, ◌+◌, ◌-◌, ap, subst, ◌∙◌}
 use Rattle.zset_core.specs.BorrowedPairs.{Shown, pairs_of}
-use Rattle.zset_core.specs.RankWindow.{IsPart}
+use Rattle.zset_core.specs.WindowPieces.{IsPart}
 use Rattle.resp_wire.specs.Response.{Array}
 use Rattle.zset_core.specs.Semantics.{elements}
 use Rattle.zset_core.proofs.Windows.{limited_window, limited_nothing, places_rise}

@@ -1,4 +1,4 @@
-use Rattle.zset_core.specs.MemberEntries.{current_score, members_by}
+use Rattle.zset_core.specs.StagedEntries.{current_score, members_by}
 use Rattle.zset_core.specs.Semantics.{step}
 use Rattle.zset_core.proofs.Planning.{IsIdle-of, IsPlanned-made, members_idle, outline_left, few_added, column_shown, still_shown}
 use Rattle.zset_core.proofs.set.ZSet.prepare.Goals as goal

@@ -1,5 +1,5 @@
 use Rattle.std.proofs.Common.{◌∙◌, refl, rules, get_or, SFits, w64, to_z, of_z, to_z-of_z}
-use Rattle.zset_core.specs.MemberEntries.{staged_score}
+use Rattle.zset_core.specs.StagedEntries.{staged_score}
 use Rattle.zset_core.specs.declared.set.member_map.ScoreSlot.{ScoreSlot}
 use Rattle.zset_core.proofs.Staging.{rows_kept, IsWaiting-next}
 use Rattle.zset_core.proofs.set.member_map.adopt_staged.Goals as goal

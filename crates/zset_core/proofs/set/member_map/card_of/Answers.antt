@@ -1,5 +1,5 @@
 use Rattle.std.proofs.Common.{◌∙◌, sym}
-use Rattle.zset_core.specs.MemberEntries.{current_score}
+use Rattle.zset_core.specs.StagedEntries.{current_score}
 use Rattle.zset_core.proofs.Bridge.{len_members}
 use Rattle.zset_core.proofs.set.member_map.card_of.Goals as goal
 

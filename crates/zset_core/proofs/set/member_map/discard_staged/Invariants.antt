@@ -1,5 +1,5 @@
 use Rattle.std.proofs.Common.{◌≡◌, drop}
-use Rattle.zset_core.specs.MemberEntries.{current_score, rows_by, IsWaiting}
+use Rattle.zset_core.specs.StagedEntries.{current_score, rows_by, IsWaiting}
 use Rattle.zset_core.proofs.set.member_map.discard_staged.Given as goal
 
 abbrev pub invariant-loop-place : goal.invariant-loop-place

@@ -1,5 +1,5 @@
 use Rattle.std.proofs.Common.{◌∙◌, sym, ap, option_map}
-use Rattle.zset_core.specs.MemberEntries.{staged_score}
+use Rattle.zset_core.specs.StagedEntries.{staged_score}
 use Rattle.zset_core.proofs.Bridge.{get_members}
 use Rattle.zset_core.proofs.Staging.{place_of}
 use Rattle.zset_core.proofs.set.member_map.find_slot.Goals as goal

@@ -1,5 +1,5 @@
 use Rattle.std.proofs.Common.{◌∙◌, sym, ap, Some, w64, SFits, rules, to_z-of_z, option_map}
-use Rattle.zset_core.specs.MemberEntries.{current_score}
+use Rattle.zset_core.specs.StagedEntries.{current_score}
 use Rattle.zset_core.proofs.Bridge.{get_members}
 use Rattle.zset_core.proofs.set.member_map.score_of.Goals as goal
 

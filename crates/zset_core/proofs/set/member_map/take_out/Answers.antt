@@ -1,6 +1,6 @@
 use Rattle.std.proofs.Common.{◌∙◌, sym, ap, drop, ◌+◌}
 use Rattle.std.specs.FinMap as map
-use Rattle.zset_core.specs.MemberEntries.{current_score, members_by, bytes_of}
+use Rattle.zset_core.specs.StagedEntries.{current_score, members_by, bytes_of}
 use Rattle.zset_core.specs.SortedSet.{Members}
 use Rattle.zset_core.specs.Semantics.{remove_all}
 use Rattle.zset_core.proofs.Staging.{members_gone, remove_step, IsSettled-gone}

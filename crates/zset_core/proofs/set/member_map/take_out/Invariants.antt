@@ -1,5 +1,5 @@
 use Rattle.std.proofs.Common.{◌≡◌, drop}
-use Rattle.zset_core.specs.MemberEntries.{current_score, members_by, bytes_of, IsSettled}
+use Rattle.zset_core.specs.StagedEntries.{current_score, members_by, bytes_of, IsSettled}
 use Rattle.zset_core.specs.Semantics.{remove_all}
 use Rattle.zset_core.proofs.set.member_map.take_out.Given as goal
 

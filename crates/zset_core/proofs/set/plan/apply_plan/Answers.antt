@@ -2,7 +2,7 @@ use Rattle.std.proofs.Common.{◌∙◌, sym, ap, List, ℕ, ℤ}
 use Rattle.std.specs.FinMap as fin
 use Rattle.zset_core.specs.SortedSet.{Members}
 use Rattle.zset_core.specs.Semantics.{remove_all}
-use Rattle.zset_core.specs.MemberEntries.{current_score, members_by, bytes_of}
+use Rattle.zset_core.specs.StagedEntries.{current_score, members_by, bytes_of}
 use Rattle.zset_core.proofs.Staging.{members_same}
 use Rattle.zset_core.proofs.set.plan.apply_plan.Goals as goal
 

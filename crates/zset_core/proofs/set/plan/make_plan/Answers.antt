@@ -1,4 +1,4 @@
-use Rattle.zset_core.specs.MemberEntries.{current_score, members_by}
+use Rattle.zset_core.specs.StagedEntries.{current_score, members_by}
 use Rattle.zset_core.specs.Semantics.{step}
 use Rattle.zset_core.proofs.Planning.{Prepares-some, room_fits}
 use Rattle.zset_core.proofs.set.plan.make_plan.Goals as goal

@@ -4,7 +4,7 @@ use Rattle.resp_wire.specs.Response.{Integer}
 use Rattle.zset_core.specs.ParsedForm.{scored}
 use Rattle.zset_core.specs.SortedSet.{Members}
 use Rattle.zset_core.specs.Semantics.{put_all, count_all, remove_all}
-use Rattle.zset_core.specs.MemberEntries.{current_score, staged_score, members_by, bytes_of}
+use Rattle.zset_core.specs.StagedEntries.{current_score, staged_score, members_by, bytes_of}
 use Rattle.zset_core.proofs.Outlines.{outline_same, before, before_grown}
 use Rattle.zset_core.proofs.Staging.{members_same}
 use Rattle.zset_core.proofs.Bags.{HasAtMost-noted, Turns-between, IsFew-noted}

@@ -1,6 +1,6 @@
 use Rattle.std.proofs.Common.{◌∙◌, sym, ap, subst, refl, List, ℕ}
 use Rattle.zset_core.specs.Semantics.{remove_all}
-use Rattle.zset_core.specs.MemberEntries.{current_score, staged_score, members_by, bytes_of, IsWaiting}
+use Rattle.zset_core.specs.StagedEntries.{current_score, staged_score, members_by, bytes_of, IsWaiting}
 use Rattle.zset_core.proofs.Outlines.{nothing_outline}
 use Rattle.zset_core.proofs.Staging.{members_same, Grows-self, IsWaiting-none}
 use Rattle.zset_core.proofs.Bags.{HasAtMost-none, Turns-none, IsFew-none}

@@ -3,7 +3,7 @@ use Rattle.std.specs.FinMap as map
 use Rattle.resp_wire.specs.Response.{Integer}
 use Rattle.zset_core.specs.SortedSet.{Members}
 use Rattle.zset_core.specs.Semantics.{remove_all}
-use Rattle.zset_core.specs.MemberEntries.{current_score, members_by, bytes_of, IsWaiting}
+use Rattle.zset_core.specs.StagedEntries.{current_score, members_by, bytes_of, IsWaiting}
 use Rattle.zset_core.proofs.Outlines.{gathered_outline}
 use Rattle.zset_core.proofs.Staging.{members_same, Grows-self, IsWaiting-none}
 use Rattle.zset_core.proofs.Bags.{HasAtMost-gone, Turns-noted, IsFew-noted}

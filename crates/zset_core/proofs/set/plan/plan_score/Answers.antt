@@ -3,7 +3,7 @@ use Rattle.std.specs.FinMap as map
 use Rattle.zset_core.specs.SortedSet.{Members}
 use Rattle.zset_core.specs.RowEdits.{HasAtMost}
 use Rattle.zset_core.specs.Semantics.{counted, put_one, remove_all, increase_reply, outcome_of}
-use Rattle.zset_core.specs.MemberEntries.{current_score, staged_score, members_by, bytes_of}
+use Rattle.zset_core.specs.StagedEntries.{current_score, staged_score, members_by, bytes_of}
 use Rattle.zset_core.proofs.Outlines.{outline_same, before, before_grown}
 use Rattle.zset_core.proofs.Staging.{members_same}
 use Rattle.zset_core.proofs.Bags.{HasAtMost-noted, Turns-between, IsFew-noted}

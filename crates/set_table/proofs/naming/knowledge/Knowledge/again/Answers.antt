@@ -1,17 +1,20 @@
 use Rattle.std.proofs.Common.{List, ◌∙◌, sym, subst}
+use Rattle.std.proofs.Common.{ℕ}
 use Rattle.std.specs.declared.option.Option.{Option}
-use Rattle.set_table.specs.KeyMemory.{AllMet}
-use Rattle.set_table.specs.Naming.{NotesView}
+use Rattle.set_table.specs.KeyMemory.{AllMet, AllHashed}
 use Rattle.set_table.specs.declared.naming.memory.MetKey.{MetKey}
+use Rattle.set_table.proofs.MemoryLemmas.{both_same}
 use Rattle.set_table.proofs.naming.knowledge.Knowledge.again.Goals as goal
 
 pub invariant_of-self : goal.invariant_of-self
-invariant_of-self c = subst (λ (v : NotesView). AllMet v.known c.self.inside.memory.slots.items) (sym c.again.ensures.same) c.self.invariant
+invariant_of-self c = both_same c.self.inside.notes c.again.new.self c.self.inside.memory.slots.items c.self.inside.hashes.hashes.items c.again.ensures.same c.self.invariant
 
 pub invariant_of-result : goal.invariant_of-result
 invariant_of-result c =
-    subst (λ (v : NotesView). AllMet v.known c.in_ok-slots.slots.items) (sym c.in_ok-again.ensures.copy)
-    (subst (λ (slots : List (Option MetKey)). AllMet c.self.inside.notes.known slots) (sym (c.in_ok-slots.ensures.items ∙ c.deref.ensures.value)) c.self.invariant)
+    both_same c.self.inside.notes _ c.in_ok-slots.slots.items c.in_ok-hashes.hashes.items c.in_ok-again.ensures.copy (
+      subst (λ (slots : List (Option MetKey)). AllMet c.self.inside.notes.known slots) (sym (c.in_ok-slots.ensures.items ∙ c.deref.ensures.value)) c.self.invariant.0,
+      subst (λ (hashes : List ℕ). AllHashed c.self.inside.notes.known hashes) (sym (c.in_ok-hashes.ensures.items ∙ c.deref-2.ensures.value)) c.self.invariant.1,
+    )
 
 pub invariant_of-self-2 : goal.invariant_of-self-2
-invariant_of-self-2 c = subst (λ (v : NotesView). AllMet v.known c.self.inside.memory.slots.items) (sym c.again.ensures.same) c.self.invariant
+invariant_of-self-2 c = both_same c.self.inside.notes c.again.new.self c.self.inside.memory.slots.items c.self.inside.hashes.hashes.items c.again.ensures.same c.self.invariant

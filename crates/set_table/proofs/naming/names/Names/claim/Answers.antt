@@ -1,18 +1,15 @@
 use Rattle.std.proofs.Common.{sym, subst}
-use Rattle.set_table.specs.Naming.{NotesView, Grows}
+use Rattle.set_table.specs.Naming.{NotesView, Grows, IsPlace}
 use Rattle.set_table.proofs.NameLemmas.{grows_on}
-use Rattle.set_table.proofs.MemoryLemmas.{met_grows, met_more}
+use Rattle.set_table.proofs.MemoryLemmas.{met_more}
 use Rattle.set_table.proofs.naming.names.Names.claim.Goals as goal
 
 pub invariant_of-known : goal.invariant_of-known
-invariant_of-known c = met_grows c.known.inside.notes.known c.claim_by_walk.new.notes.known c.known.inside.memory.slots.items c.claim_by_walk.ensures.grows c.known.invariant
-
-pub invariant_of-known-2 : goal.invariant_of-known-2
-invariant_of-known-2 c =
-    met_more c.claim_by_walk.new.notes.known c.known.inside.memory.slots.items c.remember.new.self.slots.items c.in_ok-place.place (c.args.key.now, c.in_ok-place.ensures.ok) c.remember.ensures
-    (met_grows c.known.inside.notes.known c.claim_by_walk.new.notes.known c.known.inside.memory.slots.items c.claim_by_walk.ensures.grows c.known.invariant)
+invariant_of-known c =
+    let place = subst (λ (v : NotesView). IsPlace v.known c.args.key.now c.in_ok-place.place) (sym c.known.view_is) c.in_ok-place.ensures.ok in
+    (met_more c.known.inside.notes.known c.known.inside.memory.slots.items c.remember.new.self.slots.items c.in_ok-place.place (c.args.key.now, place) c.remember.ensures c.known.invariant.0, c.known.invariant.1)
 
 pub returns-clause-grows : goal.returns-clause-grows
 returns-clause-grows c =
-    grows_on c.args.known.now.known c.known.inside.notes.known c.claim_by_walk.new.notes.known
-    (subst (λ (v : NotesView). Grows c.args.known.now.known v.known) (sym c.known.view_is) c.recall.ensures.grows) c.claim_by_walk.ensures.grows
+    subst (λ (v : NotesView). Grows c.args.known.now.known v.known) (sym c.known.view_is)
+    (grows_on c.args.known.now.known c.recall.new.known.known c.claim_by_walk.new.known.known c.recall.ensures.grows c.claim_by_walk.ensures.grows)

@@ -4,7 +4,7 @@ use Rattle.set_table.proofs.naming.names.Names.find_by_walk.Given as goal
 
 abbrev pub invariant-loop-step : goal.invariant-loop-step
 invariant-loop-step l = record {
-  own : AreNotesOf l.self l.notes;
-  grows : Grows l.fn.notes.known l.notes.known;
-  passed : Passed l.notes.known l.key l.step;
+  own : AreNotesOf l.self l.known;
+  grows : Grows l.fn.known.known l.known.known;
+  passed : Passed l.known.known l.key l.step;
 }

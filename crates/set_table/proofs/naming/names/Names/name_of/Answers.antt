@@ -7,15 +7,15 @@ use Rattle.set_table.proofs.naming.names.Names.name_of.Goals as goal
 pub get_as-requires : goal.get_as-requires
 get_as-requires c =
     same_cell (λ s. s.note.cell) cell_name c.notes.inside.places.items c.self.inside.names.items c.args.place c.index_mut-known.result.now c.index.result.now
-    (ap (λ v. v.cells) c.notes.view_is ∙ c.requires.own.cells_are ∙ sym c.self.view_is) (omega (arith, c.requires.within, ap length c.self.view_is, length-map c.self.inside.names.items cell_name)) c.index_mut-known.ensures.value c.index.ensures
+    (ap (λ v. v.names) c.notes.view_is ∙ c.requires.own.names_are ∙ sym c.self.view_is) (omega (arith, c.requires.within, ap length c.self.view_is, length-map c.self.inside.names.items cell_name)) c.index_mut-known.ensures.value c.index.ensures
 
 pub returns-clause-own : goal.returns-clause-own
 returns-clause-own c =
     still_own (λ s. s.note.cell) (λ s. s.note.known) cell_name c.notes.inside.places.items c.self.inside.names.items c.args.place c.index_mut-known.result.now _ c.args.self.now
-    c.index_mut-known.ensures.value c.get_as.ensures.cell (ap (λ v. v.cells) c.notes.view_is ∙ c.requires.own.cells_are)
+    c.index_mut-known.ensures.value c.get_as.ensures.cell (ap (λ v. v.names) c.notes.view_is ∙ c.requires.own.names_are)
 
 pub returns-clause-seen : goal.returns-clause-seen
 returns-clause-seen c = rw (← c.notes.view_is)
     (peeked (λ s. s.note.known) c.notes.inside.places.items c.args.place c.index_mut-known.result.now _ c.get_as.result
-    (omega (arith, c.requires.within, ap (λ v. length v.cells) c.notes.view_is, ap length c.requires.own.cells_are, length-map c.notes.inside.places.items (λ s. s.note.cell)))
+    (omega (arith, c.requires.within, ap (λ v. length v.names) c.notes.view_is, ap length c.requires.own.names_are, length-map c.notes.inside.places.items (λ s. s.note.cell)))
     c.index_mut-known.ensures.value c.get_as.ensures.value)

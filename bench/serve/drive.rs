@@ -1,0 +1,129 @@
+//! Clients of a server of sorted sets on loopback, each on a connection and a thread of its own:
+//! `drive WORK CONNECTIONS PIPELINED KEYS REQUESTS PORT PID`. All send PIPELINED requests, read their replies, and so on,
+//! until REQUESTS have been answered; before that, KEYS sets of 100,000 members together are loaded.
+//!
+//! Prints the requests a second, and the processor time of the server a request in nanoseconds.
+#[path = "../client.rs"]
+#[allow(dead_code)]
+mod client;
+
+use client::{read_reply, request, Random, Reply};
+use std::io::{self, BufReader, Write};
+use std::net::TcpStream;
+use std::sync::{Arc, Barrier};
+use std::time::Instant;
+
+/// Members of all sets together.
+const MEMBERS: u64 = 100_000;
+
+/// Scores lie below this.
+const SCORES: u64 = 10_000_000;
+
+#[derive(Clone)]
+struct Plan {
+    work: String,
+    pipelined: u64,
+    keys: u64,
+    port: u16,
+}
+
+impl Plan {
+    fn connect(&self) -> io::Result<TcpStream> {
+        let stream = TcpStream::connect(("127.0.0.1", self.port))?;
+        stream.set_nodelay(true)?;
+        Ok(stream)
+    }
+
+    fn key(&self, random: &mut Random) -> String {
+        format!("board:{}", random.below(self.keys))
+    }
+
+    /// Appends a request of the work.
+    fn ask(&self, random: &mut Random, out: &mut Vec<u8>) {
+        let key = self.key(random);
+        let member = format!("member:{}", random.below(MEMBERS));
+        let low = random.below(SCORES);
+        let (from, to) = (low.to_string(), (low + SCORES / MEMBERS * self.keys * 100).to_string());
+        match self.work.as_str() {
+            "zadd" => request(&["ZADD", &key, &from, &member], out),
+            "zscore" => request(&["ZSCORE", &key, &member], out),
+            "zcard" => request(&["ZCARD", &key], out),
+            "zcount" => request(&["ZCOUNT", &key, &from, "+inf"], out),
+            "ten_lowest" => request(&["ZRANGEBYSCORE", &key, "-inf", "+inf", "LIMIT", "0", "10"], out),
+            "ranges_of_100" => request(&["ZRANGEBYSCORE", &key, &from, &to], out),
+            work => panic!("no work of the name {work}"),
+        }
+    }
+
+    fn load(&self) -> io::Result<()> {
+        let mut random = Random(7);
+        let stream = self.connect()?;
+        let mut replies = BufReader::new(stream.try_clone()?);
+        for first in (0..MEMBERS).step_by(100) {
+            let mut words = vec![String::from("ZADD"), format!("board:{}", first / 100 % self.keys)];
+            for member in first..first + 100 {
+                words.extend([random.below(SCORES).to_string(), format!("member:{member}")]);
+            }
+            let mut out = Vec::new();
+            request(&words, &mut out);
+            (&stream).write_all(&out)?;
+            read_reply(&mut replies)?;
+        }
+        Ok(())
+    }
+
+    /// Sends requests and reads their replies; the number of error replies must be 0.
+    fn drive(&self, seed: u64, requests: u64, start: &Barrier) -> io::Result<()> {
+        let mut random = Random(seed);
+        let stream = self.connect()?;
+        let mut replies = BufReader::with_capacity(1 << 16, stream.try_clone()?);
+        start.wait();
+        let mut out = Vec::new();
+        for _ in 0..requests / self.pipelined {
+            out.clear();
+            for _ in 0..self.pipelined {
+                self.ask(&mut random, &mut out);
+            }
+            (&stream).write_all(&out)?;
+            for _ in 0..self.pipelined {
+                if let Reply::Line(line) = read_reply(&mut replies)? {
+                    assert!(!line.starts_with('-'), "{line}");
+                }
+            }
+        }
+        Ok(())
+    }
+}
+
+/// The processor time of a process, in nanoseconds.
+fn processor_time(pid: u32) -> io::Result<u64> {
+    let stat = std::fs::read_to_string(format!("/proc/{pid}/stat"))?;
+    let fields: Vec<&str> = stat[stat.rfind(')').unwrap_or(0)..].split(' ').collect();
+    let ticks: u64 = [12, 13].iter().map(|&at| fields[at].parse::<u64>().unwrap_or(0)).sum();
+    Ok(ticks * 10_000_000)
+}
+
+fn main() -> io::Result<()> {
+    let words: Vec<String> = std::env::args().skip(1).collect();
+    let number = |at: usize| words[at].parse::<u64>().expect("a number");
+    let (connections, requests, pid) = (number(1), number(4), number(6) as u32);
+    let plan = Plan { work: words[0].clone(), pipelined: number(2), keys: number(3), port: number(5) as u16 };
+    plan.load()?;
+    let start = Arc::new(Barrier::new(connections as usize + 1));
+    let each = requests / connections;
+    let threads: Vec<_> = (0..connections)
+        .map(|seed| {
+            let (plan, start) = (plan.clone(), start.clone());
+            std::thread::spawn(move || plan.drive(seed + 1, each, &start))
+        })
+        .collect();
+    start.wait();
+    let (began, before) = (Instant::now(), processor_time(pid)?);
+    for thread in threads {
+        thread.join().expect("a client ends")?;
+    }
+    let seconds = began.elapsed().as_secs_f64();
+    let answered = each / plan.pipelined * plan.pipelined * connections;
+    println!("{:.0} {}", answered as f64 / seconds, (processor_time(pid)? - before) / answered);
+    Ok(())
+}

@@ -1,0 +1,124 @@
+//! What `zcrackd serve` is asked for.
+
+use clap::builder::ValueParser;
+use clap::{Arg, ArgAction, ArgMatches, Command};
+use std::alloc::{AllocError, Global};
+
+/// Workers, each of which serves one connection at a time.
+const MAX_WORKERS: u64 = 64;
+
+/// Places of the table of sets.
+const MAX_PLACES: u64 = 4096;
+
+/// Records that a server appends to its file.
+const MAX_RECORDS: u64 = 1 << 40;
+
+/// Connections after which a server ends.
+const MAX_CONNECTIONS: u64 = 1_000_000;
+
+/// Seconds for which a connection may send or take nothing: a day.
+const MAX_TIMEOUT: u64 = 86_400;
+
+/// What a server is asked to do. Each number lies within the range that `--help` tells.
+#[derive(Clone, Copy, Debug, PartialEq, Eq)]
+pub struct ServeTask<'a> {
+    /// Where to listen, as the words have it.
+    pub listen: &'a str,
+    /// The append file that keeps the changes.
+    pub file: Option<&'a str>,
+    /// Workers: 1 to 64.
+    pub workers: usize,
+    /// Places for keys: 1 to 4,096.
+    pub places: usize,
+    /// Records that may be appended: 1 to 2^40.
+    pub max_records: u64,
+    /// Connections after which the server ends: 1 to 1,000,000.
+    pub connections: u64,
+    /// Seconds for which a connection may send or take nothing, or 0 for any time: 0 to 86,400.
+    pub timeout: u64,
+}
+
+fn listen_option<'a>(alloc: Global) -> Arg<'a> {
+    Arg::new(alloc, "listen")
+        .long("listen")
+        .value_name("IP:PORT")
+        .help("Where to listen, as 127.0.0.1:6380 or [::1]:6380; port 0 takes a free one")
+        .action(ArgAction::Set)
+        .required(true)
+}
+
+pub(crate) fn file_option<'a>(alloc: Global) -> Arg<'a> {
+    Arg::new(alloc, "file")
+        .long("file")
+        .value_name("PATH")
+        .help("Keeps the changes in this append file, which is made where it is missing")
+        .action(ArgAction::Set)
+}
+
+/// An option for a whole number from `least` to `most`.
+fn number_option<'a>(
+    alloc: Global,
+    name: &'static str,
+    help: &'static str,
+    least: u64,
+    most: u64,
+    default: &'static str,
+) -> Arg<'a> {
+    Arg::new(alloc, name)
+        .long(name)
+        .value_name("N")
+        .help(help)
+        .value_parser(ValueParser::unsigned(least, most))
+        .default_value(default)
+}
+
+fn workers_option<'a>(alloc: Global) -> Arg<'a> {
+    let help = "Workers, 1 to 64: a connection holds one until it ends, and the next client waits";
+    number_option(alloc, "workers", help, 1, MAX_WORKERS, "4")
+}
+
+fn places_option<'a>(alloc: Global) -> Arg<'a> {
+    let help =
+        "Places for keys, 1 to 4096: a key keeps its place, also when its set is empty again";
+    number_option(alloc, "places", help, 1, MAX_PLACES, "1024")
+}
+
+fn records_option<'a>(alloc: Global) -> Arg<'a> {
+    let help = "Records that may be appended, 1 to 1099511627776; further changes are refused";
+    number_option(alloc, "max-records", help, 1, MAX_RECORDS, "1000000000")
+}
+
+fn connections_option<'a>(alloc: Global) -> Arg<'a> {
+    let help = "Connections, 1 to 1000000, after which the server ends";
+    number_option(alloc, "connections", help, 1, MAX_CONNECTIONS, "100000")
+}
+
+fn timeout_option<'a>(alloc: Global) -> Arg<'a> {
+    let help =
+        "Ends a connection that sends or takes nothing for so many seconds, 0 to 86400; 0 is never";
+    number_option(alloc, "timeout", help, 0, MAX_TIMEOUT, "0")
+}
+
+pub(crate) fn serve_command<'a>(alloc: Global) -> Result<Command<'a>, AllocError> {
+    Command::new(alloc, "serve")
+        .about("Serves clients over TCP")
+        .arg(listen_option(alloc))?
+        .arg(file_option(alloc))?
+        .arg(workers_option(alloc))?
+        .arg(places_option(alloc))?
+        .arg(records_option(alloc))?
+        .arg(connections_option(alloc))?
+        .arg(timeout_option(alloc))
+}
+
+pub(crate) fn asked_serve<'a>(words: &ArgMatches<'a>) -> Option<ServeTask<'a>> {
+    Some(ServeTask {
+        listen: words.get_str("listen")?,
+        file: words.get_str("file"),
+        workers: words.get_one("workers")?,
+        places: words.get_one("places")?,
+        max_records: words.get_one("max-records")?,
+        connections: words.get_one("connections")?,
+        timeout: words.get_one("timeout")?,
+    })
+}

@@ -1,0 +1,5 @@
+use Rattle.ripple_column.proofs.Marking.{covers_moved}
+use Rattle.ripple_column.proofs.pending_lists.PendingList.sort_from.Goals as goal
+
+pub invariant_of-self : goal.invariant_of-self
+invariant_of-self g c = covers_moved _ _ _ c.sort_from.ensures.rows c.self.invariant

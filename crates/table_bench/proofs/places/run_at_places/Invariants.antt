@@ -1,0 +1,5 @@
+use Rattle.set_table.specs.PassStates.{IsPassOf}
+use Rattle.table_bench.proofs.places.run_at_places.Given as goal
+
+abbrev pub invariant-loop-command : goal.invariant-loop-command
+invariant-loop-command g l = IsPassOf l.table l.pass

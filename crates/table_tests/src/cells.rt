@@ -1,0 +1,70 @@
+//! A cell by itself.
+
+ghost use Rattle.std.specs.Prelude.{◌≡◌, ◌≤◌, None};
+
+use crate::exchange::{Owner, command, owner_of, reply_text};
+use append_log::{Log, LogSink, MemorySink};
+use set_table::{Cell, Shares};
+use std::alloc::Global;
+use std::hash::RandomState;
+use std::marker::Brand;
+use std::sync::ledger::{Blank, Ledger};
+use std::sync::{Mutex, Wait};
+use std::test::*;
+
+type OneCell<L> = Cell<RandomState, L, Global>;
+
+// What a cell answers to a command's text, or the number of a refusal behind `r`.
+fn answer_of<S: LogSink, L: Ledger, R: Wait>(
+    rt: &R,
+    alloc: Global,
+    cell: &mut OneCell<L>,
+    shares: &mut Shares,
+    log: &Mutex<Log<S, L>>,
+    text: &str,
+) -> Result<String, Fail> {
+    let command = command(alloc, text)?;
+    if command.key().is_none() {
+        return Err("no key")?;
+    }
+    match cell.run(rt, &command, shares, log) {
+        Ok(answer) => reply_text(alloc, &answer.into_reply()),
+        Err(refusal) => Ok(format!(in alloc; "r{}", refusal.number())?),
+    }
+}
+
+// What the cell of place 0 answers to a command with the shares of place 1, and with its own then.
+fn by_the_wrong_shares<L: Ledger, R: Wait + AllocGlobal>(
+    rt: &R,
+    blank: Blank,
+    owner: &Owner,
+) -> Result<(String, String), Fail>
+    requires idle { owner.now.next ≡ None }
+    requires name { blank.name ≡ L.name }
+    requires parts { blank.parts ≡ L.parts }
+    requires many { 4 ≤ blank.parts }
+{
+    let alloc = rt.alloc();
+    let mut log = Log::<_, L>::new(blank, MemorySink::new(alloc, 64), 1000);
+    let share = log.split();
+    let mut cell = Cell::new(alloc, 0, owner.empty_set()?, 1000, 2, share)?;
+    let log = Mutex::new(log);
+    let mut other = Shares::new(1, 0, 0);
+    let mut own = Shares::new(0, 0, 0);
+    let refused = answer_of(rt, alloc, &mut cell, &mut other, &log, "ZADD k 1 a")?;
+    let card = answer_of(rt, alloc, &mut cell, &mut own, &log, "ZCARD k")?;
+    Ok((refused, card))
+}
+
+// The shares of another place are refused, and the set stays empty.
+#[test]
+fn a_cell_refuses_shares_of_another_place(rt: HostRuntime) -> Result<(), Fail> {
+    let (refused, card) = by_the_wrong_shares::<Brand, _>(
+        &rt,
+        Blank::new(4),
+        &owner_of(&rt, &[])?,
+    )?;
+    assert_eq!(rt; refused.as_str(), "r17");
+    assert_eq!(rt; card.as_str(), ":0~");
+    Ok(())
+}

@@ -1,0 +1,285 @@
+//! Servers over connections in memory, and over loopback.
+
+ghost use Rattle.std.specs.Prelude.{◌≡◌, ◌+◌, ◌≤◌, IfOk, None};
+ghost use Rattle.std.specs.Thread.{IsSync};
+ghost use Rattle.hand_over.specs.Arriving.{came_after, kind_of};
+
+use crate::finish::Finish;
+use crate::server::settings::Settings;
+use crate::server::startup::{Stock, serve_stock};
+use crate::server::tcp_arrivals::TcpArrivals;
+use crate::stdio::stdio_run;
+use append_log::NoSink;
+use hand_over::{Arrival, Arrivals};
+use resp_wire::{ByteDrain, MemoryDrain, MemorySource, Writing};
+use std::alloc::{AllocError, AllocGlobal, Global};
+use std::fs::OpenOptions;
+use std::hash::RandomState;
+use std::io::{self, Write};
+use std::marker::Brand;
+use std::net::{Net, OpenStream, Shutdown, SocketAddr, TcpListener, TcpStream};
+use std::sync::Wait;
+use std::sync::ledger::{Blank, Ledger};
+use std::test::*;
+use std::thread;
+use std::thread::Threads;
+use zset_core::OneOwner;
+
+/// ZADD k 1 a, and ZRANGEBYSCORE k 1 1.
+const ADD_AND_LIST: &[u8] =
+    b"*4\r\n$4\r\nZADD\r\n$1\r\nk\r\n$1\r\n1\r\n$1\r\na\r\n*4\r\n$13\r\nZRANGEBYSCORE\r\n$1\r\nk\r\n$1\r\n1\r\n$1\r\n1\r\n";
+
+/// ZADD j 1 a.
+const ANOTHER_KEY: &[u8] = b"*4\r\n$4\r\nZADD\r\n$1\r\nj\r\n$1\r\n1\r\n$1\r\na\r\n";
+
+/// What begins no request.
+const WRONG: &[u8] = b"*01";
+
+/// Connections in memory, one for each input, and then the end, or a fault.
+#[derive(Drop)]
+struct Inputs<'i> {
+    alloc: Global,
+    inputs: &'i [&'i [u8]],
+    faults: bool,
+    came: u64,
+    kind: u64,
+}
+
+impl<'i> Arrivals for Inputs<'i> {
+    type Conn = (MemorySource<'i>, MemoryDrain<Global>);
+
+    ghost came = { λ s. s.came };
+
+    ghost last = { λ s. s.kind };
+
+    fn arrive(&mut self) -> Arrival<(MemorySource<'i>, MemoryDrain<Global>)>
+        ensures came { self.new.came ≡ came_after result self.old.came }
+        ensures last { self.new.kind ≡ kind_of result }
+    {
+        match self.inputs.get(self.came as usize) {
+            Some(input) if self.came < u64::MAX => {
+                self.came += 1;
+                self.kind = 1;
+                let drain = MemoryDrain::new(self.alloc, 3);
+                Arrival::Came((MemorySource::new(input, 7), drain))
+            }
+            _ if self.faults => {
+                self.kind = 3;
+                Arrival::Fault
+            }
+            _ => {
+                self.kind = 2;
+                Arrival::Closed
+            }
+        }
+    }
+}
+
+fn inputs_of<'i>(alloc: Global, inputs: &'i [&'i [u8]], faults: bool) -> Inputs<'i> {
+    Inputs {
+        alloc,
+        inputs,
+        faults,
+        came: 0,
+        kind: 0,
+    }
+}
+
+/// The sets that requests make.
+fn stock_of(rt: &HostRuntime, requests: &[u8]) -> Result<Stock<NoSink>, Fail>
+    ensures { IfOk result (λ stock. stock.owner.next ≡ None) }
+{
+    let alloc = rt.alloc();
+    let mut owner = OneOwner::new(alloc, RandomState::new(rt)?);
+    let mut source = MemorySource::new(requests, 65536);
+    let mut drain = MemoryDrain::new(alloc, 65536);
+    stdio_run(rt, alloc, &mut source, &mut drain, &mut owner);
+    Ok(Stock {
+        owner,
+        sink: NoSink::new(),
+        max_records: 1_000_000,
+    })
+}
+
+/// How a server ends: its status, and its lines on standard error.
+fn told(alloc: Global, finish: &Finish) -> Result<String, AllocError> {
+    let mut text = format!(in alloc; "{}\n", finish.status)?;
+    for line in finish.lines.iter().flatten() {
+        text.push_str(&format!(in alloc; "{line}\n")?)?;
+    }
+    Ok(text)
+}
+
+/// How a server over connections in memory ends, and behind it what it prints.
+fn ended<R: Wait + Threads + AllocGlobal + Sync>(
+    rt: &R,
+    stock: Stock<NoSink>,
+    workers: usize,
+    inputs: &[&[u8]],
+    faults: bool,
+) -> Result<String, Fail>
+    requires { stock.owner.next ≡ None }
+{
+    let alloc = rt.alloc();
+    let settings = Settings::new(workers, 1, 1000).ok_or("no settings")?;
+    let mut arrivals = inputs_of(alloc, inputs, faults);
+    let mut drain = MemoryDrain::new(alloc, 3);
+    let finish = serve_stock::<Brand, _, _, _, _, _, _>(
+        rt,
+        &mut arrivals,
+        Blank::new(3),
+        stock,
+        &settings,
+        &mut drain,
+    );
+    let mut text = told(alloc, &finish)?;
+    text.push_str(str::from_utf8(drain.flushed()).unwrap_or("?"))?;
+    Ok(text)
+}
+
+#[test]
+fn totals_are_told(rt: HostRuntime) -> Result<(), Fail> {
+    for workers in [1usize, 4] {
+        let one = ended(&rt, stock_of(&rt, b"")?, workers, &[ADD_AND_LIST], false)?;
+        let totals = "0\nconnections 1 sets 1 members 1 added 1 removed 0 records 1\n";
+        assert_eq!(rt; one.as_str(), totals);
+        // A connection that begins no request ends alone.
+        let two = ended(
+            &rt,
+            stock_of(&rt, b"")?,
+            workers,
+            &[WRONG, ADD_AND_LIST],
+            false,
+        )?;
+        let totals = "0\nconnections 2 sets 1 members 1 added 1 removed 0 records 1\n";
+        assert_eq!(rt; two.as_str(), totals);
+    }
+    Ok(())
+}
+
+#[test]
+fn an_accept_fault_is_told(rt: HostRuntime) -> Result<(), Fail> {
+    for workers in [1usize, 4] {
+        let text = ended(&rt, stock_of(&rt, b"")?, workers, &[WRONG, WRONG], true)?;
+        let wanted =
+            "1\nzcrackd: accept fault\nconnections 2 sets 0 members 0 added 0 removed 0 records 0\n";
+        assert_eq!(rt; text.as_str(), wanted);
+    }
+    Ok(())
+}
+
+#[test]
+fn sets_at_the_start_count_as_members(rt: HostRuntime) -> Result<(), Fail> {
+    let one = ended(&rt, stock_of(&rt, ADD_AND_LIST)?, 2, &[], false)?;
+    let totals = "0\nconnections 0 sets 1 members 1 added 0 removed 0 records 0\n";
+    assert_eq!(rt; one.as_str(), totals);
+    let mut two = Vec::from_slice(rt.alloc(), ADD_AND_LIST)?;
+    two.extend_from_slice(ANOTHER_KEY)?;
+    let refused = ended(&rt, stock_of(&rt, two.as_slice())?, 2, &[], false)?;
+    assert_eq!(rt; refused.as_str(), "3\nzcrackd: more keys than places\n");
+    Ok(())
+}
+
+/// How a server without connections ends whose totals can't be printed.
+fn ended_unprinted<R: Wait + Threads + AllocGlobal + Sync, W: ByteDrain>(
+    rt: &R,
+    stock: Stock<NoSink>,
+    drain: &mut W,
+) -> Result<String, Fail>
+    requires { stock.owner.next ≡ None }
+{
+    let alloc = rt.alloc();
+    let settings = Settings::new(1, 1, 1000).ok_or("no settings")?;
+    let mut arrivals = inputs_of(alloc, &[], true);
+    let finish = serve_stock::<Brand, _, _, _, _, _, _>(
+        rt,
+        &mut arrivals,
+        Blank::new(3),
+        stock,
+        &settings,
+        drain,
+    );
+    Ok(told(alloc, &finish)?)
+}
+
+#[test]
+fn totals_that_cannot_be_printed(rt: HostRuntime) -> Result<(), Fail> {
+    let full = OpenOptions::new().write(true).open(&rt, "/dev/full")?;
+    let mut drain = Writing::new(full);
+    let text = ended_unprinted(&rt, stock_of(&rt, b"")?, &mut drain)?;
+    assert_eq!(rt;
+        text.as_str(),
+        "1\nzcrackd: write fault\nzcrackd: accept fault\n"
+    );
+    Ok(())
+}
+
+/// What a server on this address replies to an input.
+fn ask<R: Net + AllocGlobal>(rt: &R, address: SocketAddr, input: &[u8]) -> io::Result<String> {
+    let mut stream = TcpStream::connect(rt, address)?;
+    stream.write_all(input)?;
+    stream.shutdown(Shutdown::Write)?;
+    io::read_to_string(rt.alloc(), stream)
+}
+
+/// How a server ends that serves so many connections of a listener, and what it prints.
+fn served_over_tcp<R: Wait + Threads + AllocGlobal + Sync>(
+    rt: &R,
+    hasher: RandomState,
+    listener: TcpListener,
+    settings: &Settings,
+) -> Result<String, AllocError>
+    requires { settings.now.places ≤ 1 }
+{
+    let alloc = rt.alloc();
+    let mut arrivals = TcpArrivals::new(alloc, listener, 60);
+    let stock = Stock {
+        owner: OneOwner::new(alloc, hasher),
+        sink: NoSink::new(),
+        max_records: 1_000_000,
+    };
+    let mut drain = MemoryDrain::new(alloc, 3);
+    let finish = serve_stock::<Brand, _, _, _, _, _, _>(
+        rt,
+        &mut arrivals,
+        Blank::new(3),
+        stock,
+        settings,
+        &mut drain,
+    );
+    let mut text = told(alloc, &finish)?;
+    text.push_str(str::from_utf8(drain.flushed()).unwrap_or("?"))?;
+    Ok(text)
+}
+
+/// What a server replies to one client and then to another, and how it ends.
+fn asked_twice<R>(rt: &R, hasher: RandomState, first: &[u8], second: &[u8]) -> Result<String, Fail>
+where
+    R: Net<Listener = TcpListener, Stream = TcpStream> + Wait + Threads + AllocGlobal + Sync,
+{
+    let settings = Settings::new(4, 1, 2).ok_or("no settings")?;
+    let listener = TcpListener::bind(rt, "127.0.0.1:0")?;
+    let address = listener.local_addr()?;
+    let (replies, end) = thread::join(
+        rt,
+        || -> io::Result<(String, String)> {
+            Ok((ask(rt, address, first)?, ask(rt, address, second)?))
+        },
+        move || -> Result<String, AllocError>
+            requires { IsSync R.row × (settings.places ≤ 1) }
+        { served_over_tcp(rt, hasher, listener, &settings) },
+    );
+    let (one, two) = replies?;
+    let end = end?;
+    Ok(format!(in rt.alloc(); "{one}{two}{end}")?)
+}
+
+#[test]
+fn clients_are_answered_over_tcp(rt: HostRuntime) -> Result<(), Fail> {
+    let hasher = RandomState::new(&rt)?;
+    let text = asked_twice(&rt, hasher, WRONG, ADD_AND_LIST)?;
+    let wanted =
+        "-ERR protocol 3 bad number\r\n:1\r\n*1\r\n$1\r\na\r\n0\nconnections 2 sets 1 members 1 added 1 removed 0 records 1\n";
+    assert_eq!(rt; text.as_str(), wanted);
+    Ok(())
+}

@@ -1,0 +1,90 @@
+"""A server on a port of its own, and clients that speak RESP2 to it over TCP."""
+import socket
+import struct
+import subprocess
+
+from harness import PROGRAM, SECONDS, same
+
+LOOPBACK = ("--listen", "127.0.0.1:0")
+LISTENING = b"listening on "
+
+
+def request(*words):
+    """A request by its arguments, in RESP2."""
+    words = [word if isinstance(word, bytes) else str(word).encode() for word in words]
+    return b"*%d\r\n" % len(words) + b"".join(b"$%d\r\n%s\r\n" % (len(word), word) for word in words)
+
+
+class Server:
+    """A server on a free port of 127.0.0.1, or wherever its words say."""
+
+    def __init__(self, *words, listen=LOOPBACK, **how):
+        words = [PROGRAM, "serve", *listen, *map(str, words)]
+        self.process = subprocess.Popen(words, stdout=subprocess.PIPE, stderr=subprocess.PIPE, **how)
+        self.line = self.process.stdout.readline()
+        same(self.line[: len(LISTENING)], LISTENING)
+        self.address, port = self.line[len(LISTENING) :].decode().strip().rsplit(":", 1)
+        self.port = int(port)
+
+    def connect(self):
+        return Client((self.address.strip("[]"), self.port))
+
+    def ends(self):
+        """Waits until it ends; gives its status, what it printed behind its first line, and its lines."""
+        try:
+            out, lines = self.process.communicate(timeout=SECONDS)
+        finally:
+            self.process.kill()
+        return self.process.returncode, out, lines
+
+    def __enter__(self):
+        return self
+
+    def __exit__(self, *_):
+        self.process.kill()
+        self.process.communicate()
+
+
+class Client:
+    """A connection, with the replies that came on it."""
+
+    def __init__(self, address):
+        self.socket = socket.create_connection(address, timeout=SECONDS)
+        self.file = self.socket.makefile("rb")
+
+    def send(self, data):
+        self.socket.sendall(data)
+
+    def reply(self):
+        """The next reply, by its bytes; an array by those of its elements."""
+        line = self.file.readline()
+        if line[:1] == b"$" and line != b"$-1\r\n":
+            return line + self.file.read(int(line[1:]) + 2)
+        if line[:1] == b"*":
+            return [self.reply() for _ in range(int(line[1:]))]
+        return line
+
+    def ask(self, *words):
+        self.send(request(*words))
+        return self.reply()
+
+    def finish(self):
+        """Sends no more; gives all that comes until the server ends the connection."""
+        self.socket.shutdown(socket.SHUT_WR)
+        rest = self.file.read()
+        self.close()
+        return rest
+
+    def close(self):
+        self.file.close()
+        self.socket.close()
+
+    def reset(self):
+        """Ends the connection so that the peer's next call fails."""
+        self.socket.setsockopt(socket.SOL_SOCKET, socket.SO_LINGER, struct.pack("ii", 1, 0))
+        self.close()
+
+
+def totals(connections, sets, members, added, removed, records):
+    text = f"connections {connections} sets {sets} members {members} added {added} removed {removed} records {records}\n"
+    return text.encode()
