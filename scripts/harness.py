@@ -40,6 +40,13 @@ def read(path):
         return file.read()
 
 
+def refusing():
+    """A library that refuses allocations and paths, as refusing.c says."""
+    library = os.path.abspath("refusing.so")
+    subprocess.run(["cc", "-shared", "-fPIC", "-o", library, f"{HERE}/refusing.c", "-ldl"], check=True)
+    return library
+
+
 def stop(_signal, _frame):
     raise TimeoutError(f"{TEST_SECONDS} seconds")
 

@@ -1,4 +1,4 @@
-/* For program_test, by LD_PRELOAD. Refuses the one allocation whose number, from 1, is in REFUSED_ALLOCATION, and then
+/* For program_test and hostile_test, by LD_PRELOAD. Refuses the one allocation whose number, from 1, is in REFUSED_ALLOCATION, and then
    makes the file that REFUSED_MARK names, so that a run that met no refusal is told from one that did. Refuses to open
    the path that is in REFUSED_PATH. */
 #define _GNU_SOURCE

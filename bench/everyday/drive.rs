@@ -61,6 +61,27 @@ impl Work {
         self.put(&["ZRANGEBYSCORE", "board", &low.to_string(), &(low + width).to_string()]);
     }
 
+    /// Removes a range of some members in the middle of nowhere.
+    fn remove_range_of(&mut self, members: u64) {
+        let width = members * SCORES / self.members;
+        let low = self.random.below(SCORES - width + 1);
+        self.put(&["ZREMRANGEBYSCORE", "board", &low.to_string(), &(low + width).to_string()]);
+    }
+
+    /// One turn of a rate limiter with a window of all members: a request comes, old ones go, the others are counted.
+    fn limit_rate(&mut self, now: u64) {
+        self.put(&["ZADD", "board", &now.to_string(), &format!("request:{now}")]);
+        self.put(&["ZREMRANGEBYSCORE", "board", "-inf", &(now - self.members).to_string()]);
+        self.put(&["ZCARD", "board"]);
+    }
+
+    /// The requests of a rate limiter's window, each at a time of its own.
+    fn load_window(&mut self) {
+        for now in 0..self.members {
+            self.put(&["ZADD", "board", &now.to_string(), &format!("request:{now}")]);
+        }
+    }
+
     /// One of a mix: half updates and new scores, a quarter reads of a score, the rest removals, counts and ranges.
     fn one_of_a_mix(&mut self) {
         let member = self.member();
@@ -96,10 +117,16 @@ impl Work {
     }
 }
 
-/// How often an update and a read take turns: a hundred times where the first ones of a set are measured.
+/// How often an update and a read take turns, and how often a rate limiter is asked.
+const TURNS: u64 = 10_000;
+
+/// The turns of a work: a hundred where the first ones of a set are measured.
 fn turns_of(name: &str) -> u64 {
-    if name.starts_with("first_") { 100 } else { 10_000 }
+    if name.starts_with("first_") { 100 } else { TURNS }
 }
+
+/// How many members are removed by ranges, in all.
+const REMOVED: u64 = 200_000;
 
 /// How often one member is changed where members share scores: enough for the pending lists to be merged.
 const CHANGES: u64 = 10_000;
@@ -145,6 +172,13 @@ fn put_work(work: &mut Work, name: &str) {
     if name.starts_with("ranges_of_100") {
         (0..1000).for_each(|_| work.range_of(100));
     }
+    if name == "rate_limiter" {
+        (0..TURNS).for_each(|turn| work.limit_rate(work.members + turn));
+    }
+    if let Some(members) = name.strip_prefix("removals_of_") {
+        let members = members.parse().unwrap();
+        (0..REMOVED / members).for_each(|_| work.remove_range_of(members));
+    }
     if name == "1000_counts_at_new_bounds" {
         (0..1000).for_each(|_| work.count_at_new_bounds());
     }
@@ -157,6 +191,7 @@ fn prepare(work: &mut Work, server: &mut Server, name: &str) -> io::Result<()> {
         "two_scores" => work.load(2, ""),
         "ten_scores" => work.load(10, ""),
         "hundred_scores" => work.load(100, ""),
+        "rate_limiter" => work.load_window(),
         _ => work.load(SCORES, ""),
     }
     if name.ends_with("_after_ranges") || name.starts_with("ranges_of_100") {

@@ -18,8 +18,8 @@ use Rattle.append_log.specs.Dump.{add_record}
 use Rattle.append_log.proofs.SetUnion.{plain}
 
 -- ---- the text of a score is no option
-none_of : (a b c d : Bool) → a ≡ false → b ≡ false → c ≡ false → d ≡ false → (a || b || c || d) ≡ false
-none_of a b c d ea eb ec ed = rw (ea, eb, ec, ed) refl
+none_of : (a b c d e f : Bool) → a ≡ false → b ≡ false → c ≡ false → d ≡ false → e ≡ false → f ≡ false → (a || b || c || d || e || f) ≡ false
+none_of a b c d e f ea eb ec ed ee ef = rw (ea, eb, ec, ed, ee, ef) refl
 
 and_none : (a b : Bool) → a ≡ false → (a && b) ≡ false
 and_none a b e = rw e refl
@@ -33,7 +33,8 @@ other_byte c n low up = ap (λ k. k == n) (lower c low) ∙ grind (arith, nat_te
 
 first_byte : (c : ℕ) (more : List ℕ) → c < 58 → is_add_option (c ∷ more) ≡ false
 first_byte c more low =
-    none_of _ _ _ _ (and_none _ _ (other_byte c 110 low (omega arith))) (and_none _ _ (other_byte c 120 low (omega arith)))
+    none_of _ _ _ _ _ _ (and_none _ _ (other_byte c 110 low (omega arith))) (and_none _ _ (other_byte c 120 low (omega arith)))
+    (and_none _ _ (other_byte c 103 low (omega arith))) (and_none _ _ (other_byte c 108 low (omega arith)))
     (and_none _ _ (other_byte c 99 low (omega arith))) (and_none _ _ (other_byte c 105 low (omega arith)))
 
 pub no_option : (text : List ℕ) → IsPlain text → is_add_option text ≡ false

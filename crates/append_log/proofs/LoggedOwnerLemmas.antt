@@ -3,15 +3,15 @@ use Rattle.std.proofs.Common.{◌≡◌, ℕ, List, [], ◌∷◌, ◌++◌, ref
 use Rattle.std.specs.Prelude.{IfSome, IsTrue, option_map}
 use Rattle.resp_wire.specs.Response.{Response}
 use Rattle.zset_core.specs.SortedSet.{Members}
-use Rattle.zset_core.specs.CommandRequest.{Meaning, Asked, key_of, is_writing, Ping, Add, Increase, Remove, Score, Card, Count, ListRange}
+use Rattle.zset_core.specs.CommandRequest.{Meaning, Asked, key_of, is_writing, Ping, Add, Increase, Remove, RemoveRange, Score, Card, Count, ListRange}
 use Rattle.zset_core.specs.CommandGrammar.{asked}
-use Rattle.zset_core.specs.Semantics.{step}
-use Rattle.zset_core.specs.SetAndOwnerViews.{Next, ShowsAt, IsPreparedAt}
+use Rattle.zset_core.specs.Semantics.{step, act_at, act}
+use Rattle.zset_core.specs.ViewTypes.{Next, ShowsAt, IsPreparedAt}
 use Rattle.zset_core.specs.ChangeOutline.{IsOutline}
 use Rattle.zset_core.specs.declared.set.change_outline.Outline.{Outline}
 use Rattle.zset_core.specs.declared.refusal.Refusal.{Refusal}
 use Rattle.zset_core.specs.declared.refusal.Refusal.TheVariants.{NoMemory, ScoreOverflow}
-use Rattle.zset_core.specs.World.{World, set_at, put_set, act_at, act}
+use Rattle.zset_core.specs.World.{World, set_at, put_set}
 use Rattle.append_log.specs.Records.{Record}
 use Rattle.append_log.specs.Replay.{after, after_reading}
 use Rattle.append_log.specs.Log.{LogView, HasRecords, IsLog, Ends}
@@ -98,6 +98,7 @@ reading-stays world end (Ping (Some text)) reply reads is = ends_at _ world end 
 reading-stays world end (Add key flags changed pairs) reply reads is = absurd (let no_way : true ≡ false = reads in cc)
 reading-stays world end (Increase key flags given member) reply reads is = absurd (let no_way : true ≡ false = reads in cc)
 reading-stays world end (Remove key members) reply reads is = absurd (let no_way : true ≡ false = reads in cc)
+reading-stays world end (RemoveRange key range) reply reads is = absurd (let no_way : true ≡ false = reads in cc)
 reading-stays world end (Score key member) reply reads is = ends_at _ world end reply (put_back world key) is
 reading-stays world end (Card key) reply reads is = ends_at _ world end reply (put_back world key) is
 reading-stays world end (Count key range) reply reads is = ends_at _ world end reply (put_back world key) is

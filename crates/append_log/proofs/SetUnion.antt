@@ -14,7 +14,7 @@ use Rattle.append_log.proofs.WholeListing.{each_of_whole, has_member, member_lis
 
 -- the flags of ZADD without options
 abbrev pub plain : Flags
-plain = record { nx = false; xx = false }
+plain = record { nx = false; xx = false; gt = false; lt = false }
 
 pub same_bytes : (q k : List ℕ) → eq_by_cmp bytes_cmp q k ≡ true → q ≡ k
 same_bytes q k h = sym ((bytes_decides k q).0 (tied q k ∙ h))

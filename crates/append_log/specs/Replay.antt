@@ -3,7 +3,8 @@ use Rattle.std.specs.Prelude.{List, [], ◌∷◌, Option, Some, None, Result, O
 use Rattle.zset_core.specs.declared.refusal.Refusal.{Refusal}
 use Rattle.zset_core.specs.CommandRequest.{Meaning, is_writing}
 use Rattle.zset_core.specs.CommandGrammar.{asked}
-use Rattle.zset_core.specs.World.{World, act}
+use Rattle.zset_core.specs.World.{World}
+use Rattle.zset_core.specs.Semantics.{act}
 use Rattle.append_log.specs.Records.{Record}
 
 -- the world after arguments that were read so; none where they are no command that changes sets, or it is refused

@@ -263,10 +263,17 @@ impl<A: Allocator + Copy> Reloader<A> {
 /// often it is handed. Bytes at the end that are less than a record are not replayed: they are the
 /// torn end of a record that was being written.
 ///
+/// `read` says which bytes were taken from the source, and that the owner's sets are those that the
+/// records in them replay to from its sets before. A source that does not tell its bytes, as a file
+/// doesn't, makes that a claim on some bytes: that they are the file's is shown by tests.
+///
 /// # Errors
 ///
-/// The owner then holds the sets that the records before the fault replay to, at a fault of reading
-/// those of all records that were read.
+/// [`ReloadFault::Damaged`] and [`ReloadFault::NotACommand`] name the byte where the first record with a
+/// fault begins, counted from where the source stood; the owner then holds the sets that the records
+/// before it replay to. At [`ReloadFault::ReadFault`], [`ReloadFault::TooManyReads`] (`max_reads` reads
+/// did not come to the end) and [`ReloadFault::NoMemory`] it holds those that some of the records that
+/// were read replay to, from the first on: all of them, but where memory ran out.
 pub fn reload<R: ByteSource, H: BuildHasher + Clone + Drop, A: Allocator + Copy>(
     alloc: A,
     source: &mut R,

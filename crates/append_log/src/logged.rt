@@ -117,7 +117,7 @@ impl<H: BuildHasher, S: LogSink, L: Ledger, A: Allocator + Copy> Model for Logge
     ghost Value = { LoggedView };
 
     ghost use Rattle.std.specs.Coded.{codes};
-    ghost use Rattle.zset_core.specs.SetAndOwnerViews.{coded_members, coded_world};
+    ghost use Rattle.zset_core.specs.ViewTypes.{coded_members, coded_world};
 
     ghost coded = { Prim.hlevel (codes, coded_members, coded_world) };
 
@@ -170,9 +170,11 @@ impl<H: BuildHasher + Clone + Drop, S: LogSink, L: Ledger, A: Allocator + Copy> 
         // Once an append failed, only commands that change no set succeed.
         ensures unbroken { OnOk result
             (self.old.log.broken ≡ true → AreSame self.old.world self.new.world) }
-        // Take a world from which the records at the end of the sink replayed to this owner's sets before
-        // the call. They replay to its sets after the call too, also where it refused. Where the sink does
-        // not tell its bytes, as a file doesn't, this speaks of some records and not of the file's.
+        // `Replays start owner`: from the world `start` the records that were answered lead to the owner's
+        // sets. Whatever this call does, also where it refuses, what held of a world before holds of it
+        // after: so from the sets that a log began with its records lead to the sets as they are. Where
+        // the sink does not tell its bytes, as a file doesn't, this speaks of some records and not of
+        // the file's.
         ensures replays { (start : WorldType) → Replays start self.old → Replays start self.new }
     {
         if command.writes() {

@@ -9,7 +9,7 @@ use std::alloc::{AllocError, Global};
 use std::process::Abort;
 
 // Adds a row.
-fn add(
+pub fn add(
     alloc: Global,
     column: &mut Column<Global>,
     score: i64,
@@ -25,7 +25,7 @@ fn add(
 }
 
 // Takes a row out.
-fn take(
+pub fn take(
     alloc: Global,
     column: &mut Column<Global>,
     score: i64,
@@ -42,7 +42,7 @@ fn take(
 }
 
 // Selects a range, which has `want` rows; `ready` answers the same afterwards.
-fn expect_count<R: Abort>(
+pub fn expect_count<R: Abort>(
     rt: &R,
     column: &mut Column<Global>,
     min: Bound,
@@ -59,7 +59,7 @@ fn expect_count<R: Abort>(
 }
 
 // What the column has: its pivots, how many rows, and how many insertions and deletions that wait.
-fn expect_state<R: Abort>(
+pub fn expect_state<R: Abort>(
     rt: &R,
     column: &Column<Global>,
     pivots: &[(i64, usize)],
@@ -176,7 +176,7 @@ fn a_full_list_is_merged(rt: HostRuntime) -> Result<(), AllocError> {
 }
 
 // A column of 4,096 rows with the scores from 0 on, in no order.
-fn filled(alloc: Global) -> Result<Column<Global>, AllocError> {
+pub fn filled(alloc: Global) -> Result<Column<Global>, AllocError> {
     let mut column = Column::new(alloc);
     for i in 0..4096u16 {
         add(alloc, &mut column, i64::from(i) * 1021 % 4096, b"m")?;

@@ -6,3 +6,5 @@
 mod columns;
 #[cfg(test)]
 mod merges;
+#[cfg(test)]
+mod removals;

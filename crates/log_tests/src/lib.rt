@@ -8,3 +8,7 @@ mod failing;
 mod files;
 #[cfg(test)]
 mod records;
+#[cfg(test)]
+mod sweeps;
+#[cfg(test)]
+mod want_of_memory;

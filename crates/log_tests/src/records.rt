@@ -9,7 +9,7 @@ use std::sync::ledger::{Blank, Ledger};
 use std::test::*;
 use zset_core::{Command, OneOwner, Refusal};
 
-type Owner = OneOwner<RandomState, Global>;
+pub type Owner = OneOwner<RandomState, Global>;
 
 // The request of a text's arguments, which single spaces part.
 fn request(alloc: Global, text: &str) -> Result<Request<Global>, Fail> {
@@ -42,7 +42,7 @@ fn shown(alloc: Global, answer: &Result<Reply<Global>, Refusal>) -> Result<Strin
     }
 }
 
-fn answer(alloc: Global, owner: &mut Owner, text: &str) -> Result<String, Fail>
+pub fn answer(alloc: Global, owner: &mut Owner, text: &str) -> Result<String, Fail>
     requires { owner.old.next ≡ None }
     ensures { owner.new.next ≡ None }
 {
@@ -53,15 +53,15 @@ fn answer(alloc: Global, owner: &mut Owner, text: &str) -> Result<String, Fail>
 
 // What commands came to that were run one after the other.
 #[derive(Drop)]
-struct Played {
+pub struct Played {
     // The replies, a space behind each.
-    replies: String,
-    appended: u64,
-    is_broken: bool,
-    sink: FuseSink<MemorySink<Global>>,
+    pub replies: String,
+    pub appended: u64,
+    pub is_broken: bool,
+    pub sink: FuseSink<MemorySink<Global>>,
 }
 
-fn play<L: Ledger>(
+pub fn play<L: Ledger>(
     alloc: Global,
     hasher: RandomState,
     blank: Blank,
@@ -111,7 +111,7 @@ fn reloads_to(
     Ok(loaded == wanted && told.as_str() == reply)
 }
 
-fn loaded(records: u64, whole: u64, torn: u64) -> Result<Loaded, ReloadFault> {
+pub fn loaded(records: u64, whole: u64, torn: u64) -> Result<Loaded, ReloadFault> {
     Ok(Loaded {
         records,
         whole,
@@ -150,6 +150,46 @@ fn a_failed_sync_leaves_the_record(rt: HostRuntime) -> Result<(), Fail> {
     Ok(())
 }
 
+// A removal whose record is not appended is not made, and one that removes nothing needs none.
+#[test]
+fn a_refused_removal_leaves_the_members(rt: HostRuntime) -> Result<(), Fail> {
+    let commands = [
+        "ZADD k 1 a",
+        "ZREMRANGEBYSCORE k 1 1",
+        "ZCARD k",
+        "ZREMRANGEBYSCORE k 2 2",
+    ];
+    let alloc = rt.alloc();
+    let sink = FuseSink::new(MemorySink::new(alloc, 64), 3);
+    let hasher = RandomState::new(&rt)?;
+    let refused = play::<Brand>(alloc, hasher, Blank::new(2), sink, 10, &commands)?;
+    assert_eq!(rt; refused.replies.as_str(), ":1~ r16 :1~ :0~ ");
+    assert!(rt; refused.is_broken && refused.appended == 1);
+    Ok(())
+}
+
+// A removal is recorded as it was asked for, and one that removes nothing is not.
+#[test]
+fn removals_are_reloaded(rt: HostRuntime) -> Result<(), Fail> {
+    let commands = [
+        "ZADD k 1 a 2 b 3 c",
+        "ZREMRANGEBYSCORE k 4 +inf",
+        "ZREMRANGEBYSCORE k (1 2",
+    ];
+    let alloc = rt.alloc();
+    let sink = FuseSink::new(MemorySink::new(alloc, 64), 0);
+    let hasher = RandomState::new(&rt)?;
+    let kept = play::<Brand>(alloc, hasher, Blank::new(2), sink, 10, &commands)?;
+    assert_eq!(rt; kept.replies.as_str(), ":3~ :0~ :1~ ");
+    let sink = kept.sink.into_inner();
+    let records = file(alloc, &["ZADD k 1 a 2 b 3 c", "ZREMRANGEBYSCORE k (1 2"])?;
+    assert_eq!(rt; sink.bytes(), records.as_slice());
+    let whole = u64::try_from(records.len()).unwrap_or(0);
+    let listed = "*4~$1~a~$1~1~$1~c~$1~3~";
+    assert!(rt; reloads_to(&rt, sink.bytes(), loaded(2, whole, 0), LISTING, listed)?);
+    Ok(())
+}
+
 // One record alone may be appended: what a full log refuses leaves the sets.
 #[test]
 fn a_full_log_refuses_changes(rt: HostRuntime) -> Result<(), Fail> {
@@ -178,10 +218,10 @@ fn file(alloc: Global, records: &[&str]) -> Result<Vec<u8>, Fail> {
     Ok(bytes)
 }
 
-const LISTING: &str = "ZRANGEBYSCORE k -inf +inf WITHSCORES";
+pub const LISTING: &str = "ZRANGEBYSCORE k -inf +inf WITHSCORES";
 
 /// ZADD k 1 a, ZADD k 2 b and ZREM k a: records of 35, 35 and 28 bytes.
-const THREE_RECORDS: &[u8] =
+pub const THREE_RECORDS: &[u8] =
     b"*4\r\n$4\r\nZADD\r\n$1\r\nk\r\n$1\r\n1\r\n$1\r\na\r\n*4\r\n$4\r\nZADD\r\n$1\r\nk\r\n$1\r\n2\r\n$1\r\nb\r\n*3\r\n$4\r\nZREM\r\n$1\r\nk\r\n$1\r\na\r\n";
 
 /// ZADD j -3 x and ZADD k 1 B 1 a 1 b: records of 36 and 63 bytes.

@@ -10,6 +10,7 @@ mod bytes;
 mod decoder;
 mod device;
 mod fault;
+mod fuse;
 pub mod laws;
 mod memory;
 mod parser;
@@ -25,6 +26,7 @@ pub use device::{
     Writing, is_interrupted, write_all, write_uninterrupted,
 };
 pub use fault::{ProtocolFault, WireFault};
+pub use fuse::{FuseDrain, FuseSource};
 pub use laws::{cut, encoding_round_trip, faults, longest, one_encoding};
 pub use memory::{MemoryDrain, MemorySource};
 pub use reply::Reply;

@@ -16,3 +16,4 @@ pub mod Fours
 pub mod Frames
 pub mod InnerPivots
 pub mod InnerCracks
+pub mod Removal

@@ -5,7 +5,7 @@ use Rattle.std.proofs.lemmas.Bool.{eqb-true, eq-eqb, cases_eq}
 use Rattle.std.proofs.lemmas.List.{get_or-set_same, get_or-set_other, get_or_past}
 use Rattle.std.proofs.lemmas.Nat.Bits.{bit_at_set_same, bit_at_or, bit_at-lt, bit_at_ones}
 use Rattle.std.proofs.Math.Nat.{mod-lt}
-use Rattle.ripple_column.specs.PendingFilter.{is_set}
+use Rattle.ripple_column.specs.PendingBloom.{is_set}
 
 below_64 : (m : ℕ) → m % 64 < 64
 below_64 m = mod-lt m (omega arith)

@@ -4,7 +4,7 @@ use Rattle.std.specs.List.{AllWithin}
 use Rattle.std.proofs.lemmas.Bool.{false≢true}
 use Rattle.crack_kernel.specs.RowBag.{IsSubBag}
 use Rattle.ripple_column.specs.RowHash.{hash_of}
-use Rattle.ripple_column.specs.PendingFilter.{is_marked, Covers}
+use Rattle.ripple_column.specs.PendingBloom.{is_marked, Covers}
 use Rattle.ripple_column.proofs.Counts.{count_none, none_counted, count_push, count_zero, count_moved}
 
 -- a list of rows that are all marked

@@ -1,11 +1,12 @@
 pub mod RowPlace
 pub mod Content
 pub mod Cuts
-pub mod ColumnInvariant
+pub mod ColumnViewAndInvariant
 pub mod RangeAnswer
 pub mod MergeGap
 pub mod MergeEffects
 pub mod RowHash
-pub mod PendingFilter
+pub mod PendingBloom
 pub mod ShownPivots
 pub mod InnerCrackEffects
+pub mod ClosedUp

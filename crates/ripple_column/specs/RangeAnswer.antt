@@ -27,6 +27,10 @@ pub record IsSettled (c : ColumnState) (range : Range) (answer : ℕ × ℕ) : T
 abbrev pub IsAnswer : ColumnState → Range → ℕ × ℕ → Type 0
 IsAnswer c range answer = MatchBool (is_before (low_cut range) (high_cut range)) (IsSettled c range answer) (answer ≡ (0, 0))
 
+-- the column has an answer for a range as it stands
+abbrev pub HasAnswer : ColumnState → Range → Type 0
+HasAnswer c range = (answer : ℕ × ℕ) × IsAnswer c range answer
+
 -- the rows between the two places are the content with scores in the range, as bags
 pub record HoldsRange (c : ColumnState) (range : Range) (answer : ℕ × ℕ) : Type 0 where
   pub order : answer.0 ≤ answer.1

@@ -12,7 +12,7 @@ ghost use Rattle.ripple_column.specs.MergeGap.{TakenFrom};
 ghost use Rattle.ripple_column.specs.MergeEffects.{KeepsFrame};
 
 use crate::cracked::Cracked;
-use crate::deletion_filter::DeletionFilter;
+use crate::deletion_bloom::DeletionBloom;
 use crate::merge_gap::Direction;
 use crate::merge_pass::{Pass, run_pass};
 use crate::pending_lists::{Pending, RangeTails};
@@ -91,8 +91,8 @@ fn lowest_piece<A: Allocator>(pivots: &Pivots<A>, pending: &Pending<A>) -> usize
 }
 
 /// A filter with the rows.
-fn filter_of<A: Allocator>(rows: &[Row<A>]) -> DeletionFilter {
-    let mut filter = DeletionFilter::new();
+fn filter_of<A: Allocator>(rows: &[Row<A>]) -> DeletionBloom {
+    let mut filter = DeletionBloom::new();
     for row in rows {
         filter.add(row);
     }

@@ -1,10 +1,11 @@
 //! The column.
 
-ghost use Rattle.std.specs.Prelude.{◌≡◌, ◌+◌, ◌<◌, ◌≤◌, ℕ, [], ◌∷◌, true, false, length, count_by, slice_range, IsPermutation, IfOk, IfSome, OnOk, OnErr};
+ghost use Rattle.std.specs.Prelude.{◌≡◌, ◌+◌, ◌<◌, ◌≤◌, ◌&&◌, ℕ, [], ◌∷◌, not, true, false, length, count_by, slice_range, IsPermutation, IfOk, IfSome, OnOk, OnErr};
 ghost use Rattle.crack_kernel.specs.RowBag.{IsSubBag, Test};
 ghost use Rattle.crack_kernel.specs.PivotList.{ObeysPivots};
-ghost use Rattle.ripple_column.specs.RangeAnswer.{AddsCuts, HoldsRange, IsAnswer, StandsStill, low_cut, high_cut, pivots_with_cuts};
-ghost use Rattle.ripple_column.specs.Content.{HasRow, IsUnchanged, NoneIn, Pends, SameContent, SameOutside, content_count, most_pending};
+ghost use Rattle.ripple_column.specs.RangeAnswer.{AddsCuts, HasAnswer, HoldsRange, IsAnswer, StandsStill, low_cut, high_cut, pivots_with_cuts};
+ghost use Rattle.ripple_column.specs.Content.{HasRow, IsUnchanged, NoneIn, Pends, SameContent, SameOutside, content_count, has_score_in, most_pending};
+ghost use Rattle.ripple_column.specs.ClosedUp.{closed_up_pivots, closed_up_rows};
 ghost use Rattle.ripple_column.specs.Cuts.{is_before, values};
 ghost use Rattle.ripple_column.specs.ShownPivots.{IsAmong};
 
@@ -12,6 +13,7 @@ use crate::cracked_and_shown::Pieces;
 use crate::cracking::is_before;
 use crate::inner_pivots::{is_wide, narrow};
 use crate::pending_lists::{MAX_PENDING, MAX_RESERVED, Pending};
+use crate::row_removal::remove_between;
 use crate::select::{select_between, settled_places};
 use crack_kernel::{MAX_PIVOTS, Row};
 use score_bounds::Range;
@@ -36,11 +38,11 @@ impl<A: Allocator> Model for Column<A> {
 
     ghost Value = { ColumnState };
 
-    ghost use Rattle.ripple_column.specs.ColumnInvariant.{state, ColumnInvariant};
+    ghost use Rattle.ripple_column.specs.ColumnViewAndInvariant.{state, ColumnViewAndInvariant};
 
     ghost view = { state };
 
-    ghost invariant = { λ c. ColumnInvariant (state c) };
+    ghost invariant = { λ c. ColumnViewAndInvariant (state c) };
 }
 
 impl<A: Allocator + Copy> Column<A> {
@@ -188,6 +190,34 @@ impl<A: Allocator + Copy> Column<A> {
     {
         let (first, second) = range.cuts();
         select_between(&mut self.pieces, &mut self.pending, range, &first, &second)
+    }
+
+    /// Takes the rows with scores in the range out of the column, which has an answer for it as it
+    /// stands, and the rows behind them close up. Pivots stay: a place inside the gap becomes its start,
+    /// one behind it moves up. What waits goes on waiting. It takes no memory.
+    ///
+    /// Its cost grows with the rows that leave and those that stand behind them.
+    pub fn remove_rows(&mut self, range: &Range)
+        requires ready { HasAnswer self.old range.now }
+        ensures rows { (answer : ℕ × ℕ) → IsAnswer self.old range.now answer
+            → self.new.rows ≡ closed_up_rows answer.0 answer.1 self.old.rows }
+        ensures pivots { (answer : ℕ × ℕ) → IsAnswer self.old range.now answer
+            → self.new.pivots ≡ closed_up_pivots answer.0 answer.1 self.old.pivots }
+        ensures insertions { self.new.insertions ≡ self.old.insertions }
+        ensures deletions { self.new.deletions ≡ self.old.deletions }
+        ensures spare { self.new.insert_spare ≡ self.old.insert_spare }
+        ensures spare_deletions { self.new.delete_spare ≡ self.old.delete_spare }
+
+        // The content is what it was, but for the rows with scores in the range.
+        ensures content { (p : Test) → content_count p self.new
+            ≡ content_count (λ r. p r && not (has_score_in range.now r)) self.old }
+        ensures none_left { (p : Test) → content_count (λ r. p r && has_score_in range.now r) self.new ≡ 0 }
+        ensures answer { (answer : ℕ × ℕ) → IsAnswer self.old range.now answer
+            → IsAnswer self.new range.now (answer.0, answer.0) }
+    {
+        if let Some((from, to)) = self.ready(range) {
+            remove_between(&mut self.pieces, from, to);
+        }
     }
 
     /// Makes it cheap to list the rows from one place to another: it adds inner pivots near both, so that

@@ -3,8 +3,9 @@
 ghost use Rattle.std.specs.Prelude.{◌≡◌, ◌+◌, ◌-◌, ◌<◌, ◌≤◌, ◌++◌, ◌∷◌, ℕ, ℤ, List, [], take, length, slice_set, Some, IsSome, ◌↔◌, IsPermutation, OnOk, vec_len, vec_capacity, option_to_list, slice_index_or};
 ghost use Rattle.std.specs.List.{AllWithin, SwappedAt, swap};
 ghost use Rattle.crack_kernel.specs.Parts.{ChangesWithin, IsBelow, IsFrom};
+ghost use Rattle.ripple_column.specs.ClosedUp.{closed_up_rows};
 
-use crate::deletion_filter::DeletionFilter;
+use crate::deletion_bloom::DeletionBloom;
 use crate::row_hash::{is_of_score, row_fingerprint, score_fingerprint};
 use crack_kernel::{Row, crack_piece};
 use std::alloc::{AllocError, Allocator};
@@ -119,6 +120,19 @@ impl<A: Allocator> Rows<A> {
         ensures capacity { vec_capacity self.new ≡ vec_capacity self.old }
     {
         self.rows.truncate(len);
+    }
+
+    /// Drops the rows from the place `from` on and before the place `to`. Those behind them close up.
+    pub fn remove_between(&mut self, from: usize, to: usize)
+        requires order { from ≤ to }
+        requires within { to ≤ length self.old.items }
+        ensures { self.new.items ≡ closed_up_rows from to self.old.items }
+    {
+        let known = self.fingerprints.len();
+        if from < known {
+            self.fingerprints.drain(from..to.min(known));
+        }
+        self.rows.drain(from..to);
     }
 
     /// Puts a row at a place, and drops the one that stood there.
@@ -265,7 +279,7 @@ impl<A: Allocator> Rows<A> {
 
     /// Whether the filter may have the row at a place. Its fingerprint is made: that of its score where
     /// this tells.
-    fn may_leave(&mut self, at: usize, filter: &DeletionFilter) -> bool
+    fn may_leave(&mut self, at: usize, filter: &DeletionBloom) -> bool
         requires { at < length self.old.items }
         ensures { self.new ≡ self.old }
     {
@@ -282,7 +296,7 @@ impl<A: Allocator> Rows<A> {
 
     /// The first place from `from` on and before `to` of a row that the filter may have, or `to`. The
     /// fingerprints up to it are made.
-    pub fn next_within(&mut self, from: usize, to: usize, filter: &DeletionFilter) -> usize
+    pub fn next_within(&mut self, from: usize, to: usize, filter: &DeletionBloom) -> usize
         requires order { from ≤ to }
         requires within { to ≤ length self.old.items }
         ensures same { self.new ≡ self.old }
@@ -335,7 +349,7 @@ pub fn reserve_rows<A: Allocator>(
 
 /// The first place from `from` on and before `to` of which the filter may have the fingerprint, or
 /// which has none, or `to`.
-fn next_within(fingerprints: &[u32], from: usize, to: usize, filter: &DeletionFilter) -> usize
+fn next_within(fingerprints: &[u32], from: usize, to: usize, filter: &DeletionBloom) -> usize
     requires { from ≤ to }
     ensures low { from ≤ result }
     ensures high { result ≤ to }

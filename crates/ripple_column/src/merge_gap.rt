@@ -11,7 +11,7 @@ ghost use Rattle.crack_kernel.specs.PivotList.{ObeysPivots, RisesPast};
 ghost use Rattle.ripple_column.specs.MergeGap.{AllParted, ChangedPlaces, HasGap, HasGapAt, StandFrom, TakenFrom, blank};
 ghost use Rattle.ripple_column.specs.MergeEffects.{KeepsFrame};
 
-use crate::deletion_filter::DeletionFilter;
+use crate::deletion_bloom::DeletionBloom;
 use crate::fingerprinted_rows::Rows;
 use crate::pending_lists::{PendingList, row_cmp};
 use crate::ripple::{place_or, start_below};
@@ -263,7 +263,7 @@ pub fn take_out<A: Allocator + Copy>(
     end: usize,
     deletions: &mut PendingList<A>,
     tail: Tail,
-    filter: &DeletionFilter,
+    filter: &DeletionBloom,
 ) -> usize
     requires above { high ≤ end }
     requires within { end ≤ length rows.old.items }

@@ -8,7 +8,7 @@ ghost use Rattle.ripple_column.specs.Content.{KeepsContent};
 ghost use Rattle.ripple_column.specs.MergeGap.{AllParted, HasGapAt, KeepsContentBeside, TakenFrom, blank};
 ghost use Rattle.ripple_column.specs.MergeEffects.{KeepsFrame};
 
-use crate::deletion_filter::DeletionFilter;
+use crate::deletion_bloom::DeletionBloom;
 use crate::fingerprinted_rows::Rows;
 use crate::merge_gap::{
     Direction, Gap, Tail, close_gap, fill_gap, is_in_piece, lift_gap, open_gap, sink_gap, take_out,
@@ -51,7 +51,7 @@ fn change_piece<A: Allocator + Copy>(
     gap: Gap,
     pending: &mut Pending<A>,
     pass: Pass,
-    filter: &DeletionFilter,
+    filter: &DeletionBloom,
 ) -> Gap
     requires gap { HasGapAt pivots.now.list rows.old.items gap }
     requires deletions { pass.deletions ≤ length pending.old.deletions.items }
@@ -158,7 +158,7 @@ pub fn run_pass<A: Allocator + Copy>(
     pivots: &mut Pivots<A>,
     pending: &mut Pending<A>,
     pass: Pass,
-    filter: &DeletionFilter,
+    filter: &DeletionBloom,
 ) -> usize
     requires law { ObeysPivots pivots.old.list rows.old.items }
     requires piece { pass.piece ≤ length pivots.old.list }

@@ -8,7 +8,7 @@ ghost use Rattle.ripple_column.specs.Content.{has_score_in, NoneIn, Pends};
 ghost use Rattle.ripple_column.specs.MergeEffects.{HasLast};
 ghost use Rattle.ripple_column.specs.RowHash.{hash_of};
 
-use crate::pending_filter::PendingFilter;
+use crate::pending_bloom::PendingBloom;
 use crate::row_hash::hash_of;
 use crate::waiting_rows::WaitingRows;
 use crack_kernel::Row;
@@ -38,13 +38,13 @@ const KEEPS_ROOM_FROM: usize = 1024;
 #[derive(Drop)]
 pub struct PendingList<A: Allocator> {
     rows: WaitingRows<A>,
-    marks: PendingFilter<A>,
+    marks: PendingBloom<A>,
 }
 
 impl<A: Allocator> Model for PendingList<A> {
     ghost use Rattle.std.specs.Prelude.{ℤ, ℕ, List};
     ghost use Rattle.std.specs.declared.vec.Vec.{Vec as VecValue};
-    ghost use Rattle.ripple_column.specs.PendingFilter.{Covers};
+    ghost use Rattle.ripple_column.specs.PendingBloom.{Covers};
 
     ghost Value = { VecValue (ℤ × List ℕ) A };
 
@@ -60,7 +60,7 @@ impl<A: Allocator + Copy> PendingList<A> {
     {
         PendingList {
             rows: WaitingRows::new(alloc),
-            marks: PendingFilter::new(alloc),
+            marks: PendingBloom::new(alloc),
         }
     }
 }

@@ -2,8 +2,9 @@
 use Rattle.std.specs.Prelude.{◌≡◌, true, None, Some, Result, Ok, Err, MatchResult, OnOk}
 use Rattle.resp_wire.specs.Response.{Response}
 use Rattle.zset_core.specs.CommandRequest.{Asked}
-use Rattle.zset_core.specs.World.{World, act}
-use Rattle.zset_core.specs.SetAndOwnerViews.{OwnerView}
+use Rattle.zset_core.specs.World.{World}
+use Rattle.zset_core.specs.Semantics.{act}
+use Rattle.zset_core.specs.ViewTypes.{OwnerView}
 use Rattle.zset_core.specs.Refusal.{IsRefused}
 use Rattle.zset_core.specs.declared.refusal.Refusal.{Refusal}
 use Rattle.append_log.specs.LoggedOwner.{LoggedView, AreSame, Ran, Refused, Replays}

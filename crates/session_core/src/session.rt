@@ -236,9 +236,12 @@ fn flush<D: ByteDrain>(drain: &mut D, progress: &Progress) -> Result<(), Session
 ///
 /// [`SessionFault::ReadFault`], [`SessionFault::TooManyReads`]: all requests that were read whole were run,
 /// and their replies written. [`SessionFault::Wire`]: these, and behind them the error text of the fault.
-/// [`SessionFault::WriteFault`]: so many bytes of that were taken, so only the last reply is cut.
-/// [`SessionFault::NoMemory`]: whole replies, of which the last may be missing. Of a device that does not
-/// tell its bytes, as a socket doesn't, this holds of some bytes.
+/// [`SessionFault::WriteFault`] bears how many bytes of the replies, and of such a text, the drain took
+/// before it failed: each reply is whole but for the last of these, and no request behind it was run.
+/// [`SessionFault::NoMemory`], for a request or for a reply's bytes: the replies are whole; a request may
+/// have been run whose reply is missing, the last one. (A command that has no memory for its work is
+/// refused by a reply, and the session goes on.) Of a device that does not tell its bytes, as a socket
+/// doesn't, all this holds of some bytes.
 pub fn serve<R, A: Allocator + Copy, S: ByteSource, D: ByteDrain, E: Exec<R, A>>(
     rt: &R,
     alloc: A,

@@ -5,7 +5,7 @@ use Rattle.zset_core.specs.SortedSet.{Members}
 use Rattle.zset_core.specs.CommandRequest.{Asked, is_writing, Meaning}
 use Rattle.zset_core.specs.ChangeOutline.{IsOutline}
 use Rattle.zset_core.specs.Semantics.{step}
-use Rattle.zset_core.specs.SetAndOwnerViews.{Next, Shows, IsPreparedFor}
+use Rattle.zset_core.specs.ViewTypes.{Next, Shows, IsPreparedFor}
 use Rattle.zset_core.specs.declared.set.change_outline.Outline.{Outline}
 use Rattle.zset_core.specs.declared.refusal.Refusal.{Refusal}
 use Rattle.zset_core.specs.declared.refusal.Refusal.TheVariants.{NoMemory, UnknownCommand, WrongArity, Syntax, NxAndXx, GtLtNx, IncrPair, BadScore, BadBound, BadInteger, TableFull, Spent, ScoreOverflow, LogBroken, LogFull, LogRefused, OutOfStep}

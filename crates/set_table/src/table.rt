@@ -99,18 +99,21 @@ impl<H: BuildHasher, S: LogSink, L: Ledger, A: Allocator + Copy> Table<H, S, L, 
     /// one, and any other gets the reply of an empty set, as PING gets its own. A command that reads is
     /// asked under the shared lock first. `rt` waits for locks; the gate is called inside each one.
     ///
-    /// On [`Answered::Ran`] the place is the key's, by what the pass knows then. Reply and counts are those
-    /// of one step of the command on some set with as many members as the answer's `found` tells, and
-    /// `found` is no less than what this pass was told there before: others write the sets between two
-    /// calls, so that it is the key's own set is shown by tests. The pass's share of that place counts
-    /// one run more and the members of the answer's `own`, or stays where a reading was answered under
-    /// the shared lock. No other share moves.
+    /// On [`Answered::Ran`] the place is the key's, by what the pass knows then. The answer's `found` is what
+    /// all passes together had been told of the place's members before, its `own` what this command added
+    /// and removed. Reply and `own` are those of one step of the command on some set with as many members
+    /// as `found` tells, and `found` counts no less than what this pass was told there before: others write
+    /// the sets between two calls, so that it is the key's own set is shown by tests. The pass's share of
+    /// that place counts one run more and the members of `own`, or stays where a reading was answered
+    /// under the shared lock. No other share moves.
     ///
     /// # Errors
     ///
     /// The pass's shares stay. [`Refusal::TableFull`] where a command that creates finds no place;
-    /// [`Refusal::OutOfStep`] where cell and pass tell different numbers; [`Refusal::Spent`] where the
-    /// place has no run left; those of the command and of the log; [`Refusal::NoMemory`].
+    /// [`Refusal::OutOfStep`] where cell and pass tell different numbers, which no pass of this table meets;
+    /// [`Refusal::Spent`] where the place has no run left; those of the command and of the log;
+    /// [`Refusal::NoMemory`]. What the cell tells is behind its lock, so the clauses say of these only which
+    /// may come: [`crate::Cell::run`] says exactly when.
     pub fn run<'c, R: Wait, G: Gate>(
         &self,
         rt: &R,

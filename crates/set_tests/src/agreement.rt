@@ -4,15 +4,13 @@ ghost use Rattle.std.specs.Prelude.{◌≡◌, None};
 
 use crate::columns::{Set, run};
 use crate::examples::{command, text_of};
+use crate::random_changes::{Extent, Plain, next, random_change};
 use std::alloc::Global;
 use std::collections::BTreeMap;
 use std::hash::RandomState;
 use std::process::Abort;
 use std::test::*;
 use zset_core::ZSet;
-
-// A plain set: scores of members, each of which is named by a number.
-type Plain = BTreeMap<u64, i64, Global>;
 
 // What is asked for: scores above `low` and up to `high`.
 #[derive(Clone, Copy)]
@@ -144,64 +142,6 @@ fn windows_are_cut_out_of_the_listing(rt: HostRuntime) -> Result<(), Fail> {
     Ok(())
 }
 
-// The next of a row of numbers below 2^31 (the generator of Park and Miller).
-fn next(number: u64) -> u64 {
-    number.wrapping_mul(48271) % 2147483647
-}
-
-// How many members and scores a set has.
-#[derive(Clone, Copy)]
-struct Extent {
-    members: u64,
-    scores: u64,
-}
-
-impl Extent {
-    // A member, by a number.
-    fn member(&self, number: u64) -> u64 {
-        number.checked_rem(self.members).unwrap_or(0)
-    }
-
-    // A score, by a number.
-    fn score(&self, number: u64) -> i64 {
-        i64::try_from(number.checked_rem(self.scores).unwrap_or(0)).unwrap_or(0)
-    }
-}
-
-// A change, by a number, of a plain set; and the command that makes it.
-fn random_change(
-    alloc: Global,
-    plain: &mut Plain,
-    number: u64,
-    extent: &Extent,
-) -> Result<String, Fail> {
-    let member = extent.member(number / 8);
-    let score = extent.score(number / 128);
-    Ok(match number % 4 {
-        0 => {
-            plain.remove(&member);
-            format!(in alloc; "ZREM k m{member}")?
-        }
-        1 => {
-            let old = plain.get(&member).copied().unwrap_or(0);
-            plain.insert(member, old.wrapping_add(7))?;
-            format!(in alloc; "ZADD k INCR 7 m{member}")?
-        }
-        2 => {
-            if plain.contains_key(&member) {
-                plain.insert(member, score)?;
-            }
-            format!(in alloc; "ZADD k XX {score} m{member}")?
-        }
-        _ => {
-            let other = extent.member(number / 4096);
-            plain.insert(member, score)?;
-            plain.insert(other, 3)?;
-            format!(in alloc; "ZADD k {score} m{member} 3 m{other}")?
-        }
-    })
-}
-
 // What is asked for, by a number.
 fn random_question(number: u64) -> Question {
     let low = (number / 65536 % 24) as i64;
@@ -325,6 +265,37 @@ fn windows_of_big_sets_agree_with_plain_sets(rt: HostRuntime) -> Result<(), Fail
             scores,
         };
         agree_on_windows(&rt, alloc, &mut set, &extent)?;
+    }
+    Ok(())
+}
+
+#[test]
+fn windows_of_one_score_are_listed(rt: HostRuntime) -> Result<(), Fail> {
+    let alloc = rt.alloc();
+    let mut set = ZSet::with_hasher(alloc, RandomState::new(&rt)?);
+    let extent = Extent {
+        members: 1_000,
+        scores: 1,
+    };
+    let plain = big(alloc, &mut set, &extent)?;
+    let limits = [
+        (0, 1),
+        (0, 10),
+        (7, 3),
+        (0, 125),
+        (124, 1),
+        (0, 126),
+        (500, 10),
+        (995, 10),
+    ];
+    for limit in limits {
+        let asked = Question {
+            low: -1,
+            high: 0,
+            with_scores: true,
+            limit: Some(limit),
+        };
+        expect_listing(&rt, alloc, &mut set, &plain, &asked)?;
     }
     Ok(())
 }

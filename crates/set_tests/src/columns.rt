@@ -82,6 +82,60 @@ fn a_range_merges_and_cracks(rt: HostRuntime) -> Result<(), Fail> {
     expect(&rt, alloc, &mut set, rows.as_slice())
 }
 
+// Rows leave with their range: those behind them and the pivots close up, and no pivot goes.
+#[test]
+fn a_removed_range_closes_up(rt: HostRuntime) -> Result<(), Fail> {
+    let alloc = rt.alloc();
+    let mut set = ZSet::with_hasher(alloc, RandomState::new(&rt)?);
+    run(alloc, &mut set, "ZADD k 1 m1 2 m2 3 m3 4 m4 5 m5 6 m6")?;
+    run(alloc, &mut set, "ZADD k 7 m7 8 m8 9 m9 10 m10 1 x 9 z")?;
+    run(alloc, &mut set, "ZCOUNT k 3 6")?;
+    let left = "8 rows +0 -0 (0, 0) (3, 3) (4, 4) (7, 4) (8, 4) (11, 8)";
+    let none = "0 rows +0 -0 (0, 0) (3, 0) (4, 0) (7, 0) (8, 0) (11, 0)";
+    let rows = [
+        (
+            "ZCOUNT k 0 10",
+            ":12~",
+            "12 rows +0 -0 (0, 0) (3, 3) (7, 7) (11, 12)",
+        ),
+        ("ZREMRANGEBYSCORE k (3 7", ":4~", left),
+        ("ZCOUNT k 0 10", ":8~", left),
+        ("ZREMRANGEBYSCORE k 9 1", ":0~", left),
+        ("ZREMRANGEBYSCORE k -inf +inf", ":8~", none),
+        ("ZCARD k", ":0~", none),
+    ];
+    expect(&rt, alloc, &mut set, rows.as_slice())
+}
+
+// What waits in a removed range is merged first and leaves with it; what waits outside stays.
+#[test]
+fn what_waits_leaves_with_its_range(rt: HostRuntime) -> Result<(), Fail> {
+    let alloc = rt.alloc();
+    let mut set = ZSet::with_hasher(alloc, RandomState::new(&rt)?);
+    let rows = [
+        ("ZADD k 1 a 5 b 9 c", ":3~", "0 rows +3 -0"),
+        ("ZCOUNT k -inf +inf", ":3~", "3 rows +0 -0"),
+        ("ZADD k 5 d 8 e", ":2~", "3 rows +2 -0"),
+        ("ZREM k c", ":1~", "3 rows +2 -1"),
+        (
+            "ZREMRANGEBYSCORE k 4 6",
+            ":2~",
+            "2 rows +1 -1 (4, 1) (7, 1)",
+        ),
+        (
+            "ZREMRANGEBYSCORE k 4 6",
+            ":0~",
+            "2 rows +1 -1 (4, 1) (7, 1)",
+        ),
+        (
+            "ZRANGEBYSCORE k -inf +inf",
+            "*2~$1~a~$1~e~",
+            "2 rows +0 -0 (4, 1) (7, 1)",
+        ),
+    ];
+    expect(&rt, alloc, &mut set, rows.as_slice())
+}
+
 #[test]
 fn a_member_moves_between_pieces(rt: HostRuntime) -> Result<(), Fail> {
     let alloc = rt.alloc();

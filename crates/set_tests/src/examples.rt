@@ -46,7 +46,7 @@ pub fn reply_to(alloc: Global, owner: &mut Owner, text: &str) -> Result<String, 
 }
 
 // Commands in turn, with their replies. Each key begins an example of its own.
-const EXAMPLES: [(&str, &str); 42] = [
+const EXAMPLES: [(&str, &str); 51] = [
     ("PING", "+PONG~"),
     ("PING hi", "$2~hi~"),
     ("ZADD one 5 a", ":1~"),
@@ -98,6 +98,15 @@ const EXAMPLES: [(&str, &str); 42] = [
     ("ZADD gone 3 ", ":1~"),
     ("ZRANGEBYSCORE gone 3 3", "*1~$0~~"),
     ("ZSCORE gone a", "$-1~"),
+    ("ZADD cut 1 a 2 b 3 c 4 d", ":4~"),
+    ("ZREMRANGEBYSCORE cut (1 (4", ":2~"),
+    ("ZRANGEBYSCORE cut -inf +inf", "*2~$1~a~$1~d~"),
+    ("ZREMRANGEBYSCORE cut 4 1", ":0~"),
+    ("ZADD cut 2 d 3 e", ":1~"),
+    ("ZREMRANGEBYSCORE cut 2 2", ":1~"),
+    ("ZREMRANGEBYSCORE cut -inf +inf", ":2~"),
+    ("ZCARD cut", ":0~"),
+    ("ZREMRANGEBYSCORE missing -inf +inf", ":0~"),
 ];
 
 #[test]
@@ -110,7 +119,40 @@ fn examples_are_answered(rt: HostRuntime) -> Result<(), Fail> {
     Ok(())
 }
 
-// What a command of ZADD or ZREM is prepared to do in its set.
+// Commands with GT and LT in turn, with their replies.
+const GREATER_OR_LESS: [(&str, &str); 16] = [
+    ("ZADD k 5 a", ":1~"),
+    ("ZADD k GT CH 5 a", ":0~"),
+    ("ZADD k GT CH 6 a 1 b", ":2~"),
+    ("ZADD k LT 7 a", ":0~"),
+    ("ZADD k LT INCR -1 a", "$1~5~"),
+    ("ZADD k GT INCR -1 a", "$-1~"),
+    ("ZADD k GT INCR 0 a", "$-1~"),
+    ("ZADD k LT INCR 0 a", "$-1~"),
+    ("ZADD k GT INCR 9223372036854775807 a", "r13"),
+    ("ZADD k LT INCR 9223372036854775807 a", "r13"),
+    ("ZADD k XX GT 9 c", ":0~"),
+    ("ZADD k LT LT CH 4 a", ":1~"),
+    ("ZADD k LT CH 4 a", ":0~"),
+    ("ZADD k gt INCR 7 c", "$1~7~"),
+    ("ZADD k LT INCR 8 d", "$1~8~"),
+    (
+        "ZRANGEBYSCORE k -inf +inf WITHSCORES",
+        "*8~$1~b~$1~1~$1~a~$1~4~$1~c~$1~7~$1~d~$1~8~",
+    ),
+];
+
+#[test]
+fn greater_and_less_are_asked_for(rt: HostRuntime) -> Result<(), Fail> {
+    let alloc = rt.alloc();
+    let mut owner = OneOwner::new(alloc, RandomState::new(&rt)?);
+    for (text, want) in GREATER_OR_LESS {
+        assert_eq!(rt; reply_to(alloc, &mut owner, text)?.as_str(), want, "{text}");
+    }
+    Ok(())
+}
+
+// What a command that changes sets is prepared to do in its set.
 fn outline_of(alloc: Global, owner: &mut Owner, text: &str) -> Result<Outline, Fail>
     requires { owner.old.next ≡ None }
     ensures { owner.new.next ≡ None }
@@ -140,6 +182,9 @@ fn outlines_tell_the_change(rt: HostRuntime) -> Result<(), Fail> {
         ("ZADD other XX 5 a", (0, 0, false)),
         ("ZREM k a a x", (0, 1, true)),
         ("ZREM k x", (0, 0, false)),
+        ("ZREMRANGEBYSCORE k 1 2", (0, 2, true)),
+        ("ZREMRANGEBYSCORE k (1 +inf", (0, 1, true)),
+        ("ZREMRANGEBYSCORE k 3 9", (0, 0, false)),
     ];
     for (text, (added, removed, changed)) in rows {
         let want = Outline {

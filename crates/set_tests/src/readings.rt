@@ -13,14 +13,17 @@ fn request(alloc: Global, text: &str) -> Result<Request<Global>, Fail> {
 }
 
 // Requests that are refused, and the refusals.
-const REFUSED: [(&str, Refusal); 40] = [
+const REFUSED: [(&str, Refusal); 45] = [
     ("FOO", Refusal::UnknownCommand),
     ("", Refusal::UnknownCommand),
-    ("ZREMRANGEBYSCORE k 1 2", Refusal::UnknownCommand),
+    ("ZREMRANGEBYRANK k 1 2", Refusal::UnknownCommand),
     ("ZADD k 1", Refusal::WrongArity),
     ("ZADD", Refusal::WrongArity),
     ("PING a b", Refusal::WrongArity),
     ("ZREM k", Refusal::WrongArity),
+    ("ZREMRANGEBYSCORE k 1", Refusal::WrongArity),
+    ("ZREMRANGEBYSCORE k 1 2 3", Refusal::WrongArity),
+    ("ZREMRANGEBYSCORE", Refusal::WrongArity),
     ("ZSCORE k", Refusal::WrongArity),
     ("ZSCORE k a b", Refusal::WrongArity),
     ("ZCARD", Refusal::WrongArity),
@@ -31,7 +34,7 @@ const REFUSED: [(&str, Refusal); 40] = [
     ("ZADD k NX 1", Refusal::Syntax),
     ("ZADD k NX XX", Refusal::Syntax),
     ("ZADD k 1 a 2", Refusal::Syntax),
-    ("ZADD k GT 1 a", Refusal::Syntax),
+    ("ZADD k GT 1", Refusal::Syntax),
     ("ZADD k INCR 1 a 2", Refusal::Syntax),
     ("ZRANGEBYSCORE k 1 2 LIMIT 0", Refusal::Syntax),
     ("ZRANGEBYSCORE k 1 2 LIMIT", Refusal::Syntax),
@@ -50,6 +53,8 @@ const REFUSED: [(&str, Refusal); 40] = [
     ("ZADD k 1 NX 2 a NX b", Refusal::BadScore),
     ("ZADD k INCR inf a", Refusal::BadScore),
     ("ZADD k (1 a", Refusal::BadScore),
+    ("ZREMRANGEBYSCORE k x 2", Refusal::BadBound),
+    ("ZREMRANGEBYSCORE k 1 ((2", Refusal::BadBound),
     ("ZCOUNT k ( 5", Refusal::BadBound),
     ("ZCOUNT k 1.5 2", Refusal::BadBound),
     ("ZCOUNT k 1 ((2", Refusal::BadBound),
@@ -62,19 +67,38 @@ const REFUSED: [(&str, Refusal); 40] = [
     ),
 ];
 
+// Requests of ZADD that are refused for their options, or for what is asked before and behind these.
+const REFUSED_OPTIONS: [(&str, Refusal); 15] = [
+    ("ZADD k GT LT", Refusal::Syntax),
+    ("ZADD k NX GT 1 a 2", Refusal::Syntax),
+    ("ZADD k GTX 1 a", Refusal::Syntax),
+    ("ZADD k NX XX GT 1 a", Refusal::NxAndXx),
+    ("ZADD k LT XX GT NX 1 a", Refusal::NxAndXx),
+    ("ZADD k GT LT 1 a", Refusal::GtLtNx),
+    ("ZADD k NX GT 1 a", Refusal::GtLtNx),
+    ("ZADD k lt ch nx 1 a", Refusal::GtLtNx),
+    ("ZADD k XX GT LT 1 a", Refusal::GtLtNx),
+    ("ZADD k GT LT INCR 1 a 2 b", Refusal::GtLtNx),
+    ("ZADD k GT GT LT x a", Refusal::GtLtNx),
+    ("ZADD k LT INCR 1 a 2 b", Refusal::IncrPair),
+    ("ZADD k GT incr x a 2 b", Refusal::IncrPair),
+    ("ZADD k LT LT x a", Refusal::BadScore),
+    ("ZADD k 1 GT 2 a LT b", Refusal::BadScore),
+];
+
 #[test]
 fn refused_requests(rt: HostRuntime) -> Result<(), Fail> {
-    for (text, refusal) in REFUSED {
+    for (text, refusal) in REFUSED.iter().chain(&REFUSED_OPTIONS) {
         match Command::read(rt.alloc(), request(rt.alloc(), text)?) {
             Ok(_) => assert!(rt; false, "{text} is read"),
-            Err(given) => assert_eq!(rt; given, refusal, "at {text}"),
+            Err(given) => assert_eq!(rt; given, *refusal, "at {text}"),
         }
     }
     Ok(())
 }
 
 // Requests that are read: the key, whether they write, and whether they create.
-const READ: [(&str, Option<&str>, bool, bool); 14] = [
+const READ: [(&str, Option<&str>, bool, bool); 19] = [
     ("PING", None, false, false),
     ("ping hi", None, false, false),
     ("ZADD k 1 a", Some("k"), true, true),
@@ -82,8 +106,13 @@ const READ: [(&str, Option<&str>, bool, bool); 14] = [
     ("ZADD k XX 1 a", Some("k"), true, false),
     ("ZADD k NX INCR 1.0 a", Some("k"), true, true),
     ("ZADD k XX INCR 5 b", Some("k"), true, false),
+    ("ZADD k gt ch GT 1 a 2 b", Some("k"), true, true),
+    ("ZADD k LT XX lt 1 a", Some("k"), true, false),
+    ("ZADD k INCR LT 5 b", Some("k"), true, true),
     ("ZADD  1 ", Some(""), true, true),
     ("ZREM k a a x", Some("k"), true, false),
+    ("ZREMRANGEBYSCORE k 1 2", Some("k"), true, false),
+    ("zremrangebyscore k (-inf +INF", Some("k"), true, false),
     ("ZSCORE k a", Some("k"), false, false),
     ("ZCARD k", Some("k"), false, false),
     ("ZCOUNT k (inf +INF", Some("k"), false, false),

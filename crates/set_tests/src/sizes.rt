@@ -114,3 +114,21 @@ fn a_large_set_is_answered(rt: HostRuntime) -> Result<(), Fail> {
     ];
     expect(alloc, &mut owner, &talk)
 }
+
+#[test]
+fn a_great_range_is_removed(rt: HostRuntime) -> Result<(), Fail> {
+    let alloc = rt.alloc();
+    let mut owner = OneOwner::new(alloc, RandomState::new(&rt)?);
+    fill(alloc, &mut owner, 240)?;
+    let talk = [
+        ("ZREMRANGEBYSCORE k 1000 (101000", ":100000~"),
+        ("ZCARD k", ":20000~"),
+        ("ZSCORE k m1000", "$-1~"),
+        ("ZSCORE k m101000", "$6~101000~"),
+        ("ZRANGEBYSCORE k 999 101000", "*2~$4~m999~$7~m101000~"),
+        ("ZADD k 50000 x", ":1~"),
+        ("ZREMRANGEBYSCORE k -inf +inf", ":20001~"),
+        ("ZCOUNT k -inf +inf", ":0~"),
+    ];
+    expect(alloc, &mut owner, &talk)
+}

@@ -85,6 +85,29 @@ fn ranges_and_removals(rt: HostRuntime) -> Result<(), Fail> {
     Ok(())
 }
 
+// A range is removed, and what it leaves is read.
+#[test]
+fn removed_ranges(rt: HostRuntime) -> Result<(), Fail> {
+    let commands = [
+        "ZADD k 1 a 2 b 3 c",
+        "ZREMRANGEBYSCORE k (1 2",
+        "ZREMRANGEBYSCORE k (1 2",
+        "ZRANGEBYSCORE k -inf +inf",
+        "ZREMRANGEBYSCORE k -inf +inf",
+        "ZCARD k",
+        "ZREMRANGEBYSCORE j 1 2",
+    ];
+    let replies = answers_of::<Brand, _>(
+        &rt,
+        Blank::new(6),
+        owner_of(&rt, &[])?,
+        FOUR_PLACES,
+        &commands,
+    )?;
+    assert_eq!(rt; replies.as_str(), ":3~ :1~ :0~ *2~$1~a~$1~c~ :2~ :0~ :0~ ");
+    Ok(())
+}
+
 // Commands that make no set get the reply of an empty one, and PING its own.
 #[test]
 fn commands_without_a_place(rt: HostRuntime) -> Result<(), Fail> {

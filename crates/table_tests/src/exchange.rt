@@ -4,7 +4,7 @@ ghost use Rattle.std.specs.Prelude.{◌≡◌, ◌<◌, ◌≤◌, ◌+◌, ◌^
 ghost use Rattle.set_table.specs.ClosingTotals.{pass_at};
 ghost use Rattle.set_table.specs.PassStates.{IsPassOf};
 
-use append_log::{Log, MemorySink};
+use append_log::{Log, LogSink, MemorySink};
 use resp_wire::{Bytes, BytesList, Reply, Request, write_reply};
 use set_table::{Answered, Gate, NoGate, Pass, Table};
 use std::alloc::Global;
@@ -54,10 +54,10 @@ fn answer_text(
 }
 
 /// What a table answers to a command's text.
-pub fn answer<L: Ledger, R: Wait, G: Gate>(
+pub fn answer<S: LogSink, L: Ledger, R: Wait, G: Gate>(
     rt: &R,
     alloc: Global,
-    table: &Sets<L>,
+    table: &Table<RandomState, S, L, Global>,
     pass: &mut Pass<Global>,
     text: &str,
     gate: &G,
@@ -70,10 +70,10 @@ pub fn answer<L: Ledger, R: Wait, G: Gate>(
 }
 
 /// What a table answers to commands one after the other, a space behind each answer.
-pub fn answers<L: Ledger, R: Wait>(
+pub fn answers<S: LogSink, L: Ledger, R: Wait>(
     rt: &R,
     alloc: Global,
-    table: &Sets<L>,
+    table: &Table<RandomState, S, L, Global>,
     pass: &mut Pass<Global>,
     texts: &[&str],
 ) -> Result<String, Fail>
@@ -137,7 +137,7 @@ pub fn opened<L: Ledger>(
 }
 
 /// The two passes.
-fn pair(passes: Vec<Pass<Global>>) -> Result<(Pass<Global>, Pass<Global>), Fail>
+pub fn pair(passes: Vec<Pass<Global>>) -> Result<(Pass<Global>, Pass<Global>), Fail>
     requires { length passes.items ≡ 2 }
     ensures { IfOk result
         (λ both. (both.0 ≡ pass_at passes.items 0) × (both.1 ≡ pass_at passes.items 1)) }

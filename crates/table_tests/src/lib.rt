@@ -15,6 +15,8 @@ mod exchange;
 #[cfg(test)]
 mod gates;
 #[cfg(test)]
+mod hardship;
+#[cfg(test)]
 mod places;
 #[cfg(test)]
 mod two_adders;

@@ -44,6 +44,22 @@ const REFUSALS: Exchanges<'static> = &[
     ("PING a b", "-ERR 3 wrong number of arguments~"),
     ("ZADD k NX 1", "-ERR 4 syntax error~"),
     ("ZADD k NX XX 1 a", "-ERR 5 NX and XX exclude each other~"),
+    (
+        "ZADD k NX XX GT 1 a",
+        "-ERR 5 NX and XX exclude each other~",
+    ),
+    (
+        "ZADD k GT LT 1 a",
+        "-ERR 6 GT, LT and NX exclude each other~",
+    ),
+    (
+        "ZADD k NX GT 1 a",
+        "-ERR 6 GT, LT and NX exclude each other~",
+    ),
+    (
+        "ZADD k GT LT INCR 1 a 2 b",
+        "-ERR 6 GT, LT and NX exclude each other~",
+    ),
     ("ZADD k INCR 1 a 2 b", "-ERR 7 INCR takes one pair~"),
     (
         "ZADD k 1 a x b",
@@ -76,6 +92,21 @@ const SUMS: Exchanges<'static> = &[
     ("ZADD k XX INCR 5 b", "$-1~"),
     ("ZADD k INCR 1.0 a", "$1~2~"),
     ("ZADD k XX CH 7 a 8 b", ":1~"),
+];
+
+const GREATER_OR_LESS: Exchanges<'static> = &[
+    ("ZADD k 5 a", ":1~"),
+    ("ZADD k GT CH 5 a", ":0~"),
+    ("ZADD k GT CH 6 a 1 b", ":2~"),
+    ("ZADD k LT 7 a", ":0~"),
+    ("ZADD k LT INCR -1 a", "$1~5~"),
+    ("ZADD k GT INCR -1 a", "$-1~"),
+    (
+        "ZADD k GT INCR 9223372036854775807 a",
+        "-ERR 13 score out of range~",
+    ),
+    ("ZADD k XX GT 9 c", ":0~"),
+    ("ZADD k LT LT CH 4 a", ":1~"),
 ];
 
 const ONE_STREAM: Exchanges<'static> = &[
@@ -127,6 +158,7 @@ fn exchanges_go_as_worked(rt: HostRuntime) -> Result<(), Fail> {
         BOUNDS,
         REFUSALS,
         SUMS,
+        GREATER_OR_LESS,
         ONE_STREAM,
         LIMITS,
         REMOVALS,

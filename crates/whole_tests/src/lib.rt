@@ -5,6 +5,8 @@
 #[cfg(test)]
 mod commands;
 #[cfg(test)]
+mod devices;
+#[cfg(test)]
 mod exchange;
 #[cfg(test)]
 mod flushing;
@@ -14,5 +16,7 @@ mod logging;
 mod memory;
 #[cfg(test)]
 mod sessions;
+#[cfg(test)]
+mod want_of_memory;
 #[cfg(test)]
 mod wire;

@@ -2,7 +2,7 @@
 
 ghost use Rattle.std.specs.Prelude.{◌≡◌, IsTrue, IfOk};
 ghost use Rattle.zset_core.specs.CommandRequest.{is_writing};
-ghost use Rattle.zset_core.specs.SetAndOwnerViews.{IsPreparedFor};
+ghost use Rattle.zset_core.specs.ViewTypes.{IsPreparedFor};
 
 use crate::exchange::bytes_of;
 use append_log::{Log, LogSink, LoggedOwner, MemorySink, NoSink, Record, SinkFault};

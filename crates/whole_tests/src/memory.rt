@@ -10,18 +10,24 @@ use zset_core::OneOwner;
 
 // One refused allocation leaves one of these, or ends the session: the refused request is answered
 // so, and the requests behind it on the sets that then stand.
-const REPLIES: [&str; 4] = [
-    ":1~*1~$1~a~$2~hi~",
-    "-ERR 1 out of memory~*0~$2~hi~",
-    ":1~-ERR 1 out of memory~$2~hi~",
-    ":1~*1~$1~a~-ERR 1 out of memory~",
+const REPLIES: [&str; 5] = [
+    ":1~*1~$1~a~:1~$2~hi~",
+    "-ERR 1 out of memory~*0~:0~$2~hi~",
+    ":1~-ERR 1 out of memory~:1~$2~hi~",
+    ":1~*1~$1~a~-ERR 1 out of memory~$2~hi~",
+    ":1~*1~$1~a~:1~-ERR 1 out of memory~",
 ];
 
 #[test]
 fn each_refused_allocation_is_told(rt: HostRuntime) -> Result<(), Fail> {
     let alloc = rt.alloc();
     let mut input = Vec::new(alloc);
-    for words in ["ZADD k 5 a", "ZRANGEBYSCORE k 5 5", "PING hi"] {
+    for words in [
+        "ZADD k 5 a",
+        "ZRANGEBYSCORE k 5 5",
+        "ZREMRANGEBYSCORE k (3 5",
+        "PING hi",
+    ] {
         write_words(alloc, words, &mut input)?;
     }
     let hasher = RandomState::new(&rt)?;

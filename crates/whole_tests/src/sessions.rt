@@ -9,7 +9,7 @@ use std::test::Fail;
 use zset_core::OneOwner;
 
 /// An addition and a range of one score: 80 bytes.
-const TWO_REQUESTS: &str = "*4~$4~ZADD~$1~k~$1~5~$1~a~*4~$13~ZRANGEBYSCORE~$1~k~$1~5~$1~5~";
+pub const TWO_REQUESTS: &str = "*4~$4~ZADD~$1~k~$1~5~$1~a~*4~$13~ZRANGEBYSCORE~$1~k~$1~5~$1~5~";
 
 #[test]
 fn the_end_of_the_input_is_told(rt: HostRuntime) -> Result<(), Fail> {

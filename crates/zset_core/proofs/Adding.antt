@@ -7,26 +7,26 @@ use Rattle.std.proofs.lemmas.List.{drop-drop, get_or-drop}
 use Rattle.score_bounds.specs.Scores.{score_value}
 use Rattle.zset_core.specs.CommandRequest as meanings
 use Rattle.zset_core.specs.ParsedForm.{word_at, scored}
-use Rattle.zset_core.specs.CommandGrammar.{first_of, has_option, are_pairs, asked_flags, add_meaning, add_options, add_pairs, pairs_value, command_conditions, command_meaning}
+use Rattle.zset_core.specs.CommandGrammar.{first_of, has_option, has_two_of_gt_lt_nx, are_pairs, asked_flags, add_meaning, add_options, add_pairs, pairs_value, command_conditions, command_meaning}
 use Rattle.zset_core.specs.ParseResults.{AreAddParts, AreScores, given_value}
 use Rattle.zset_core.specs.declared.command.name.CommandName.TheVariants as names
 use Rattle.zset_core.specs.declared.set.pair_outcome.Flags.{Flags}
 use Rattle.zset_core.specs.declared.refusal.Refusal.{Refusal}
-use Rattle.zset_core.specs.declared.refusal.Refusal.TheVariants.{Syntax, NxAndXx, IncrPair, BadScore}
+use Rattle.zset_core.specs.declared.refusal.Refusal.TheVariants.{Syntax, NxAndXx, GtLtNx, IncrPair, BadScore}
 use lib.Dec.{eqb}
 
--- the first of ZADD's four conditions
-abbrev add_cases : Bool → Bool → Bool → Bool → List (Bool × Refusal)
-add_cases a b c d = (a, Syntax) ∷ (b, NxAndXx) ∷ (c, IncrPair) ∷ (d, BadScore) ∷ []
+-- the first of ZADD's five conditions
+abbrev add_cases : Bool → Bool → Bool → Bool → Bool → List (Bool × Refusal)
+add_cases a b c d e = (a, Syntax) ∷ (b, NxAndXx) ∷ (c, GtLtNx) ∷ (d, IncrPair) ∷ (e, BadScore) ∷ []
 
-none_of : (a b c d : Bool) → a ≡ false → b ≡ false → c ≡ false → d ≡ false → first_of (add_cases a b c d) ≡ None
-none_of a b c d no_a no_b no_c no_d = rw (no_a, no_b, no_c, no_d) refl
+none_of : (a b c d e : Bool) → a ≡ false → b ≡ false → c ≡ false → d ≡ false → e ≡ false → first_of (add_cases a b c d e) ≡ None
+none_of a b c d e no_a no_b no_c no_d no_e = rw (no_a, no_b, no_c, no_d, no_e) refl
 
-third_of : (a b c d : Bool) → a ≡ false → b ≡ false → c ≡ true → first_of (add_cases a b c d) ≡ Some IncrPair
-third_of a b c d no_a no_b is_c = rw (no_a, no_b, is_c) refl
+fourth_of : (a b c d e : Bool) → a ≡ false → b ≡ false → c ≡ false → d ≡ true → first_of (add_cases a b c d e) ≡ Some IncrPair
+fourth_of a b c d e no_a no_b no_c is_d = rw (no_a, no_b, no_c, is_d) refl
 
-fourth_of : (a b c d : Bool) → a ≡ false → b ≡ false → c ≡ false → d ≡ true → first_of (add_cases a b c d) ≡ Some BadScore
-fourth_of a b c d no_a no_b no_c is_d = rw (no_a, no_b, no_c, is_d) refl
+fifth_of : (a b c d e : Bool) → a ≡ false → b ≡ false → c ≡ false → d ≡ false → e ≡ true → first_of (add_cases a b c d e) ≡ Some BadScore
+fifth_of a b c d e no_a no_b no_c no_d is_e = rw (no_a, no_b, no_c, no_d, is_e) refl
 
 positive : (pairs : List (List ℕ)) → are_pairs pairs ≡ true → 0 < length pairs
 positive [] whole = absurd (let no : ⊥ = cc in no)
@@ -71,23 +71,23 @@ words_count words some =
 
 -- with INCR
 increase_unrefused : (words : List (List ℕ)) (given : ℤ) → are_pairs (add_pairs words) ≡ true
-    → (has_option (codes "NX") (add_options words) && has_option (codes "XX") (add_options words)) ≡ false
+    → (has_option (codes "NX") (add_options words) && has_option (codes "XX") (add_options words)) ≡ false → has_two_of_gt_lt_nx (asked_flags (add_options words)) ≡ false
     → given_value (add_pairs words) ≡ Ok given → first_of (command_conditions names.Add words) ≡ None
 unfolding given_value
-increase_unrefused words given whole apart read =
+increase_unrefused words given whole apart agreeing read =
     let facts = given_ok (eqb (length (add_pairs words)) 2) (score_value (word_at (add_pairs words) 0)) given read in
     let value = value_of_one (add_pairs words) (eqb-true _ _ facts.0) (Some given) facts.1 in
-    none_of _ _ _ _ (not_from_true _ whole) apart (and_right _ _ (not_from_true _ facts.0)) (ap is_none value)
+    none_of _ _ _ _ _ (not_from_true _ whole) apart agreeing (and_right _ _ (not_from_true _ facts.0)) (ap is_none value)
 
 increase_refused : (words : List (List ℕ)) (refusal : Refusal) → are_pairs (add_pairs words) ≡ true
-    → (has_option (codes "NX") (add_options words) && has_option (codes "XX") (add_options words)) ≡ false → has_option (codes "INCR") (add_options words) ≡ true
+    → (has_option (codes "NX") (add_options words) && has_option (codes "XX") (add_options words)) ≡ false → has_two_of_gt_lt_nx (asked_flags (add_options words)) ≡ false → has_option (codes "INCR") (add_options words) ≡ true
     → given_value (add_pairs words) ≡ Err refusal → first_of (command_conditions names.Add words) ≡ Some refusal
 unfolding given_value
-increase_refused words refusal whole apart incr read = elim (given_err (eqb (length (add_pairs words)) 2) (score_value (word_at (add_pairs words) 0)) refusal read) [
-  | inl facts ↦ third_of _ _ _ _ (not_from_true _ whole) apart (and_from _ _ incr (not_from_false _ facts.0)) ∙ ap Some (sym facts.1)
+increase_refused words refusal whole apart agreeing incr read = elim (given_err (eqb (length (add_pairs words)) 2) (score_value (word_at (add_pairs words) 0)) refusal read) [
+  | inl facts ↦ fourth_of _ _ _ _ _ (not_from_true _ whole) apart agreeing (and_from _ _ incr (not_from_false _ facts.0)) ∙ ap Some (sym facts.1)
   | inr facts ↦
       let value = value_of_one (add_pairs words) (eqb-true _ _ facts.0) None facts.1 in
-      fourth_of _ _ _ _ (not_from_true _ whole) apart (and_right _ _ (not_from_true _ facts.0)) (ap is_none value) ∙ ap Some (sym facts.2)
+      fifth_of _ _ _ _ _ (not_from_true _ whole) apart agreeing (and_right _ _ (not_from_true _ facts.0)) (ap is_none value) ∙ ap Some (sym facts.2)
 ]
 
 increase_meaning : (words : List (List ℕ)) (flags : Flags) (given : ℤ) (member : ℕ) → has_option (codes "INCR") (add_options words) ≡ true
@@ -109,16 +109,16 @@ increase_meaning words flags given member incr read is_flags is_member =
 
 -- without INCR
 scores_unrefused : (words : List (List ℕ)) (scores : List ℤ) → are_pairs (add_pairs words) ≡ true
-    → (has_option (codes "NX") (add_options words) && has_option (codes "XX") (add_options words)) ≡ false → has_option (codes "INCR") (add_options words) ≡ false
+    → (has_option (codes "NX") (add_options words) && has_option (codes "XX") (add_options words)) ≡ false → has_two_of_gt_lt_nx (asked_flags (add_options words)) ≡ false → has_option (codes "INCR") (add_options words) ≡ false
     → AreScores (add_pairs words) scores → first_of (command_conditions names.Add words) ≡ None
-scores_unrefused words scores whole apart no_incr are =
-    none_of _ _ _ _ (not_from_true _ whole) apart (and_left _ _ no_incr) (ap is_none are.value)
+scores_unrefused words scores whole apart agreeing no_incr are =
+    none_of _ _ _ _ _ (not_from_true _ whole) apart agreeing (and_left _ _ no_incr) (ap is_none are.value)
 
 scores_refused : (words : List (List ℕ)) → are_pairs (add_pairs words) ≡ true
-    → (has_option (codes "NX") (add_options words) && has_option (codes "XX") (add_options words)) ≡ false → has_option (codes "INCR") (add_options words) ≡ false
+    → (has_option (codes "NX") (add_options words) && has_option (codes "XX") (add_options words)) ≡ false → has_two_of_gt_lt_nx (asked_flags (add_options words)) ≡ false → has_option (codes "INCR") (add_options words) ≡ false
     → pairs_value (add_pairs words) ≡ None → first_of (command_conditions names.Add words) ≡ Some BadScore
-scores_refused words whole apart no_incr none =
-    fourth_of _ _ _ _ (not_from_true _ whole) apart (and_left _ _ no_incr) (ap is_none none)
+scores_refused words whole apart agreeing no_incr none =
+    fifth_of _ _ _ _ _ (not_from_true _ whole) apart agreeing (and_left _ _ no_incr) (ap is_none none)
 
 scores_meaning : (words : List (List ℕ)) (flags : Flags) (changed : Bool) (first : ℕ) (scores : List ℤ) → 0 < length (add_pairs words) → has_option (codes "INCR") (add_options words) ≡ false
     → AreScores (add_pairs words) scores → flags ≡ asked_flags (add_options words) → changed ≡ has_option (codes "CH") (add_options words) → first ≡ 2 + length (add_options words)
@@ -145,12 +145,15 @@ module _ (words options pairs : List (List ℕ)) (flags : Flags) (is_options : o
   apart : (has_option (codes "NX") (add_options words) && has_option (codes "XX") (add_options words)) ≡ false
   apart = ap (λ f. f.nx && f.xx) (sym flags_are) ∙ parts.apart
 
+  agreeing : has_two_of_gt_lt_nx (asked_flags (add_options words)) ≡ false
+  agreeing = ap has_two_of_gt_lt_nx (sym flags_are) ∙ parts.agreeing
+
   some : 0 < length (add_pairs words)
   some = positive (add_pairs words) whole
 
   pub increase_err : (refusal : Refusal) → has_option (codes "INCR") options ≡ true → given_value pairs ≡ Err refusal → first_of (command_conditions names.Add words) ≡ Some refusal
   increase_err refusal increases read =
-      increase_refused words refusal whole apart (ap (has_option (codes "INCR")) (sym is_options) ∙ increases) (ap given_value (sym is_pairs) ∙ read)
+      increase_refused words refusal whole apart agreeing (ap (has_option (codes "INCR")) (sym is_options) ∙ increases) (ap given_value (sym is_pairs) ∙ read)
 
   pub increase_ok : (given : ℤ) → has_option (codes "INCR") options ≡ true → given_value pairs ≡ Ok given
       → (first_of (command_conditions names.Add words) ≡ None)
@@ -160,10 +163,10 @@ module _ (words options pairs : List (List ℕ)) (flags : Flags) (is_options : o
       let read' : given_value (add_pairs words) ≡ Ok given = ap given_value (sym is_pairs) ∙ read in
       let increases' : has_option (codes "INCR") (add_options words) ≡ true = ap (has_option (codes "INCR")) (sym is_options) ∙ increases in
       let meaning = increase_meaning words flags given (2 + length options + 1) increases' read' flags_are (ap (λ os. 2 + length os + 1) is_options) in
-      (increase_unrefused words given whole apart read', meaning.0, meaning.1)
+      (increase_unrefused words given whole apart agreeing read', meaning.0, meaning.1)
 
   pub scores_err : has_option (codes "INCR") options ≡ false → pairs_value pairs ≡ None → first_of (command_conditions names.Add words) ≡ Some BadScore
-  scores_err puts none = scores_refused words whole apart (ap (has_option (codes "INCR")) (sym is_options) ∙ puts) (ap pairs_value (sym is_pairs) ∙ none)
+  scores_err puts none = scores_refused words whole apart agreeing (ap (has_option (codes "INCR")) (sym is_options) ∙ puts) (ap pairs_value (sym is_pairs) ∙ none)
 
   pub scores_ok : (scores : List ℤ) (changed : Bool) → has_option (codes "INCR") options ≡ false → AreScores pairs scores → changed ≡ has_option (codes "CH") options
       → (first_of (command_conditions names.Add words) ≡ None)
@@ -173,4 +176,4 @@ module _ (words options pairs : List (List ℕ)) (flags : Flags) (is_options : o
       let are' : AreScores (add_pairs words) scores = subst (λ ps. AreScores ps scores) is_pairs are in
       let puts' : has_option (codes "INCR") (add_options words) ≡ false = ap (has_option (codes "INCR")) (sym is_options) ∙ puts in
       let meaning = scores_meaning words flags changed (2 + length options) scores some puts' are' flags_are (is_changed ∙ ap (has_option (codes "CH")) is_options) (ap (λ os. 2 + length os) is_options) in
-      (scores_unrefused words scores whole apart puts' are', meaning.0, meaning.1)
+      (scores_unrefused words scores whole apart agreeing puts' are', meaning.0, meaning.1)

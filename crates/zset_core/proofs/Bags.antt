@@ -29,7 +29,7 @@ abbrev pub count_had : Test → List ℕ → Option ℤ → ℕ
 count_had p k None = 0
 count_had p k (Some s) = one p (s, k)
 
-count_cons : (p : Test) (x : Pair) (xs : List Pair) → count_by p (x ∷ xs) ≡ one p x + count_by p xs
+pub count_cons : (p : Test) (x : Pair) (xs : List Pair) → count_by p (x ∷ xs) ≡ one p x + count_by p xs
 count_cons p x xs = sum_by-cons (λ z. cond (p z) 1 0) x xs
 
 less : (o : Ordering) → T (is_lt o) → o ≡ Less
@@ -147,6 +147,10 @@ module _ {A : Type 0} where
     coming = rw came (omega (arith, length-append e.coming.items ((s, k) ∷ [])));
     leaving = rw left (omega (arith, length-append e.leaving.items ((old, k) ∷ [])));
   }
+
+  -- edits to a set are edits to what is equal to it
+  pub Turns-to : (old new end : Members) (e : Edits A) → end ≡ new → Turns old new e.coming.items e.leaving.items → Turns old end e.coming.items e.leaving.items
+  Turns-to old new end e is turns = subst (λ (m : Members). Turns old m e.coming.items e.leaving.items) (sym is) turns
 
   -- what was noted from nothing on
   pub Turns-noted : (most : ℕ) (old new : Members) (e f : Edits A) → e.coming.items ≡ [] → e.leaving.items ≡ [] → Notes most old new e f → Turns old new f.coming.items f.leaving.items

@@ -11,23 +11,24 @@ use Rattle.std.proofs.lemmas.Bool.{and_parts, ltb-false, not-true}
 use Rattle.resp_wire.specs.RequestEncoding.{IsArgument, IsRequest}
 use Rattle.resp_wire.specs.Response.{Response, NullBulk}
 use Rattle.score_bounds.specs.Scores.{IsScore, is_score, integer_value, score_value}
-use Rattle.zset_core.specs.SortedSet.{Members, Pair, bytes_cmp}
+use Rattle.zset_core.specs.SortedSet.{Members, Pair, bytes_cmp, names_of}
 use Rattle.zset_core.specs.CommandRequest.{Meaning, key_of}
 use Rattle.zset_core.specs.CommandRequest as meanings
-use Rattle.zset_core.specs.Semantics.{outcome_of, writes, put_one, put_all, remove_all, sum_of, is_barred, increase_reply, step}
-use Rattle.zset_core.specs.World.{World, is_empty, set_at, put_set, act_at}
-use Rattle.zset_core.specs.SetAndOwnerViews.{Next, ShowsAt, IsPreparedAt}
+use Rattle.zset_core.specs.Semantics.{outcome_of, writes, put_one, put_all, remove_all, sum_of, is_barred, increase_reply, step, act_at}
+use Rattle.zset_core.specs.World.{World, is_empty, set_at, put_set}
+use Rattle.zset_core.specs.ViewTypes.{Next, ShowsAt, IsPreparedAt}
 use Rattle.zset_core.specs.ParsedForm.{word_at}
 use Rattle.zset_core.specs.CommandGrammar.{add_options, add_pairs, has_option, pairs_value, add_meaning, increase, asked_flags, command_meaning, meaning, command_named, refusal_of, asked, asked_range, asked_options, RangeOption, is_with_scores, last_limit}
 use Rattle.score_bounds.specs.declared.bounds.Range.{Range}
-use Rattle.zset_core.specs.ReplayableWorld.{IsSpelled, IsBoundedSet, IsBoundedAt, IsBoundedWorld, PutsSpelled, IsBoundedMeaning}
+use Rattle.zset_core.specs.WorldFitsRequests.{IsSpelled, IsBoundedSet, IsBoundedAt, IsBoundedWorld, PutsSpelled, IsBoundedMeaning}
 use Rattle.zset_core.specs.declared.command.name.CommandName.{CommandName}
-use Rattle.zset_core.specs.declared.command.name.CommandName.TheVariants.{Ping, Add, Remove, Score, Card, Count, ListRange}
+use Rattle.zset_core.specs.declared.command.name.CommandName.TheVariants.{Ping, Add, Remove, RemoveRange, Score, Card, Count, ListRange}
 use Rattle.zset_core.specs.declared.set.pair_outcome.Flags.{Flags}
 use Rattle.zset_core.specs.declared.refusal.Refusal.{Refusal}
 use Rattle.zset_core.specs.declared.refusal.Refusal.TheVariants.{UnknownCommand}
 use Rattle.zset_core.proofs.Bridge.{total, tied}
 use Rattle.zset_core.proofs.Worlds.{get_put_set}
+use Rattle.zset_core.proofs.RangeRemoval.{inside, removed_inside}
 
 equal_of : (q k : List ℕ) → eq_by_cmp bytes_cmp q k ≡ true → q ≡ k
 equal_of q k h = sym ((bytes_decides k q).0 (tied q k ∙ h))
@@ -90,6 +91,7 @@ step_bounded m (meanings.Add key f changed pairs) bounded puts = put_all_bounded
 step_bounded m (meanings.Increase key f given member) bounded puts =
     increase_bounded f m member given bounded puts (is_barred f (fin.get m member)) (sum_of (fin.get m member) given) (sum_bounded (fin.get m member) given puts.0)
 step_bounded m (meanings.Remove key names) bounded puts = remove_all_bounded m names bounded
+step_bounded m (meanings.RemoveRange key range) bounded puts = subst IsBoundedSet (removed_inside range m) (remove_all_bounded m (names_of (inside range m)) bounded)
 step_bounded m (meanings.Score key member) bounded puts = bounded
 step_bounded m (meanings.Card key) bounded puts = bounded
 step_bounded m (meanings.Count key range) bounded puts = bounded
@@ -214,6 +216,11 @@ command_meant Add ws c words is = by (pairs_value (add_pairs ws)) (pairs_are_spe
     by None each h = absurd (let no : None ≡ Some c = h in cc)
     by (Some ps) each h = add_meant ws ps c words each h
 command_meant Remove ws c words is = subst IsBoundedMeaning (some_is _ _ is) (record { key = word_at_bounded ws 1 words; puts = tt })
+command_meant RemoveRange ws c words is = by (asked_range ws) is
+  where
+    by : (o : Option Range) → option_map (meanings.RemoveRange (word_at ws 1)) o ≡ Some c → IsBoundedMeaning c
+    by None h = absurd (let no : None ≡ Some c = h in cc)
+    by (Some range) h = subst IsBoundedMeaning (some_is _ _ h) (record { key = word_at_bounded ws 1 words; puts = tt })
 command_meant Score ws c words is = subst IsBoundedMeaning (some_is _ _ is) (record { key = word_at_bounded ws 1 words; puts = tt })
 command_meant Card ws c words is = subst IsBoundedMeaning (some_is _ _ is) (record { key = word_at_bounded ws 1 words; puts = tt })
 command_meant Count ws c words is = by (asked_range ws) is

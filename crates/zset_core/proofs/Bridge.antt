@@ -14,8 +14,8 @@ use Rattle.std.proofs.lemmas.Map.{lookup-none}
 use Rattle.std.proofs.lemmas.Map.Keys.{IsDistinct-head, IsDistinct-tail}
 use Rattle.std.proofs.lemmas.Map.Text.{is_eq-slice_cmp}
 use Rattle.zset_core.specs.SortedSet.{bytes_cmp}
-use Rattle.zset_core.specs.StagedEntries.{Entry, rows_by, members_by, slot_at, same_bytes}
-use Rattle.zset_core.specs.declared.set.member_map.ScoreSlot.{ScoreSlot}
+use Rattle.zset_core.specs.MembersWithStagedScores.{Entry, rows_by, members_by, slot_at, same_bytes}
+use Rattle.zset_core.specs.declared.set.members_with_staged_scores.ScoreSlot.{ScoreSlot}
 
 pub exact : IsAntisymmetric bytes_cmp
 exact = slice_cmp-IsAntisymmetric nat_cmp-IsAntisymmetric

@@ -5,14 +5,16 @@ use Rattle.std.specs.FinMap as fin
 use Rattle.score_bounds.specs.Bounds.{is_in}
 use Rattle.resp_wire.specs.Response.{Response, Integer, NullBulk, Array}
 use Rattle.zset_core.specs.SortedSet.{Members, Pair, bytes_cmp, pairs, listing}
-use Rattle.zset_core.specs.CommandRequest.{Meaning, key_of, Ping, Add, Increase, Remove, Score, Card, Count, ListRange}
+use Rattle.zset_core.specs.CommandRequest.{Meaning, key_of, Ping, Add, Increase, Remove, RemoveRange, Score, Card, Count, ListRange}
 use Rattle.zset_core.specs.CommandGrammar.{is_creating}
-use Rattle.zset_core.specs.Semantics.{outcome_of, writes, counted, put_one, put_all, count_all, is_barred, sum_of, increase_reply, remove_all, score_reply, elements, apply_limit, from_offset, at_most, step}
+use Rattle.zset_core.specs.Semantics.{outcome_of, writes, counted, put_one, put_all, count_all, is_barred, sum_of, increase_reply, remove_all, without_range, score_reply, elements, apply_limit, from_offset, at_most, step}
 use Rattle.zset_core.specs.declared.set.pair_outcome.Flags.{Flags}
 use Rattle.zset_core.specs.declared.set.pair_outcome.Outcome.TheVariants.{Stopped, Added}
 use Rattle.zset_core.specs.declared.command.limit.Limit.{Limit}
 use Rattle.zset_core.proofs.Bridge.{total}
 use Rattle.zset_core.proofs.RangeRows.{length_listing}
+use Rattle.zset_core.proofs.RangeRemoval.{len_without_given}
+use Rattle.score_bounds.specs.declared.bounds.Range.{Range}
 
 abbrev none : Members
 none = fin.empty
@@ -60,6 +62,9 @@ none_paired : pairs none ≡ []
 unfolding pairs
 none_paired = ap (map (λ (entry : List ℕ × ℤ). (entry.1, entry.0))) (no_rows (fin.entries none) (sym (fin.len-entries none) ∙ fin.len-empty bytes_cmp ℤ))
 
+none_in_range : (range : Range) → without_range range none ≡ none
+none_in_range range = fin.empty_of_len (without_range range none) (omega (arith, len_without_given (Some range) none, fin.len-empty bytes_cmp ℤ))
+
 none_listed : (test : ℤ → Bool) → listing test none ≡ []
 none_listed test = no_rows (listing test none) (length_listing test none [] (λ p. sym (ap (λ (rows : List Pair). count_by p (filter (λ q. test q.0) rows)) none_paired)))
 
@@ -93,6 +98,7 @@ empty_reply (Ping text) = NullBulk
 empty_reply (Add key flags changed ps) = Integer (pos 0)
 empty_reply (Increase key flags given member) = NullBulk
 empty_reply (Remove key names) = Integer (pos 0)
+empty_reply (RemoveRange key range) = Integer (pos 0)
 empty_reply (Score key member) = NullBulk
 empty_reply (Card key) = Integer (pos 0)
 empty_reply (Count key range) = Integer (pos 0)
@@ -108,6 +114,8 @@ empty_step (Increase key flags given member) keyed h =
     let barred : is_barred flags (fin.get none member) ≡ true = ap (is_barred flags) (no_score member) ∙ xx in
     ap (λ b. cond b (Some (none, NullBulk)) (option_map (λ score. (put_one flags none member score, increase_reply (outcome_of flags (fin.get none member) score) score)) (sum_of (fin.get none member) given))) barred
 empty_step (Remove key names) keyed h = ap (λ m. Some (m, Integer (pos (fin.len none - fin.len m)))) (none_removed names) ∙ ap (λ (n : ℕ). Some (none, Integer (pos (n - n)))) (fin.len-empty bytes_cmp ℤ)
+empty_step (RemoveRange key range) keyed h =
+    ap (λ m. Some (m, Integer (pos (length (listing (is_in range) none))))) (none_in_range range) ∙ ap (λ (ps : List Pair). Some (none, Integer (pos (length ps)))) (none_listed (is_in range))
 empty_step (Score key member) keyed h = ap (λ o. Some (none, score_reply o)) (no_score member)
 empty_step (Card key) keyed h = ap (λ (n : ℕ). Some (none, Integer (pos n))) (fin.len-empty bytes_cmp ℤ)
 empty_step (Count key range) keyed h = ap (λ (ps : List Pair). Some (none, Integer (pos (length ps)))) (none_listed (is_in range))

@@ -3,7 +3,6 @@ use Rattle.std.proofs.Common.{◌≡◌, ◌<◌, ◌+◌, ℕ, Bool, true, fals
 use Rattle.std.specs.Prelude.{◌↔◌}
 use Rattle.std.specs.FinMap as fin
 use Rattle.std.specs.List.Sorted.{IsStrictlySortedBy}
-use Rattle.std.specs.Map.{keys_of}
 use Rattle.std.specs.Ordering.{eq_by_cmp}
 use Rattle.std.specs.Str.{bytes_eq}
 use Rattle.std.specs.Cmp.{eq_by_cmp_equiv}
@@ -14,15 +13,15 @@ use Rattle.std.specs.BTreeMap.{BTreeMap, Updates}
 use Rattle.std.specs.declared.snapshot.Snapshot.{Snapshot}
 use Rattle.std.specs.declared.vec.Vec.{Vec}
 use Rattle.zset_core.specs.SortedSet.{Members, bytes_cmp}
-use Rattle.zset_core.specs.ReplayableWorld.{IsBoundedWorld, IsBoundedAt, IsBoundedOwner}
+use Rattle.zset_core.specs.WorldFitsRequests.{IsBoundedWorld, IsBoundedAt, IsBoundedOwner}
 use Rattle.zset_core.specs.CommandRequest.{Asked}
-use Rattle.zset_core.specs.OwnerEntries.{Keyed, world_of, set_in, IsAfter, IsRising, AllRest, IsOwned, IsHeld, owner_view}
+use Rattle.zset_core.specs.OwnerViewAndInvariant.{Keyed, world_of, set_in, IsAfter, IsRising, AllRest, IsOwned, owner_view}
 use Rattle.zset_core.specs.Taken.{IsFirst}
-use Rattle.zset_core.specs.SetAndOwnerViews.{SetView, OwnerView}
+use Rattle.zset_core.specs.ViewTypes.{SetView, OwnerView}
 use Rattle.zset_core.specs.World.{World}
 use Rattle.zset_core.proofs.Bridge.{total, exact}
 use Rattle.zset_core.proofs.OwnerBounds.{world_bounded, idle_after}
-use Rattle.zset_core.proofs.OwnerViews.{row_of, rows_of, world_rows, idle_rest, world_shown}
+use Rattle.zset_core.proofs.OwnerViews.{row_of, rows_of, world_rows, idle_rest}
 use Rattle.zset_core.proofs.Worlds.{get_world, filled_view, set_at_entry, rest_at, others_of, all_changed, key_cmp, updates_key}
 
 -- one entry leaves, or there was none

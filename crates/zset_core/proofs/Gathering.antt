@@ -18,9 +18,9 @@ use Rattle.std.proofs.lemmas.Map.Entries.{lookup_from_place}
 use Rattle.std.proofs.lemmas.Option.{slice_get-map}
 use Rattle.zset_core.specs.SortedSet.{Members, bytes_cmp}
 use Rattle.zset_core.specs.Semantics.{remove_all}
-use Rattle.zset_core.specs.StagedEntries.{Entry, current_score, members_by, slots, slot_at, same_bytes, bytes_of}
+use Rattle.zset_core.specs.MembersWithStagedScores.{Entry, current_score, members_by, slots, slot_at, same_bytes, bytes_of}
 use Rattle.zset_core.specs.RemovalSearch.{AreFound}
-use Rattle.zset_core.specs.declared.set.member_map.ScoreSlot.{ScoreSlot}
+use Rattle.zset_core.specs.declared.set.members_with_staged_scores.ScoreSlot.{ScoreSlot}
 use Rattle.zset_core.proofs.Bridge.{total, exact, same_equiv, get_members}
 
 ties : (q k : List ℕ) → eq_by_cmp bytes_cmp q k ≡ bytes_eq q k

@@ -9,6 +9,7 @@ pub mod Bags
 pub mod Planning
 pub mod RangeRows
 pub mod Ranks
+pub mod LeastPairs
 pub mod Limits
 pub mod PieceEnds
 pub mod Windows
@@ -20,6 +21,7 @@ mod Adding
 pub mod Asked
 mod ReadingLaws
 mod ListingLaws
+pub mod RangeRemoval
 pub mod OwnerViews
 pub mod Bounds
 pub mod OwnerBounds

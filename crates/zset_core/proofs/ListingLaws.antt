@@ -65,7 +65,7 @@ has_listed test members q =
     ∙ any-filter_same (is_pair q) (λ p. test p.0) (test q.0) (λ k e. ap (λ (p : Pair). test p.0) (sym (is_equal q k e))) (pairs members)
     ∙ ap (λ b. test q.0 && b) (has_of_pairs members q)
 
-tied : (q : Pair) → is_pair q q ≡ true
+pub tied : (q : Pair) → is_pair q q ≡ true
 tied q = ap is_eq (tied_itself pair_total q)
 
 contained : (q : Pair) (ps : List Pair) → Contains ps q → list_any (is_pair q) ps ≡ true
@@ -84,7 +84,7 @@ score_at x s h = by (int_cmp s x) (int_ranks s x) h
     by Equal r t = sym r
     by Greater r t = absurd (let no : ⊥ = cc in no)
 
-is_score : (o : Option ℤ) (s : ℤ) → is_same o s ≡ true → o ≡ Some s
+pub is_score : (o : Option ℤ) (s : ℤ) → is_same o s ≡ true → o ≡ Some s
 is_score None s h = absurd (let no : ⊥ = cc in no)
 is_score (Some x) s h = ap Some (score_at x s h)
 

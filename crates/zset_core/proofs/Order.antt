@@ -22,8 +22,8 @@ use Rattle.std.proofs.lemmas.Map.Keys.{sorted_from_all_adjacent, apart_from_dist
 use Rattle.std.proofs.lemmas.List.Sorted.{IsPermutation-map, list_any-IsPermutation}
 use Rattle.zset_core.proofs.Tests.{first, second}
 use Rattle.zset_core.specs.SortedSet.{Members, Pair, bytes_cmp, pair_cmp, pairs, marks, listing, whole}
-use Rattle.zset_core.specs.StagedEntries.{Entry, current_score, rows_by, members_by, slot_at, same_bytes}
-use Rattle.zset_core.specs.BorrowedPairs.{Shown, entry_pairs, pair_of, pairs_of, shown_cmp}
+use Rattle.zset_core.specs.MembersWithStagedScores.{Entry, current_score, rows_by, members_by, slot_at, same_bytes}
+use Rattle.zset_core.specs.BorrowedListingPairs.{Shown, entry_pairs, pair_of, pairs_of, shown_cmp}
 use Rattle.zset_core.proofs.Bridge.{get_members, total}
 
 pub pair_total : IsTotalOrder pair_cmp

@@ -19,8 +19,8 @@ use Rattle.zset_core.specs.ChangeOutline.{missing}
 use Rattle.std.proofs.lemmas.Bool.Decides.{nat_tests}
 use Rattle.std.proofs.lemmas.Option.{slice_get-map}
 use Rattle.std.proofs.lemmas.Map.Entries.{lookup_from_place}
-use Rattle.zset_core.specs.StagedEntries.{Entry, current_score, staged_score, members_by, slot_at, same_bytes, rows_by, bytes_of, Stays, IsWaiting, Grows}
-use Rattle.zset_core.specs.declared.set.member_map.ScoreSlot.{ScoreSlot}
+use Rattle.zset_core.specs.MembersWithStagedScores.{Entry, current_score, staged_score, members_by, slot_at, same_bytes, rows_by, bytes_of, Stays, IsWaiting, Grows}
+use Rattle.zset_core.specs.declared.set.members_with_staged_scores.ScoreSlot.{ScoreSlot}
 use Rattle.std.specs.List.{position_or_len}
 use Rattle.std.proofs.Math.Seq.{take-length}
 use Rattle.indexmap.proofs.MapLemmas.{distinct-take}

@@ -4,19 +4,20 @@ use Rattle.std.specs.FinMap as fin
 use Rattle.resp_wire.specs.Response.{Response}
 use Rattle.ripple_column.specs.Content.{ColumnState, Holds, SameContent, IsUnchanged, most_pending}
 use Rattle.zset_core.specs.SortedSet.{Members, pairs}
-use Rattle.zset_core.specs.StagedEntries.{Entry, current_score, rows_by, members_by, IsSettled}
-use Rattle.zset_core.specs.RowEdits.{HasAtMost, HasRoom, most_edits}
-use Rattle.zset_core.specs.Plan.{Plans, Prepares, left_by}
+use Rattle.zset_core.specs.MembersWithStagedScores.{Entry, current_score, rows_by, members_by, IsSettled}
+use Rattle.zset_core.specs.RowEdits.{HasAtMost, most_edits}
+use Rattle.zset_core.specs.Plan.{Plans, Prepares, edited_by, left_by}
 use Rattle.zset_core.specs.ChangeOutline.{IsOutline}
-use Rattle.zset_core.specs.ColumnEffects.{edit_count}
-use Rattle.zset_core.specs.CommandRequest.{Meaning}
-use Rattle.zset_core.specs.SetAndOwnerViews.{SetView, Next}
-use Rattle.zset_core.specs.SetInvariant.{view_of, next_of, IsIdle, IsPlanned, IsSound}
+use Rattle.zset_core.specs.CommandEffectsOnColumn.{edit_count}
+use Rattle.zset_core.specs.CommandRequest.{Meaning, range_to_remove}
+use Rattle.zset_core.specs.ViewTypes.{SetView, Next}
+use Rattle.zset_core.specs.SetViewAndInvariant.{view_of, next_of, IsIdle, IsPlanned, IsReadyForPlan, IsSound}
 use Rattle.zset_core.specs.declared.set.plan.Plan.{Plan}
 use Rattle.zset_core.specs.declared.set.Prepared.{Prepared}
 use Rattle.zset_core.specs.declared.set.row_edits.Edits.{Edits}
 use Rattle.ripple_column.proofs.CallerLemmas.{count_all}
 use Rattle.zset_core.proofs.Bags.{count_pairs}
+use Rattle.zset_core.proofs.RangeRemoval.{len_without_given}
 
 not_none : (n : Next) → ◌≡◌ {A = Option Next} (Some n) None → ⊥
 not_none n e = cc
@@ -51,10 +52,11 @@ module _ {A : Type 0} where
       let p = s.1 in
       let bag = p.edits_are (λ r. true) in
       let a = count_pairs (members_by current_score old) in
-      let b = count_pairs s.0.0 in
+      let b = count_pairs (edited_by new plan) in
+      let fewer : fin.len s.0.0 ≤ fin.len (edited_by new plan) = subst (λ (m : Members). fin.len m ≤ fin.len (edited_by new plan)) p.members_are (len_without_given plan.range (edited_by new plan)) in
       elim p.outline_is.one_way [
         | inl none ↦ omega (arith, none)
-        | inr none ↦ omega (arith, none, p.outline_is.sums, bag, a, b, count_all plan.draft.edits.coming.items, count_all plan.draft.edits.leaving.items, p.few_edits.coming)
+        | inr none ↦ omega (arith, none, p.outline_is.sums, bag, a, b, fewer, count_all plan.draft.edits.coming.items, count_all plan.draft.edits.leaving.items, p.few_edits.coming)
       ]
 
   -- a column with room for so many edits has room for these
@@ -70,14 +72,15 @@ module _ {A : Type 0} where
   Holds-shown es c None v is s = subst (λ (w : SetView). Holds w.column (pairs w.members)) is s.content
   Holds-shown es c (Some q) v is s = subst (λ (w : SetView). Holds w.column (pairs w.members)) is s.content
 
-  pub IsPlanned-of : (es : List (Entry A)) (c : ColumnState) (p : Option (Prepared A)) (q : Prepared A) → Some q ≡ p → IsSound es c p → IsPlanned es c q.plan
+  pub IsPlanned-of : (es : List (Entry A)) (c : ColumnState) (p : Option (Prepared A)) (q : Prepared A) → Some q ≡ p → IsSound es c p → IsPlanned es c q.asked.value.meaning q.plan
   IsPlanned-of es c p q is s = subst (IsSound es c) (sym is) s
 
   pub IsSound-none : (es : List (Entry A)) (c : ColumnState) (p : Option (Prepared A)) → p ≡ None → IsIdle es c → IsSound es c p
   IsSound-none es c p is s = subst (IsSound es c) (sym is) s
 
-  pub IsPlanned-made : (old new : List (Entry A)) (c c' : ColumnState) (plan : Plan A) (o : Option (Members × Response)) → IsIdle old c → Plans old new plan o → SameContent c c' → HasRoom c' plan.draft.edits → IsPlanned new c' plan
-  IsPlanned-made old new c c' plan o idle h content room =
+  pub IsPlanned-made : (old new : List (Entry A)) (c c' : ColumnState) (meaning : Meaning) (plan : Plan A) (o : Option (Members × Response)) → IsIdle old c → Plans old new plan o → SameContent c c'
+      → IsReadyForPlan c' plan → plan.range ≡ range_to_remove meaning → IsPlanned new c' meaning plan
+  IsPlanned-made old new c c' meaning plan o idle h content ready range =
       let done = (Prepares-some old new plan o h).0 in
       let p = (Prepares-some old new plan o h).1 in
       let front : take plan.draft.kept (rows_by current_score new) ≡ rows_by current_score old = ap (λ (n : ℕ). take n (rows_by current_score new)) p.kept ∙ p.grows.front in
@@ -85,15 +88,14 @@ module _ {A : Type 0} where
         kept = omega (arith, p.kept, p.grows.longer);
         waiting = p.waiting;
         content = λ t. content t ∙ idle.content t ∙ ap (λ (rows : List (List ℕ × ℤ)). count_by t (pairs (fin.from_entries rows))) (sym front);
-        turns = λ t.
-            let left = ap (λ (m : Members). count_by t (pairs m)) p.members_are in
-            omega (arith, left, p.edits_are t, content t, idle.content t);
-        room = room;
+        turns = λ t. omega (arith, p.edits_are t, content t, idle.content t);
+        ready = ready;
+        range = range;
       }
 
   -- once the plan is let go
-  pub IsIdle-discard : (es new : List (Entry A)) (c : ColumnState) (plan : Plan A) → IsPlanned es c plan → rows_by current_score new ≡ take plan.draft.kept (rows_by current_score es) → IsSettled new → IsIdle new c
-  IsIdle-discard es new c plan p is settled = record {
+  pub IsIdle-discard : (es new : List (Entry A)) (c : ColumnState) (meaning : Meaning) (plan : Plan A) → IsPlanned es c meaning plan → rows_by current_score new ≡ take plan.draft.kept (rows_by current_score es) → IsSettled new → IsIdle new c
+  IsIdle-discard es new c meaning plan p is settled = record {
     settled = settled;
     content = λ t. p.content t ∙ ap (λ (rows : List (List ℕ × ℤ)). count_by t (pairs (fin.from_entries rows))) (sym is);
   }

@@ -15,7 +15,7 @@ use Rattle.ripple_column.specs.RangeAnswer.{HoldsRange}
 use Rattle.ripple_column.proofs.CallerLemmas.{count_all}
 use Rattle.zset_core.specs.SortedSet.{Members, Pair, pair_cmp, pairs, marks, listing}
 use Rattle.resp_wire.specs.Response.{Response, Integer, Array}
-use Rattle.zset_core.specs.ColumnEffects.{Reads, Selects}
+use Rattle.zset_core.specs.CommandEffectsOnColumn.{Reads, Selects}
 use Rattle.zset_core.specs.CommandRequest.{Meaning, Count, ListRange}
 use Rattle.zset_core.specs.Semantics.{step, elements, apply_limit}
 use Rattle.zset_core.specs.declared.command.limit.Limit.{Limit}
@@ -24,7 +24,7 @@ use Rattle.zset_core.proofs.Order.{is_pair, is_equal, pair_total, filter_apart, 
 count_cons : (p : Test) (x : Pair) (xs : List Pair) → count_by p (x ∷ xs) ≡ cond {A = ℕ} (p x) 1 0 + count_by p xs
 count_cons p x xs = sum_by-cons (λ z. cond (p z) 1 0) x xs
 
-positive : (n : ℕ) → 0 < n → nat_lt 0 n ≡ true
+pub positive : (n : ℕ) → 0 < n → nat_lt 0 n ≡ true
 positive n h = grind (arith, nat_tests)
 
 -- a test is passed where it counts some
@@ -70,7 +70,7 @@ apart_once (x ∷ xs) h =
     let self : cond {A = ℕ} (is_pair x x) 1 0 ≡ 1 = ap (λ (b : Bool). cond {A = ℕ} b 1 0) ((eq_by_cmp_equiv pair_total).refl x) in
     (count_nothing (is_pair x) xs (omega (arith, self, count_cons (is_pair x) x xs, h x)), apart_once xs (λ q. omega (arith, h q, count_cons (is_pair q) x xs)))
 
-count_filter : (p t : Test) (xs : List Pair) → count_by (λ x. p x && t x) xs ≡ count_by p (filter t xs)
+pub count_filter : (p t : Test) (xs : List Pair) → count_by (λ x. p x && t x) xs ≡ count_by p (filter t xs)
 count_filter p t [] = refl
 count_filter p t (x ∷ xs) = count_cons (λ x. p x && t x) x xs ∙ by (p x) refl (t x) (count_filter p t xs)
   where

@@ -6,7 +6,7 @@ use Rattle.std.proofs.lemmas.List.{get_or_append_left, map-append, length-map}
 use Rattle.std.proofs.lemmas.List.Elements.{All-nil, All-cons, All-append, All-map}
 use Rattle.std.proofs.lemmas.List.Sorted.{All-permutation, IsPermutation-refl, IsPermutation-trans, IsPermutation-map, IsPermutation-append_left, IsPermutation-append_right, length_permutation}
 use Rattle.zset_core.specs.SortedSet.{Pair, pair_cmp}
-use Rattle.zset_core.specs.BorrowedPairs.{Shown, pair_of, pairs_of, shown_cmp}
+use Rattle.zset_core.specs.BorrowedListingPairs.{Shown, pair_of, pairs_of, shown_cmp}
 use Rattle.zset_core.specs.WindowPieces.{ComesBefore, IsPart}
 use Rattle.zset_core.proofs.Order.{pair_total, pair_exact}
 
@@ -25,7 +25,7 @@ module _ {X : Type 0} where
 pub before_both : (xs ys zs : List Pair) → ComesBefore xs zs → ComesBefore ys zs → ComesBefore (xs ++ ys) zs
 before_both xs ys zs = All-append (λ x. All (λ y. is_lt (pair_cmp y x) ≡ false) zs) xs ys
 
-both_before : (xs ys zs : List Pair) → ComesBefore xs ys → ComesBefore xs zs → ComesBefore xs (ys ++ zs)
+pub both_before : (xs ys zs : List Pair) → ComesBefore xs ys → ComesBefore xs zs → ComesBefore xs (ys ++ zs)
 both_before xs ys zs b c k d lt = All-append (λ y. is_lt (pair_cmp y (get_or xs k d)) ≡ false) ys zs (b k d lt) (c k d lt)
 
 pub before_left : (xs ys zs : List Pair) → ComesBefore (xs ++ ys) zs → ComesBefore xs zs
@@ -40,7 +40,7 @@ left_before xs ys zs b k d lt = All-left (λ y. is_lt (pair_cmp y (get_or xs k d
 pub right_before : (xs ys zs : List Pair) → ComesBefore xs (ys ++ zs) → ComesBefore xs zs
 right_before xs ys zs b k d lt = All-right (λ y. is_lt (pair_cmp y (get_or xs k d)) ≡ false) ys zs (b k d lt)
 
-moved_before : (xs xs' ys : List Pair) → IsPermutation xs xs' → ComesBefore xs ys → ComesBefore xs' ys
+pub moved_before : (xs xs' ys : List Pair) → IsPermutation xs xs' → ComesBefore xs ys → ComesBefore xs' ys
 moved_before xs xs' ys = All-permutation (λ x. All (λ y. is_lt (pair_cmp y x) ≡ false) ys) xs xs'
 
 before_moved : (xs ys ys' : List Pair) → IsPermutation ys ys' → ComesBefore xs ys → ComesBefore xs ys'
@@ -111,7 +111,7 @@ no : true ≡ false → ⊥
 no h = cc
 
 -- where x is not behind one, and y not before x, y is not before that one
-lifted : (y x z : Pair) → is_lt (pair_cmp x z) ≡ false → is_lt (pair_cmp y x) ≡ false → is_lt (pair_cmp y z) ≡ false
+pub lifted : (y x z : Pair) → is_lt (pair_cmp x z) ≡ false → is_lt (pair_cmp y x) ≡ false → is_lt (pair_cmp y z) ≡ false
 lifted y x z up over = by (pair_cmp y z) refl (pair_cmp x z) refl
   where
     by : (o : Ordering) → pair_cmp y z ≡ o → (r : Ordering) → pair_cmp x z ≡ r → is_lt o ≡ false

@@ -7,11 +7,11 @@ use Rattle.std.proofs.lemmas.Bool.{eqb-true, not-false}
 use Rattle.score_bounds.specs.Scores.{score_value}
 use Rattle.zset_core.specs.ParsedForm.{word_at}
 use Rattle.zset_core.specs.Refusal.{number_of}
-use Rattle.zset_core.specs.CommandGrammar.{first_of, has_option, has_arity, are_pairs, asked_flags, asked_range, asked_options, is_bad_limit, add_meaning, increase, add_options, add_pairs, pairs_value, command_named, command_conditions, named_conditions, conditions, command_meaning, meaning, refusal_of}
+use Rattle.zset_core.specs.CommandGrammar.{first_of, has_option, has_two_of_gt_lt_nx, has_arity, are_pairs, asked_flags, asked_range, asked_options, is_bad_limit, add_meaning, increase, add_options, add_pairs, pairs_value, command_named, command_conditions, named_conditions, conditions, command_meaning, meaning, refusal_of}
 use Rattle.zset_core.specs.declared.command.name.CommandName.{CommandName}
 use Rattle.zset_core.specs.declared.command.name.CommandName.TheVariants as names
 use Rattle.zset_core.specs.declared.refusal.Refusal.{Refusal}
-use Rattle.zset_core.specs.declared.refusal.Refusal.TheVariants.{Syntax, NxAndXx, IncrPair, BadScore, BadBound, BadInteger, WrongArity}
+use Rattle.zset_core.specs.declared.refusal.Refusal.TheVariants.{Syntax, NxAndXx, GtLtNx, IncrPair, BadScore, BadBound, BadInteger, WrongArity}
 use Rattle.zset_core.proofs.Adding.{value_of_one}
 use lib.Dec.{eqb}
 
@@ -34,6 +34,9 @@ some_then f (Some x) some each = each x refl
 
 count_meant : (words : List (List ℕ)) → first_of (command_conditions names.Count words) ≡ None → IsSome (command_meaning names.Count words)
 count_meant words none = some_map _ (asked_range words) (some_of _ (first_false (is_none (asked_range words)) BadBound [] none).0)
+
+remove_range_meant : (words : List (List ℕ)) → first_of (command_conditions names.RemoveRange words) ≡ None → IsSome (command_meaning names.RemoveRange words)
+remove_range_meant words none = some_map _ (asked_range words) (some_of _ (first_false (is_none (asked_range words)) BadBound [] none).0)
 
 list_range_meant : (words : List (List ℕ)) → first_of (command_conditions names.ListRange words) ≡ None → IsSome (command_meaning names.ListRange words)
 list_range_meant words none =
@@ -61,10 +64,12 @@ add_meant words none =
     let both : Bool = has_option (codes "NX") (add_options words) && has_option (codes "XX") (add_options words) in
     let case_score : List (Bool × Refusal) = (is_none (pairs_value (add_pairs words)), BadScore) ∷ [] in
     let case_one : List (Bool × Refusal) = (is_many, IncrPair) ∷ case_score in
-    let case_both : List (Bool × Refusal) = (both, NxAndXx) ∷ case_one in
+    let case_two : List (Bool × Refusal) = (has_two_of_gt_lt_nx (asked_flags (add_options words)), GtLtNx) ∷ case_one in
+    let case_both : List (Bool × Refusal) = (both, NxAndXx) ∷ case_two in
     let whole = first_false (not (are_pairs (add_pairs words))) Syntax case_both none in
-    let apart = first_false both NxAndXx case_one whole.1 in
-    let one = first_false is_many IncrPair case_score apart.1 in
+    let apart = first_false both NxAndXx case_two whole.1 in
+    let agreeing = first_false (has_two_of_gt_lt_nx (asked_flags (add_options words))) GtLtNx case_one apart.1 in
+    let one = first_false is_many IncrPair case_score agreeing.1 in
     let scores = first_false (is_none (pairs_value (add_pairs words))) BadScore [] one.1 in
     by_option (has_option (codes "INCR") (add_options words)) refl one.0 (some_of _ scores.0)
   where
@@ -81,6 +86,7 @@ command_meant : (name : CommandName) (words : List (List ℕ)) → first_of (com
 command_meant names.Ping words none = refl
 command_meant names.Add words none = add_meant words none
 command_meant names.Remove words none = refl
+command_meant names.RemoveRange words none = remove_range_meant words none
 command_meant names.Score words none = refl
 command_meant names.Card words none = refl
 command_meant names.Count words none = count_meant words none
@@ -109,9 +115,11 @@ numbers_rise words = over (command_named (word_at words 0))
     over None = one_number 2
     over (Some names.Ping) = one_number 3
     over (Some names.Add) =
-        let last = more_numbers 7 8 [] (lit< tt) (one_number 8) in
-        more_numbers 3 4 (5 ∷ 7 ∷ 8 ∷ []) (lit< tt) (more_numbers 4 5 (7 ∷ 8 ∷ []) (lit< tt) (more_numbers 5 7 (8 ∷ []) (lit< tt) last))
+        let last = more_numbers 6 7 (8 ∷ []) (lit< tt) (more_numbers 7 8 [] (lit< tt) (one_number 8)) in
+        more_numbers 3 4 (5 ∷ 6 ∷ 7 ∷ 8 ∷ []) (lit< tt)
+        (more_numbers 4 5 (6 ∷ 7 ∷ 8 ∷ []) (lit< tt) (more_numbers 5 6 (7 ∷ 8 ∷ []) (lit< tt) last))
     over (Some names.Remove) = one_number 3
+    over (Some names.RemoveRange) = more_numbers 3 9 [] (lit< tt) (one_number 9)
     over (Some names.Score) = one_number 3
     over (Some names.Card) = one_number 3
     over (Some names.Count) = more_numbers 3 9 [] (lit< tt) (one_number 9)

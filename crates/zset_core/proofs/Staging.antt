@@ -15,8 +15,8 @@ use Rattle.std.proofs.lemmas.Option.{slice_get-map}
 use Rattle.std.proofs.lemmas.Bool.Decides.{nat_tests}
 use Rattle.indexmap.specs.IndexMap.{set_value_at, with_value_at, IsUnique}
 use Rattle.indexmap.proofs.CallerLemmas.{updates-with_value_at}
-use Rattle.zset_core.specs.StagedEntries.{Entry, current_score, staged_score, rows_by, slots, members_by, slot_at, same_bytes, Stays, IsSettled, IsWithin, IsWaiting, Grows, bytes_of}
-use Rattle.zset_core.specs.declared.set.member_map.ScoreSlot.{ScoreSlot}
+use Rattle.zset_core.specs.MembersWithStagedScores.{Entry, current_score, staged_score, rows_by, slots, members_by, slot_at, same_bytes, Stays, IsSettled, IsWithin, IsWaiting, Grows, bytes_of}
+use Rattle.zset_core.specs.declared.set.members_with_staged_scores.ScoreSlot.{ScoreSlot}
 use Rattle.zset_core.proofs.Bridge.{same_equiv, updates_bytes, one_put, one_gone}
 
 -- ---- places

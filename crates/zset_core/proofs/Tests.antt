@@ -2,6 +2,10 @@
 use Rattle.std.proofs.Common.{Bool, true, false, ◌&&◌}
 use Rattle.std.specs.Prelude.{T}
 
+pub both : (a b : Bool) → T a → T b → T (a && b)
+both true b p q = q
+both false b p q = p
+
 pub first : (a b : Bool) → T (a && b) → T a
 first true b h = tt
 first false b h = h

@@ -23,14 +23,14 @@ use Rattle.indexmap.proofs.map.IndexMap.TheSendSync as index
 use Rattle.ripple_column.proofs.column.Column.TheSendSync as column
 use Rattle.zset_core.specs.contracts.command.Command as Command
 use Rattle.zset_core.specs.contracts.owner.OneOwner as Owner
-use Rattle.zset_core.specs.contracts.owner.kept_set.KeptSet as KeptSet
-use Rattle.zset_core.specs.contracts.owner.kept_set.KeptSet.TheInside as KeptFields
+use Rattle.zset_core.specs.contracts.owner.boxed_set.BoxedSet as BoxedSet
+use Rattle.zset_core.specs.contracts.owner.boxed_set.BoxedSet.TheInside as KeptFields
 use Rattle.zset_core.specs.contracts.owner.OneOwner.TheInside as OwnerFields
 use Rattle.zset_core.specs.contracts.set.Prepared as Prepared
 use Rattle.zset_core.specs.contracts.set.ZSet as ZSet
 use Rattle.zset_core.specs.contracts.set.ZSet.TheInside as SetFields
 use Rattle.zset_core.proofs.set.plan.Plan.TheSendSync as plan
-use Rattle.zset_core.proofs.set.member_map.ScoreSlot.TheSendSync as slot
+use Rattle.zset_core.proofs.set.members_with_staged_scores.ScoreSlot.TheSendSync as slot
 
 note_send : (Y : RattleType) → IsSend (Snapshot.the_row Y)
 note_send Y = search crosses
@@ -60,7 +60,7 @@ module _ (H A T : RattleType) (b : builder.Ghosts H.Denot T.Denot) (w : hasher.G
       let all : AllSync (fields O) = (ya, (index.the_sync _ _ H A T _ _ b w g key slot.the_sync yh ya, (column.the_sync A g ya, (search (prepared_sync A g ya, sendable) depth 20, tt)))) in
       view_sync _ _ _ _ _ (recorded_sync _ O.D O.to O.to_one (struct_sync (shape O) all))
 
-  kept_send : IsSend H → IsSend A → Frees g g.dealloc_token → IsSend (KeptSet.the_row H A T b w g)
+  kept_send : IsSend H → IsSend A → Frees g g.dealloc_token → IsSend (BoxedSet.the_row H A T b w g)
   kept_send sh sa f =
       let O = KeptFields.the_type H A T b w g in
       let all : AllSend (fields O) = (block.the_send (ZSet.the_row H A T b w g) A g (set_send sh sa f) sa f, tt) in

@@ -25,12 +25,13 @@ use Rattle.crack_kernel.specs.PivotList.{ObeysPivots}
 use Rattle.crack_kernel.proofs.PivotOrder.{IsRising-le}
 use Rattle.zset_core.proofs.Tests.{first, second}
 use Rattle.zset_core.specs.SortedSet.{Members, Pair, bytes_cmp, pair_cmp, pairs, marks, listing}
-use Rattle.zset_core.specs.BorrowedPairs.{Shown, pairs_of, shown_cmp}
-use Rattle.zset_core.specs.WindowPieces.{ComesBefore, IsPart, IsPieceStart, IsPieceEnd}
+use Rattle.zset_core.specs.BorrowedListingPairs.{Shown, pairs_of, shown_cmp}
+use Rattle.zset_core.specs.WindowPieces.{ComesBefore, HasLeast, IsPart, IsPieceStart, IsPieceEnd}
 use Rattle.zset_core.proofs.Order.{is_pair, is_equal, pair_total, listing_is, rises, rises_pairs, rises_step, rows_apart, filter_apart, len_marks, pairs_apart, keys_marks}
 use Rattle.zset_core.specs.Semantics.{apply_limit}
 use Rattle.zset_core.specs.declared.command.limit.Limit.{Limit}
 use Rattle.zset_core.proofs.RangeRows.{any_count, count_once, apart_once, length_listing}
+use Rattle.zset_core.proofs.LeastPairs.{IsPart-least}
 use Rattle.zset_core.proofs.Ranks.{IsPart-inner, left_before, right_before, none_before, before_none}
 
 -- ---- pairs in order
@@ -255,16 +256,17 @@ IsPart-pieces pivots rows from to first last low high law order within start end
 pub limited_window : (t : ℤ → Bool) (m : Members) (limit : Option Limit) (pivots found : List (ℤ × ℕ)) (rows : List Pair) (shown window : List Shown) (from to start end low high : ℕ)
     → SameBag (slice_range rows from to) (filter (λ p. t p.0) (pairs m)) → ObeysPivots pivots rows → found ≡ pivots → from ≤ to → to ≤ length rows → start ≤ end → end ≤ to - from
     → ((ps : List Pair) → length ps ≡ to - from → apply_limit limit ps ≡ slice_range ps start end) → IsPieceStart found from (from + start) low → IsPieceEnd found to (from + end) high
-    → pairs_of shown ≡ slice_range rows low high → IsPart (pairs_of shown) (from + start - low) (from + end - low) (pairs_of window) → IsSorted shown_cmp window
+    → HasLeast (slice_range rows low high) (length shown) (pairs_of shown) → IsPart (pairs_of shown) (from + start - low) (from + end - low) (pairs_of window) → IsSorted shown_cmp window
     → pairs_of window ≡ apply_limit limit (listing t m)
-limited_window t m limit pivots found rows shown window from to start end low high bag law same order within rising fits ranks at_low at_high is part up =
+limited_window t m limit pivots found rows shown window from to start end low high bag law same order within rising fits ranks at_low at_high least part up =
     let range : List Pair = slice_range rows from to in
     let pieces : List Pair = slice_range rows low high in
     let at_start : IsPieceStart pivots from (from + start) low = subst (λ (ps : List (ℤ × ℕ)). IsPieceStart ps from (from + start) low) same at_low in
     let at_end : IsPieceEnd pivots to (from + end) high = subst (λ (ps : List (ℤ × ℕ)). IsPieceEnd ps to (from + end) high) same at_high in
     let outer : IsPart range (low - from) (high - from) pieces = IsPart-pieces pivots rows from to (from + start) (from + end) low high law (omega arith) within at_start at_end in
     let inner : IsPart pieces (from + start - low) (from + end - low) (pairs_of window) =
-    subst (λ (ps : List Pair). IsPart ps (from + start - low) (from + end - low) (pairs_of window)) is part in
+    IsPart-inner pieces 0 (length (pairs_of shown)) (from + start - low) (from + end - low) (from + start - low) (from + end - low) (pairs_of shown) (pairs_of window)
+    (IsPart-least pieces (pairs_of shown) (length shown) least) part (omega arith) (omega arith) in
     let a : from ≤ low = at_start.low in
     let b : low ≤ from + start = at_start.high in
     let whole : IsPart range start end (pairs_of window) = IsPart-inner range (low - from) (high - from) (from + start - low) (from + end - low) start end pieces (pairs_of window) outer inner (omega arith) (omega arith) in

@@ -13,17 +13,16 @@ use Rattle.std.specs.declared.cmp.Ordering.{Ordering}
 use Rattle.std.proofs.lemmas.Map.Text.{is_eq-slice_cmp}
 use Rattle.std.proofs.lemmas.Bool.Decides.{nat_tests}
 use Rattle.zset_core.specs.SortedSet.{Members, bytes_cmp}
-use Rattle.zset_core.specs.SetAndOwnerViews.{SetView, Next, Shows, IsPreparedFor, ShowsAt, IsPreparedAt}
+use Rattle.zset_core.specs.ViewTypes.{SetView, Next, Shows, IsPreparedFor, ShowsAt, IsPreparedAt}
 use Rattle.zset_core.specs.ChangeOutline.{IsOutline}
 use Rattle.zset_core.specs.declared.set.change_outline.Outline.{Outline}
 use Rattle.zset_core.specs.World.{World, is_empty, set_at, put_set}
-use Rattle.zset_core.specs.OwnerEntries.{Keyed, world_of, set_in, IsResting, AllRest, OthersRest, next_at, IsAfter}
+use Rattle.zset_core.specs.OwnerViewAndInvariant.{Keyed, world_of, set_in, IsResting, AllRest, OthersRest, next_at, IsAfter}
 use Rattle.zset_core.proofs.Bridge.{total, exact}
 use Rattle.std.proofs.Common.{IfOk, IfErr}
 use Rattle.resp_wire.specs.Response.{Response}
 use Rattle.zset_core.specs.CommandRequest.{Meaning}
-use Rattle.zset_core.specs.Semantics.{step}
-use Rattle.zset_core.specs.World.{act_at}
+use Rattle.zset_core.specs.Semantics.{step, act_at}
 use Rattle.zset_core.specs.Refusal.{IsRefused}
 use Rattle.zset_core.specs.declared.refusal.Refusal.{Refusal}
 use Rattle.zset_core.specs.declared.refusal.Refusal.TheVariants.{NoMemory, UnknownCommand, WrongArity, Syntax, NxAndXx, GtLtNx, IncrPair, BadScore, BadBound, BadInteger, TableFull, Spent, ScoreOverflow, LogBroken, LogFull, LogRefused, OutOfStep}

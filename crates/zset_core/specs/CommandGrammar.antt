@@ -1,5 +1,5 @@
 -- How a request is read as a command: the names, the number of words and the options of the commands
--- (Redis command pages of PING, ZADD, ZREM, ZSCORE, ZCARD, ZCOUNT, ZRANGEBYSCORE), and the first refusal whose condition holds.
+-- (Redis command pages of PING, ZADD, ZREM, ZREMRANGEBYSCORE, ZSCORE, ZCARD, ZCOUNT, ZRANGEBYSCORE), and the first refusal whose condition holds.
 use Rattle.std.specs.Prelude.{ℕ, ◌%◌, Bool, true, false, not, ◌&&◌, ◌||◌, ◌==◌, nat_le, if◌then◌else◌, ℤ, List, [], ◌∷◌, length, drop, slice_get, codes, Option, None, Some, is_none, unwrap_or, option_map, option_and_then, Result, Err}
 use Rattle.std.specs.List.{find, take_while, list_any}
 use Rattle.std.specs.Option.{option_map_or, ok_or}
@@ -13,9 +13,9 @@ use Rattle.zset_core.specs.ParsedForm.{word_at}
 use Rattle.zset_core.specs.declared.command.limit.Limit.{Limit}
 use Rattle.zset_core.specs.declared.set.pair_outcome.Flags.{Flags}
 use Rattle.zset_core.specs.declared.command.name.CommandName.{CommandName}
-use Rattle.zset_core.specs.declared.command.name.CommandName.TheVariants.{Ping, Add, Remove, Score, Card, Count, ListRange}
+use Rattle.zset_core.specs.declared.command.name.CommandName.TheVariants.{Ping, Add, Remove, RemoveRange, Score, Card, Count, ListRange}
 use Rattle.zset_core.specs.declared.refusal.Refusal.{Refusal}
-use Rattle.zset_core.specs.declared.refusal.Refusal.TheVariants.{UnknownCommand, WrongArity, Syntax, NxAndXx, IncrPair, BadScore, BadBound, BadInteger}
+use Rattle.zset_core.specs.declared.refusal.Refusal.TheVariants.{UnknownCommand, WrongArity, Syntax, NxAndXx, GtLtNx, IncrPair, BadScore, BadBound, BadInteger}
 
 -- a request has at most this number of arguments, the name of its command included
 abbrev pub most_arguments : ℕ
@@ -31,6 +31,7 @@ command_named name =
     if is_named (codes "PING") name then Some Ping
     else if is_named (codes "ZADD") name then Some Add
     else if is_named (codes "ZREM") name then Some Remove
+    else if is_named (codes "ZREMRANGEBYSCORE") name then Some RemoveRange
     else if is_named (codes "ZSCORE") name then Some Score
     else if is_named (codes "ZCARD") name then Some Card
     else if is_named (codes "ZCOUNT") name then Some Count
@@ -42,6 +43,7 @@ abbrev pub has_arity : CommandName → ℕ → Bool
 has_arity Ping count = count == 1 || count == 2
 has_arity Add count = nat_le 4 count
 has_arity Remove count = nat_le 3 count
+has_arity RemoveRange count = count == 4
 has_arity Score count = count == 3
 has_arity Card count = count == 2
 has_arity Count count = count == 4
@@ -49,7 +51,9 @@ has_arity ListRange count = nat_le 4 count
 
 -- ZADD: the options are the longest row of option words behind the key, and the pairs are all words behind them
 abbrev pub is_add_option : List ℕ → Bool
-is_add_option word = is_named (codes "NX") word || is_named (codes "XX") word || is_named (codes "CH") word || is_named (codes "INCR") word
+is_add_option word =
+    is_named (codes "NX") word || is_named (codes "XX") word || is_named (codes "GT") word || is_named (codes "LT") word
+    || is_named (codes "CH") word || is_named (codes "INCR") word
 
 unfoldable pub add_options : List (List ℕ) → List (List ℕ)
 add_options words = take_while is_add_option (drop 2 words)
@@ -59,6 +63,18 @@ add_pairs words = drop (length (add_options words)) (drop 2 words)
 
 abbrev pub has_option : List ℕ → List (List ℕ) → Bool
 has_option name options = list_any (is_named name) options
+
+abbrev pub asked_flags : List (List ℕ) → Flags
+asked_flags options = record {
+  nx = has_option (codes "NX") options;
+  xx = has_option (codes "XX") options;
+  gt = has_option (codes "GT") options;
+  lt = has_option (codes "LT") options;
+}
+
+-- two of GT, LT and NX were given, which exclude each other
+abbrev pub has_two_of_gt_lt_nx : Flags → Bool
+has_two_of_gt_lt_nx flags = (flags.gt && flags.lt) || (flags.nx && (flags.gt || flags.lt))
 
 -- whole pairs, one at least
 abbrev pub are_pairs : List (List ℕ) → Bool
@@ -71,7 +87,7 @@ pairs_value (member ∷ []) = None
 pairs_value (score ∷ member ∷ more) =
     option_and_then (λ first. option_map (λ others. (first, member) ∷ others) (pairs_value more)) (score_value score)
 
--- the range of ZCOUNT and ZRANGEBYSCORE
+-- the range of ZREMRANGEBYSCORE, ZCOUNT and ZRANGEBYSCORE
 abbrev pub asked_range : List (List ℕ) → Option Range
 asked_range words = range_value (word_at words 2) (word_at words 3)
 
@@ -126,10 +142,12 @@ command_conditions Add words =
     let pairs = add_pairs words in
     (not (are_pairs pairs), Syntax)
     ∷ (has_option (codes "NX") options && has_option (codes "XX") options, NxAndXx)
+    ∷ (has_two_of_gt_lt_nx (asked_flags options), GtLtNx)
     ∷ (has_option (codes "INCR") options && not (length pairs == 2), IncrPair)
     ∷ (is_none (pairs_value pairs), BadScore)
     ∷ []
 command_conditions Remove words = []
+command_conditions RemoveRange words = (is_none (asked_range words), BadBound) ∷ []
 command_conditions Score words = []
 command_conditions Card words = []
 command_conditions Count words = (is_none (asked_range words), BadBound) ∷ []
@@ -159,9 +177,6 @@ abbrev pub increase : List ℕ → Flags → List (ℤ × List ℕ) → Option M
 increase key flags ((given, member) ∷ []) = Some (meanings.Increase key flags given member)
 increase key flags _ = None
 
-abbrev pub asked_flags : List (List ℕ) → Flags
-asked_flags options = record { nx = has_option (codes "NX") options; xx = has_option (codes "XX") options }
-
 -- ZADD with its pairs
 abbrev pub add_meaning : List (List ℕ) → List (ℤ × List ℕ) → Option Meaning
 add_meaning words pairs =
@@ -177,6 +192,7 @@ abbrev pub command_meaning : CommandName → List (List ℕ) → Option Meaning
 command_meaning Ping words = Some (meanings.Ping (slice_get words 1))
 command_meaning Add words = option_and_then (add_meaning words) (pairs_value (add_pairs words))
 command_meaning Remove words = Some (meanings.Remove (word_at words 1) (drop 2 words))
+command_meaning RemoveRange words = option_map (meanings.RemoveRange (word_at words 1)) (asked_range words)
 command_meaning Score words = Some (meanings.Score (word_at words 1) (word_at words 2))
 command_meaning Card words = Some (meanings.Card (word_at words 1))
 command_meaning Count words = option_map (meanings.Count (word_at words 1)) (asked_range words)

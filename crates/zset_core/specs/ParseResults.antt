@@ -3,7 +3,7 @@ use Rattle.std.specs.Prelude.{◌≡◌, ◌≢◌, ℕ, ◌*◌, Bool, true, fa
 use Rattle.std.specs.List.{list_any}
 use Rattle.std.specs.Option.{ok_or}
 use Rattle.score_bounds.specs.Scores.{score_value}
-use Rattle.zset_core.specs.CommandGrammar.{are_pairs, asked_flags, RangeOption, pairs_value, is_with_scores, is_bad_limit, last_limit, first_of}
+use Rattle.zset_core.specs.CommandGrammar.{are_pairs, asked_flags, RangeOption, has_two_of_gt_lt_nx, pairs_value, is_with_scores, is_bad_limit, last_limit, first_of}
 use Rattle.zset_core.specs.ParsedForm.{word_at, scored, meaning_of, IsWhole}
 use Rattle.zset_core.specs.CommandRequest.{Meaning}
 use Rattle.zset_core.specs.declared.command.parsed_form.Form.{Form}
@@ -37,8 +37,9 @@ pub record AreScores (pairs : List (List ℕ)) (scores : List ℤ) : Type 0 wher
 unfoldable pub given_value : List (List ℕ) → Result ℤ Refusal
 given_value pairs = if length pairs == 2 then ok_or (score_value (word_at pairs 0)) BadScore else Err IncrPair
 
--- options and pairs of ZADD that are refused for none of syntax and both of NX and XX, with their flags
+-- options and pairs of ZADD that are refused for none of syntax, both of NX and XX, and two of GT, LT and NX, with their flags
 pub record AreAddParts (options pairs : List (List ℕ)) (flags : Flags) : Type 0 where
   pub whole : are_pairs pairs ≡ true
   pub flags_are : flags ≡ asked_flags options
   pub apart : (flags.nx && flags.xx) ≡ false
+  pub agreeing : has_two_of_gt_lt_nx flags ≡ false

@@ -5,7 +5,7 @@ use Rattle.zset_core.specs.CommandRequest.{Meaning}
 use Rattle.zset_core.specs.CommandRequest as meanings
 use Rattle.zset_core.specs.declared.command.given_pairs.GivenPairs.{GivenPairs}
 use Rattle.zset_core.specs.declared.command.parsed_form.Form.{Form}
-use Rattle.zset_core.specs.declared.command.parsed_form.Form.TheVariants.{Ping, Add, Increase, Remove, Score, Card, Count, ListRange}
+use Rattle.zset_core.specs.declared.command.parsed_form.Form.TheVariants.{Ping, Add, Increase, Remove, RemoveRange, Score, Card, Count, ListRange}
 
 -- a word of a request, or the empty one past its end
 abbrev pub word_at : List (List ℕ) → ℕ → List ℕ
@@ -26,6 +26,7 @@ meaning_of words Ping = meanings.Ping (slice_get words 1)
 meaning_of words (Add flags changed first scores) = meanings.Add (word_at words 1) flags changed (scored scores.items (drop first words))
 meaning_of words (Increase flags given member) = meanings.Increase (word_at words 1) flags given (word_at words member)
 meaning_of words Remove = meanings.Remove (word_at words 1) (drop 2 words)
+meaning_of words (RemoveRange range) = meanings.RemoveRange (word_at words 1) range
 meaning_of words Score = meanings.Score (word_at words 1) (word_at words 2)
 meaning_of words Card = meanings.Card (word_at words 1)
 meaning_of words (Count range) = meanings.Count (word_at words 1) range
@@ -37,6 +38,7 @@ IsWhole words Ping = Unit {0}
 IsWhole words (Add flags changed first scores) = (2 ≤ first) × (0 < length scores.items) × (first + 2 * length scores.items ≡ length words)
 IsWhole words (Increase flags given member) = (1 < length words) × (member < length words)
 IsWhole words Remove = 2 < length words
+IsWhole words (RemoveRange range) = length words ≡ 4
 IsWhole words Score = length words ≡ 3
 IsWhole words Card = length words ≡ 2
 IsWhole words (Count range) = length words ≡ 4

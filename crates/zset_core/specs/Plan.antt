@@ -2,15 +2,25 @@
 use Rattle.std.specs.Prelude.{◌≡◌, List, length, Option, None, Some}
 use Rattle.resp_wire.specs.Response.{Response, response_of}
 use Rattle.zset_core.specs.SortedSet.{Members}
-use Rattle.zset_core.specs.Semantics.{remove_all}
-use Rattle.zset_core.specs.StagedEntries.{Entry, current_score, staged_score, members_by, IsWaiting, Grows, bytes_of}
+use Rattle.score_bounds.specs.declared.bounds.Range.{Range}
+use Rattle.zset_core.specs.Semantics.{remove_all, without_range}
+use Rattle.zset_core.specs.MembersWithStagedScores.{Entry, current_score, staged_score, members_by, IsWaiting, Grows, bytes_of}
 use Rattle.zset_core.specs.ChangeOutline.{IsOutline}
 use Rattle.zset_core.specs.RowEdits.{Turns, IsFew}
 use Rattle.zset_core.specs.declared.set.plan.Plan.{Plan}
 
+-- the set without the members of a range, if one is given
+abbrev pub without_given : Option Range → Members → Members
+without_given None members = members
+without_given (Some range) members = without_range range members
+
+-- the set once the members that a plan names came, moved and left
+abbrev pub edited_by : {A : Type 0} → List (Entry A) → Plan A → Members
+edited_by entries plan = remove_all (members_by staged_score entries) (bytes_of plan.removed.items)
+
 -- the set that a commit leaves
 abbrev pub left_by : {A : Type 0} → List (Entry A) → Plan A → Members
-left_by entries plan = remove_all (members_by staged_score entries) (bytes_of plan.removed.items)
+left_by entries plan = without_given plan.range (edited_by entries plan)
 
 -- from the old entries a plan was made whose commit leaves a set and gives a reply
 pub record Prepares {A : Type 0} (old new : List (Entry A)) (plan : Plan A) (members : Members) (reply : Response) : Type 0 where
@@ -19,7 +29,7 @@ pub record Prepares {A : Type 0} (old new : List (Entry A)) (plan : Plan A) (mem
   pub waiting : IsWaiting plan.draft.touched.items new
   pub members_are : left_by new plan ≡ members
   pub reply_is : response_of plan.reply ≡ reply
-  pub edits_are : Turns (members_by current_score old) members plan.draft.edits.coming.items plan.draft.edits.leaving.items
+  pub edits_are : Turns (members_by current_score old) (edited_by new plan) plan.draft.edits.coming.items plan.draft.edits.leaving.items
   pub few_edits : IsFew plan.draft.edits
   pub outline_is : IsOutline plan.outline (members_by current_score old) members
 

@@ -7,8 +7,8 @@ use Rattle.std.specs.BTreeSet.{BTreeSet, contains}
 use Rattle.std.specs.FinMap as fin
 use Rattle.std.specs.declared.vec.Vec.{Vec}
 use Rattle.zset_core.specs.Semantics.{remove_all}
-use Rattle.zset_core.specs.StagedEntries.{Entry, current_score, members_by, slots, bytes_of}
-use Rattle.zset_core.specs.declared.set.member_map.ScoreSlot.{ScoreSlot}
+use Rattle.zset_core.specs.MembersWithStagedScores.{Entry, current_score, members_by, slots, bytes_of}
+use Rattle.zset_core.specs.declared.set.members_with_staged_scores.ScoreSlot.{ScoreSlot}
 
 -- the places are those of the members found, each of which is one member less
 pub record AreFound {A : Type 0} (entries : List (Entry A)) (places : BTreeSet ℕ) (members : List (Vec ℕ A)) : Type 0 where

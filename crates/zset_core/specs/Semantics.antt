@@ -1,22 +1,29 @@
--- What a command makes of a sorted set, and its reply.
-use Rattle.std.specs.Prelude.{ℕ, ◌+◌, ◌-◌, Bool, true, false, if◌then◌else◌, ℤ, pos, negsuc, ◌+ℤ◌, List, [], ◌∷◌, map, length, take, drop, codes, Option, None, Some, option_map}
-use Rattle.std.specs.List.{flat_map}
+-- What a command makes of a sorted set, and of the world at its key, and its reply.
+use Rattle.std.specs.Prelude.{ℕ, ◌+◌, ◌-◌, Bool, true, false, not, ◌&&◌, ◌||◌, if◌then◌else◌, ℤ, pos, negsuc, ◌+ℤ◌, int_le, List, [], ◌∷◌, map, length, take, drop, codes, Option, None, Some, option_map}
+use Rattle.std.specs.List.{filter, flat_map}
 use Rattle.std.specs.Ordering.{int_eq}
 use Rattle.std.specs.FinMap as map_of
 use Rattle.resp_wire.specs.Response.{Response, Integer, BulkString, NullBulk, Array, SimpleString}
+use Rattle.score_bounds.specs.declared.bounds.Range.{Range}
 use Rattle.score_bounds.specs.Bounds.{is_in}
 use Rattle.score_bounds.specs.Scores.{is_score, score_text}
 use Rattle.zset_core.specs.SortedSet.{Members, Pair, listing}
-use Rattle.zset_core.specs.CommandRequest.{Meaning, Ping, Add, Increase, Remove, Score, Card, Count, ListRange}
+use Rattle.zset_core.specs.World.{World, put_set, set_at}
+use Rattle.zset_core.specs.CommandRequest.{Meaning, key_of, Ping, Add, Increase, Remove, RemoveRange, Score, Card, Count, ListRange}
 use Rattle.zset_core.specs.declared.set.pair_outcome.Flags.{Flags}
 use Rattle.zset_core.specs.declared.set.pair_outcome.Outcome.{Outcome}
 use Rattle.zset_core.specs.declared.set.pair_outcome.Outcome.TheVariants.{Stopped, Added, Changed, Same}
 use Rattle.zset_core.specs.declared.command.limit.Limit.{Limit}
 
+-- GT keeps a member's score from one that is not greater, LT from one that is not less
+abbrev pub keeps_score : Flags → ℤ → ℤ → Bool
+keeps_score flags old score = (flags.gt && int_le score old) || (flags.lt && int_le old score)
+
 -- what a pair of ZADD comes to, by the score that its member has
 abbrev pub outcome_of : Flags → Option ℤ → ℤ → Outcome
 outcome_of flags None score = if flags.xx then Stopped else Added
-outcome_of flags (Some old) score = if flags.nx then Stopped else if int_eq score old then Same else Changed
+outcome_of flags (Some old) score =
+    if flags.nx then Stopped else if keeps_score flags old score then Stopped else if int_eq score old then Same else Changed
 
 -- whether it is written
 abbrev pub writes : Outcome → Bool
@@ -47,7 +54,8 @@ count_all flags changed members [] = 0
 count_all flags changed members (p ∷ ps) =
     counted changed (outcome_of flags (map_of.get members p.1) p.0) + count_all flags changed (put_one flags members p.1 p.0) ps
 
--- with INCR, NX stops the pair of a member that is there, and XX that of one that is not, before the sum is formed
+-- with INCR, NX stops the pair of a member that is there, and XX that of one that is not, before the sum is formed; GT and LT
+-- are asked of the sum
 abbrev pub is_barred : Flags → Option ℤ → Bool
 is_barred flags None = flags.xx
 is_barred flags (Some old) = flags.nx
@@ -74,6 +82,10 @@ increase flags members member given =
 abbrev pub remove_all : Members → List (List ℕ) → Members
 remove_all members [] = members
 remove_all members (name ∷ names) = remove_all (map_of.remove members name) names
+
+-- the members whose scores are outside a range
+unfoldable pub without_range : Range → Members → Members
+without_range range members = map_of.from_entries (filter (λ entry. not (is_in range entry.1)) (map_of.entries members))
 
 -- the reply that tells a score, or that there is none
 abbrev pub score_reply : Option ℤ → Response
@@ -107,8 +119,18 @@ step members (Add key flags changed pairs) = Some (put_all flags members pairs, 
 step members (Increase key flags given member) = increase flags members member given
 step members (Remove key names) =
     Some (remove_all members names, Integer (pos (map_of.len members - map_of.len (remove_all members names))))
+step members (RemoveRange key range) = Some (without_range range members, Integer (pos (length (listing (is_in range) members))))
 step members (Score key member) = Some (members, score_reply (map_of.get members member))
 step members (Card key) = Some (members, Integer (pos (map_of.len members)))
 step members (Count key range) = Some (members, Integer (pos (length (listing (is_in range) members))))
 step members (ListRange key range with_scores limit) =
     Some (members, Array (elements with_scores (apply_limit limit (listing (is_in range) members))))
+
+-- what a command makes of the set at its key, if it has one
+abbrev pub act_at : World → Option (List ℕ) → Meaning → Option (World × Response)
+act_at world None meaning = option_map (λ done. (world, done.1)) (step map_of.empty meaning)
+act_at world (Some key) meaning = option_map (λ done. (put_set world key done.0, done.1)) (step (set_at world key) meaning)
+
+-- what a command leaves of a world, and its reply; none where a sum of INCR is no score
+abbrev pub act : World → Meaning → Option (World × Response)
+act world meaning = act_at world (key_of meaning) meaning

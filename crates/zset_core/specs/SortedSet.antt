@@ -28,6 +28,10 @@ pair_cmp a b = ordering_then (int_cmp a.0 b.0) (bytes_cmp a.1 b.1)
 unfoldable pub pairs : Members → List Pair
 pairs members = map (λ entry. (entry.1, entry.0)) (entries members)
 
+-- the members of pairs
+abbrev pub names_of : List Pair → List (List ℕ)
+names_of ps = map (λ p. p.1) ps
+
 -- pairs as the keys of a finite map
 abbrev pub marks : List Pair → List (Pair × Unit {0})
 marks ps = map (λ p. (p, tt)) ps

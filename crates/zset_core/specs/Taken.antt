@@ -1,7 +1,7 @@
 -- A set that is taken out of a world with its key.
 use Rattle.std.specs.Prelude.{◌≡◌, ℕ, false, List, ◌∷◌, None, Some, slice_get}
 use Rattle.std.specs.FinMap as fin
-use Rattle.zset_core.specs.SetAndOwnerViews.{SetView}
+use Rattle.zset_core.specs.ViewTypes.{SetView}
 use Rattle.zset_core.specs.World.{World, is_empty, set_at}
 
 -- the set at the old world's first key was taken out, and the new world is what is left

@@ -1,5 +1,5 @@
 -- Windows of a listing, and the pieces of a column that they touch.
-use Rattle.std.specs.Prelude.{◌≡◌, ◌+◌, ◌<◌, ◌≤◌, ◌⊎◌, ℕ, ℤ, false, List, ◌++◌, length, All, Any, IsPermutation}
+use Rattle.std.specs.Prelude.{◌≡◌, min, ◌+◌, ◌<◌, ◌≤◌, ◌⊎◌, ℕ, ℤ, false, List, ◌++◌, length, All, Any, IsPermutation}
 use Rattle.std.specs.Ordering.{is_lt}
 use Rattle.zset_core.specs.SortedSet.{Pair, pair_cmp}
 
@@ -17,6 +17,13 @@ pub record IsPart (all : List Pair) (start end : ℕ) (part : List Pair) : Type 
   pub front_part : ComesBefore front part
   pub front_back : ComesBefore front back
   pub part_back : ComesBefore part back
+
+-- in no order, the part has the least of all pairs: count of them, or all where they are fewer
+pub record HasLeast (all : List Pair) (count : ℕ) (part : List Pair) : Type 0 where
+  pub others : List Pair
+  pub together : IsPermutation all (part ++ others)
+  pub many : length part ≡ min count (length all)
+  pub part_others : ComesBefore part others
 
 -- the greatest place of a pivot that is at most first, or from where no such place is greater
 pub record IsPieceStart (pivots : List (ℤ × ℕ)) (from first place : ℕ) : Type 0 where

@@ -1,12 +1,9 @@
 -- A world: sorted sets by key. Only sets with members are kept, so that worlds with the same members are equal.
-use Rattle.std.specs.Prelude.{ℕ, Bool, if◌then◌else◌, List, Option, None, Some, nat_eq, unwrap_or, option_map, slice_get, find}
+use Rattle.std.specs.Prelude.{ℕ, Bool, if◌then◌else◌, List, Option, None, Some, nat_eq, unwrap_or, slice_get, find}
 use Rattle.std.specs.Ordering.{is_lt}
 use Rattle.std.specs.FinMap as fin
 use Rattle.std.specs.FinMap.{FinMap}
-use Rattle.resp_wire.specs.Response.{Response}
 use Rattle.zset_core.specs.SortedSet.{Members, bytes_cmp}
-use Rattle.zset_core.specs.CommandRequest.{Meaning, key_of}
-use Rattle.zset_core.specs.Semantics.{step}
 
 -- the sets that are not empty, by their keys
 abbrev pub World : Type 0
@@ -22,15 +19,6 @@ set_at world key = unwrap_or (fin.get world key) fin.empty
 -- the world with another set at a key
 abbrev pub put_set : World → List ℕ → Members → World
 put_set world key members = if is_empty members then fin.remove world key else fin.insert world key members
-
--- what a command makes of the set at its key, if it has one
-abbrev pub act_at : World → Option (List ℕ) → Meaning → Option (World × Response)
-act_at world None meaning = option_map (λ done. (world, done.1)) (step fin.empty meaning)
-act_at world (Some key) meaning = option_map (λ done. (put_set world key done.0, done.1)) (step (set_at world key) meaning)
-
--- what a command leaves of a world, and its reply; none where a sum of INCR is no score
-abbrev pub act : World → Meaning → Option (World × Response)
-act world meaning = act_at world (key_of meaning) meaning
 
 -- among names in byte order the first one, or the first behind a name
 abbrev pub key_behind : List (List ℕ) → Option (List ℕ) → Option (List ℕ)

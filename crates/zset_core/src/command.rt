@@ -3,7 +3,7 @@
 ghost use Rattle.std.specs.Prelude.{◌≡◌, ◌≢◌, IfOk, IfErr, Ok, Err};
 ghost use Rattle.std.specs.Option.{option_copied};
 ghost use Rattle.zset_core.specs.CommandGrammar.{asked, is_creating};
-ghost use Rattle.zset_core.specs.ReplayableWorld.{IsBoundedMeaning};
+ghost use Rattle.zset_core.specs.WorldFitsRequests.{IsBoundedMeaning};
 ghost use Rattle.zset_core.specs.ParsedForm.{meaning_of, IsWhole};
 ghost use Rattle.zset_core.specs.CommandRequest.{key_of, is_writing};
 ghost use Rattle.zset_core.specs.declared.refusal.Refusal.TheVariants as refusals;
@@ -92,12 +92,13 @@ impl<A: Allocator> Command<A> {
         }
     }
 
-    /// Whether the command is one of those that change sets: ZADD and ZREM.
+    /// Whether the command is one of those that change sets: ZADD, ZREM and ZREMRANGEBYSCORE.
     pub fn writes(&self) -> bool
         ensures { result ≡ is_writing self.now.meaning }
     {
         match &self.form {
-            Form::Add { .. } | Form::Increase { .. } | Form::Remove => true,
+            Form::Add { .. } | Form::Increase { .. } | Form::Remove | Form::RemoveRange { .. } =>
+                true,
             Form::Ping | Form::Score | Form::Card | Form::Count { .. } | Form::ListRange { .. } =>
                 false,
         }

@@ -23,7 +23,7 @@ pub enum Refusal {
     Syntax,
     /// NX and XX in one command.
     NxAndXx,
-    /// Two of GT, LT and NX in one command. No command has GT and LT yet.
+    /// Two of GT, LT and NX in one command.
     GtLtNx,
     /// INCR with another number of pairs than one.
     IncrPair,

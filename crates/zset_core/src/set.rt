@@ -2,26 +2,28 @@
 ghost use Rattle.std.specs.Prelude.{◌≡◌, ◌+◌, ◌<◌, ◌≤◌, ◌^◌, ◌⊎◌, ◌↔◌, length, true, false, Some, None, IsSome, IfSome, IfOk, IfErr, OnOk, OnErr, IsTrue, take, option_map};
 ghost use Rattle.std.specs.FinMap as map;
 ghost use Rattle.indexmap.specs.IndexMap.{IsUnique};
-ghost use Rattle.zset_core.specs.StagedEntries.{current_score, slot_at, same_bytes};
-ghost use Rattle.zset_core.specs.SetInvariant.{kept_of};
-ghost use Rattle.zset_core.specs.CommandRequest.{is_writing, key_of};
+ghost use Rattle.zset_core.specs.MembersWithStagedScores.{current_score, slot_at, same_bytes};
+ghost use Rattle.zset_core.specs.SetViewAndInvariant.{kept_of};
+ghost use Rattle.zset_core.specs.CommandRequest.{is_writing, key_of, range_to_remove};
 ghost use Rattle.zset_core.specs.ChangeOutline.{IsOutline};
 ghost use Rattle.zset_core.specs.Refusal.{IsRefused};
 ghost use Rattle.ripple_column.specs.Content.{Holds, IsUnchanged, most_pending};
 ghost use Rattle.ripple_column.specs.Cuts.{values};
-ghost use Rattle.zset_core.specs.ColumnEffects.{NarrowsFor, Reads, changes_named, edit_count};
+ghost use Rattle.zset_core.specs.CommandEffectsOnColumn.{NarrowsFor, Reads, Selects, TakesOut, changes_named, edit_count};
 ghost use Rattle.zset_core.specs.RowEdits.{most_edits};
-ghost use Rattle.zset_core.specs.ReadyCommands.{IsReadyFor};
+ghost use Rattle.zset_core.specs.ReadyForCommand.{IsReadyFor};
 ghost use Rattle.zset_core.specs.SortedSet.{pairs, whole};
 ghost use Rattle.zset_core.specs.Semantics.{step};
-ghost use Rattle.zset_core.specs.SetAndOwnerViews.{IsPreparedFor};
+ghost use Rattle.zset_core.specs.ViewTypes.{IsPreparedFor};
 ghost use Rattle.resp_wire.specs.Response.{response_of};
 
 pub mod change_outline;
+pub mod commit;
 pub mod draft;
-pub mod member_map;
+pub mod members_with_staged_scores;
 pub mod pair_outcome;
 pub mod plan;
+pub mod range_removal;
 pub mod removal_search;
 pub mod row_edits;
 
@@ -30,8 +32,9 @@ use crate::query::answer::{answer_from, is_wide_for, narrow_for, ready_from};
 use crate::query::listing::all_rows;
 use crate::refusal::Refusal;
 use crate::set::change_outline::Outline;
-use crate::set::member_map::MemberMap;
-use crate::set::plan::{Plan, apply_plan, discard, make_plan};
+use crate::set::commit::{apply_plan, discard};
+use crate::set::members_with_staged_scores::MemberMap;
+use crate::set::plan::{Plan, make_plan};
 use crack_kernel::Row;
 use indexmap::IndexMap;
 use resp_wire::Reply;
@@ -63,16 +66,16 @@ pub struct ZSet<H: BuildHasher, A: Allocator + Copy> {
 }
 
 impl<H: BuildHasher, A: Allocator + Copy> Model for ZSet<H, A> {
-    ghost use Rattle.zset_core.specs.SetAndOwnerViews.{SetView};
+    ghost use Rattle.zset_core.specs.ViewTypes.{SetView};
 
     ghost Value = { SetView };
 
     ghost use Rattle.std.specs.Coded.{codes};
-    ghost use Rattle.zset_core.specs.SetAndOwnerViews.{coded_members};
+    ghost use Rattle.zset_core.specs.ViewTypes.{coded_members};
 
     ghost coded = { Prim.hlevel (codes, coded_members) };
 
-    ghost use Rattle.zset_core.specs.SetInvariant.{view_of, IsSound};
+    ghost use Rattle.zset_core.specs.SetViewAndInvariant.{view_of, IsSound};
 
     ghost view = { λ z. view_of z.members.entries z.column z.prepared };
 
@@ -193,7 +196,8 @@ impl<H: BuildHasher, A: Allocator + Copy> ZSet<H, A> {
     /// Prepares a command that changes sets: takes all the memory that it needs, and leaves the
     /// members as they are until `commit` or `drop_prepared`. The outline tells how many members it
     /// will add and take out, and whether it changes the set. The column may merge what waits, to make
-    /// room. Refused when out of memory, or where a sum of INCR is no score; nothing is prepared then.
+    /// room, and is cracked for ZREMRANGEBYSCORE, which takes no memory for the members that leave.
+    /// Refused when out of memory, or where a sum of INCR is no score; nothing is prepared then.
     pub fn prepare(&mut self, command: &Command<A>) -> Result<Outline, Refusal>
         requires idle { self.old.next ≡ None }
         requires writing { IsTrue (is_writing command.now.meaning) }
@@ -207,12 +211,20 @@ impl<H: BuildHasher, A: Allocator + Copy> ZSet<H, A> {
             (λ refusal. IsRefused refusal (step self.old.members command.now.meaning)) }
         ensures err { OnErr result (self.new.next ≡ None) }
 
-        // ZADD and ZREM merge what waits only where their own edits would not fit beside it.
+        // ZADD and ZREM, which name members (`changes_named`), merge what waits only where their own edits,
+        // `edit_count` of them, would not fit beside the longer of the two lists that wait
+        // (`most_pending`).
         ensures values { changes_named command.now.meaning ≡ true
             → values self.new.column.pivots ≡ values self.old.column.pivots }
         ensures still { changes_named command.now.meaning ≡ true → most_pending self.old.column
             + edit_count self.old.members command.now.meaning ≤ MAX_PENDING
             → IsUnchanged self.old.column self.new.column }
+
+        // ZREMRANGEBYSCORE asks the column for its range, which merges and cracks there alone.
+        ensures selected { OnOk result (IfSome (range_to_remove command.now.meaning)
+            (λ range. Selects range self.old.column self.new.column)) }
+        ensures unselected { OnErr result (IfSome (range_to_remove command.now.meaning)
+            (λ range. IsUnchanged self.old.column self.new.column)) }
     {
         let plan = make_plan(self.alloc, &mut self.members, &mut self.column, command)?;
         let outline = plan.outline;
@@ -233,6 +245,10 @@ impl<H: BuildHasher, A: Allocator + Copy> ZSet<H, A> {
             → self.new.column.rows ≡ self.old.column.rows) }
         ensures pivots { IfSome self.old.next (λ next. changes_named next.meaning ≡ true
             → self.new.column.pivots ≡ self.old.column.pivots) }
+
+        // The rows of ZREMRANGEBYSCORE's range leave it.
+        ensures range { IfSome self.old.next (λ next. IfSome (range_to_remove next.meaning)
+            (λ range. TakesOut range self.old.column self.new.column)) }
     {
         match self.prepared.take() {
             None => unreachable!(),
@@ -245,8 +261,7 @@ impl<H: BuildHasher, A: Allocator + Copy> ZSet<H, A> {
         requires { IsSome self.old.next }
         ensures members { self.new.members ≡ self.old.members }
         ensures idle { self.new.next ≡ None }
-        ensures column { IfSome self.old.next (λ next. changes_named next.meaning ≡ true
-            → self.new.column ≡ self.old.column) }
+        ensures column { self.new.column ≡ self.old.column }
     {
         if let Some(prepared) = self.prepared.take() {
             discard(&mut self.members, prepared.plan);

@@ -2,7 +2,7 @@
 
 ghost use Rattle.std.specs.Prelude.{◌≡◌, ◌≢◌, ◌+◌, ◌*◌, ◌%◌, ◌<◌, ◌≤◌, true, false, ℕ, List, [], ◌∷◌, ◌++◌, length, codes, OnOk, IfOk, IfErr};
 ghost use Rattle.std.specs.List.{take_while};
-ghost use Rattle.zset_core.specs.CommandGrammar.{most_arguments, add_options, add_pairs, asked_flags, has_option, is_add_option, command_conditions, command_meaning, pairs_value};
+ghost use Rattle.zset_core.specs.CommandGrammar.{most_arguments, add_options, add_pairs, asked_flags, has_option, has_two_of_gt_lt_nx, is_add_option, command_conditions, command_meaning, pairs_value};
 ghost use Rattle.zset_core.specs.ParseResults.{AreAddParts, AreScores, IsReading, given_value};
 ghost use Rattle.zset_core.specs.declared.command.name.CommandName.TheVariants as names;
 ghost use Rattle.zset_core.specs.declared.refusal.Refusal.TheVariants as refusals;
@@ -30,6 +30,9 @@ pub fn read_add<A: Allocator + Copy>(alloc: A, words: &[Bytes<A>]) -> Result<For
     let flags = read_flags(options);
     if flags.nx && flags.xx {
         return Err(Refusal::NxAndXx);
+    }
+    if has_two_of_gt_lt_nx(flags) {
+        return Err(Refusal::GtLtNx);
     }
     if has_option(options, b"INCR") {
         read_increase(options, pairs, flags)
@@ -88,7 +91,15 @@ fn read_flags<A: Allocator>(options: &[Bytes<A>]) -> Flags
     Flags {
         nx: has_option(options, b"NX"),
         xx: has_option(options, b"XX"),
+        gt: has_option(options, b"GT"),
+        lt: has_option(options, b"LT"),
     }
+}
+
+fn has_two_of_gt_lt_nx(flags: Flags) -> bool
+    ensures { result ≡ has_two_of_gt_lt_nx flags }
+{
+    (flags.gt && flags.lt) || (flags.nx && (flags.gt || flags.lt))
 }
 
 // The options behind the key, and the arguments behind them.
@@ -116,6 +127,8 @@ fn is_add_option(word: &[u8]) -> bool
 {
     is_named(b"NX", word)
         || is_named(b"XX", word)
+        || is_named(b"GT", word)
+        || is_named(b"LT", word)
         || is_named(b"CH", word)
         || is_named(b"INCR", word)
 }

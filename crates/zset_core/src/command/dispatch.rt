@@ -8,7 +8,7 @@ ghost use Rattle.zset_core.specs.ParseResults.{IsReading};
 use crate::command::add::read_add;
 use crate::command::name::CommandName;
 use crate::command::parsed_form::Form;
-use crate::command::range::{read_count, read_list_range};
+use crate::command::range::{read_count, read_list_range, read_remove_range};
 use crate::refusal::Refusal;
 use resp_wire::Bytes;
 use std::alloc::Allocator;
@@ -60,6 +60,7 @@ fn read_named<A: Allocator + Copy>(
         CommandName::Ping => Ok(Form::Ping),
         CommandName::Add => read_add(alloc, words),
         CommandName::Remove => Ok(Form::Remove),
+        CommandName::RemoveRange => read_remove_range(words),
         CommandName::Score => Ok(Form::Score),
         CommandName::Card => Ok(Form::Card),
         CommandName::Count => read_count(words),

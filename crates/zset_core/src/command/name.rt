@@ -12,6 +12,8 @@ pub enum CommandName {
     Add,
     /// ZREM
     Remove,
+    /// ZREMRANGEBYSCORE
+    RemoveRange,
     /// ZSCORE
     Score,
     /// ZCARD
@@ -34,6 +36,8 @@ impl CommandName {
             Some(CommandName::Add)
         } else if is_named(b"ZREM", word) {
             Some(CommandName::Remove)
+        } else if is_named(b"ZREMRANGEBYSCORE", word) {
+            Some(CommandName::RemoveRange)
         } else if is_named(b"ZSCORE", word) {
             Some(CommandName::Score)
         } else if is_named(b"ZCARD", word) {
@@ -55,6 +59,7 @@ impl CommandName {
             CommandName::Ping => count == 1 || count == 2,
             CommandName::Add => 4 <= count,
             CommandName::Remove => 3 <= count,
+            CommandName::RemoveRange => count == 4,
             CommandName::Score => count == 3,
             CommandName::Card => count == 2,
             CommandName::Count => count == 4,

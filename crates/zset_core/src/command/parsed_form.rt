@@ -28,6 +28,10 @@ pub enum Form<A: Allocator> {
     },
     /// ZREM: the members stand from 2 on.
     Remove,
+    /// ZREMRANGEBYSCORE.
+    RemoveRange {
+        range: Range,
+    },
     /// ZSCORE: the member is at 2.
     Score,
     /// ZCARD.

@@ -1,4 +1,4 @@
-//! Reading the arguments of ZCOUNT and ZRANGEBYSCORE.
+//! Reading the arguments of the commands with ranges: ZREMRANGEBYSCORE, ZCOUNT and ZRANGEBYSCORE.
 
 ghost use Rattle.std.specs.Prelude.{◌≡◌, ◌≤◌, ◌||◌, length, is_none, option_map};
 ghost use Rattle.zset_core.specs.CommandGrammar.{asked_range, command_conditions, command_meaning, range_options};
@@ -21,6 +21,16 @@ pub struct RangeChoice {
     pub limit: Option<Limit>,
     /// An argument of some LIMIT is no integer.
     pub has_bad_limit: bool,
+}
+
+/// Reads ZREMRANGEBYSCORE.
+pub fn read_remove_range<A: Allocator>(words: &[Bytes<A>]) -> Result<Form<A>, Refusal>
+    requires { length words.now ≡ 4 }
+    ensures { IsReading words.now (command_conditions names.RemoveRange words.now)
+        (command_meaning names.RemoveRange words.now) result }
+{
+    let range = read_range(words).ok_or(Refusal::BadBound)?;
+    Ok(Form::RemoveRange { range })
 }
 
 /// Reads ZCOUNT.

@@ -28,6 +28,7 @@ impl<A: Allocator + Copy> Command<A> {
             Form::ListRange { .. } => Ok(Reply::List(BytesList::new(Vec::new(alloc)))),
             Form::Add { .. } => Ok(Reply::Int(0)),
             Form::Remove => Ok(Reply::Int(0)),
+            Form::RemoveRange { .. } => Ok(Reply::Int(0)),
             Form::Card => Ok(Reply::Int(0)),
             Form::Count { .. } => Ok(Reply::Int(0)),
         }

@@ -3,10 +3,11 @@ ghost use Rattle.std.specs.Prelude.{◌≡◌, None, Some, IfOk, IfErr, IfSome, 
 ghost use Rattle.resp_wire.specs.Response.{response_of};
 ghost use Rattle.zset_core.specs.CommandRequest.{is_writing};
 ghost use Rattle.zset_core.specs.ChangeOutline.{IsOutline};
-ghost use Rattle.zset_core.specs.OwnerEntries.{world_of, set_in, next_at, AllRest, OthersRest};
+ghost use Rattle.zset_core.specs.OwnerViewAndInvariant.{world_of, set_in, next_at, AllRest, OthersRest};
 ghost use Rattle.zset_core.specs.Refusal.{IsRefused};
-ghost use Rattle.zset_core.specs.SetAndOwnerViews.{IsPreparedAt};
-ghost use Rattle.zset_core.specs.World.{act_at, set_at, put_set};
+ghost use Rattle.zset_core.specs.ViewTypes.{IsPreparedAt};
+ghost use Rattle.zset_core.specs.World.{set_at, put_set};
+ghost use Rattle.zset_core.specs.Semantics.{act_at};
 
 use crate::command::Command;
 use crate::owner::tree::{SetTree, insert_set};

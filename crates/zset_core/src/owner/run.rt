@@ -2,10 +2,9 @@
 ghost use Rattle.std.specs.Prelude.{◌≡◌, None, Some, IfOk, IfErr, OnErr, IsSome};
 ghost use Rattle.resp_wire.specs.Response.{response_of};
 ghost use Rattle.zset_core.specs.CommandRequest.{key_of};
-ghost use Rattle.zset_core.specs.OwnerEntries.{world_of, set_in, AllRest};
+ghost use Rattle.zset_core.specs.OwnerViewAndInvariant.{world_of, set_in, AllRest};
 ghost use Rattle.zset_core.specs.Refusal.{IsRefused};
-ghost use Rattle.zset_core.specs.Semantics.{step};
-ghost use Rattle.zset_core.specs.World.{act_at};
+ghost use Rattle.zset_core.specs.Semantics.{step, act_at};
 
 use crate::command::Command;
 use crate::owner::tree::{SetTree, insert_set};

@@ -2,7 +2,7 @@
 
 ghost use Rattle.std.specs.Prelude.{◌≡◌, ◌∷◌, [], None, IfSome, MatchOption};
 ghost use Rattle.std.specs.FinMap as map;
-ghost use Rattle.zset_core.specs.OwnerEntries.{IsAfter, IsRising};
+ghost use Rattle.zset_core.specs.OwnerViewAndInvariant.{IsAfter, IsRising};
 ghost use Rattle.zset_core.specs.Taken.{IsFirst};
 
 use crate::owner::OneOwner;

@@ -1,15 +1,15 @@
 //! The tree of an owner's sets.
 ghost use Rattle.std.specs.Prelude.{◌≡◌, Some, OnOk, OnErr};
-ghost use Rattle.zset_core.specs.OwnerEntries.{IsAfter};
+ghost use Rattle.zset_core.specs.OwnerViewAndInvariant.{IsAfter};
 
-use crate::owner::kept_set::KeptSet;
+use crate::owner::boxed_set::BoxedSet;
 use crate::set::ZSet;
 use std::alloc::{AllocError, Allocator};
 use std::collections::BTreeMap;
 use std::hash::BuildHasher;
 
 /// Sets by key, in the byte order of their keys.
-pub type SetTree<H, A> = BTreeMap<Vec<u8, A>, KeptSet<H, A>, A>;
+pub type SetTree<H, A> = BTreeMap<Vec<u8, A>, BoxedSet<H, A>, A>;
 
 /// Puts a set in at a key.
 pub fn insert_set<H: BuildHasher + Drop, A: Allocator + Copy>(
@@ -22,7 +22,7 @@ pub fn insert_set<H: BuildHasher + Drop, A: Allocator + Copy>(
     ensures err { OnErr result (sets.new.entries ≡ sets.old.entries) }
 {
     let name = Vec::from_slice(alloc, key)?;
-    let kept = KeptSet::new(alloc, set)?;
+    let kept = BoxedSet::new(alloc, set)?;
     sets.insert(name, kept)?;
     Ok(())
 }

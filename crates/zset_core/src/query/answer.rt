@@ -4,21 +4,21 @@ ghost use Rattle.crack_kernel.specs.RowBag.{SameBag};
 ghost use Rattle.resp_wire.specs.Response.{Array, Integer, response_of};
 ghost use Rattle.ripple_column.specs.Content.{Holds, IsUnchanged, SameContent};
 ghost use Rattle.zset_core.specs.CommandRequest.{is_writing, key_of};
-ghost use Rattle.zset_core.specs.ColumnEffects.{NarrowsFor, Reads};
-ghost use Rattle.zset_core.specs.ReadyCommands.{IsReadyFor};
+ghost use Rattle.zset_core.specs.CommandEffectsOnColumn.{NarrowsFor, Reads};
+ghost use Rattle.zset_core.specs.ReadyForCommand.{IsReadyFor};
 ghost use Rattle.zset_core.specs.SortedSet.{Members, listing, pairs};
 ghost use Rattle.zset_core.specs.Semantics.{elements, apply_limit, step};
-ghost use Rattle.zset_core.specs.StagedEntries.{current_score, members_by, IsSettled, same_bytes};
+ghost use Rattle.zset_core.specs.MembersWithStagedScores.{current_score, members_by, IsSettled, same_bytes};
 
 use crate::command::Command;
 use crate::command::limit::Limit;
 use crate::command::parsed_form::Form;
 use crate::query::listing::elements_of;
 use crate::query::window::{
-    is_wide_window, narrow_window, piece_end, piece_start, ranks_of, shown_rows, window_of,
+    is_wide_window, least_rows, narrow_window, piece_end, piece_start, ranks_of, window_of,
 };
 use crate::score_and_count_replies::{count_reply, score_reply};
-use crate::set::member_map::{MemberMap, card_of, score_of};
+use crate::set::members_with_staged_scores::{MemberMap, card_of, score_of};
 use resp_wire::Reply;
 use ripple_column::Column;
 use std::alloc::{AllocError, Allocator};
@@ -158,7 +158,7 @@ fn list_rows<A: Allocator + Copy>(
     let pivots = column.piece_list();
     let low = piece_start(pivots, from, from + start);
     let high = piece_end(pivots, to, from + end);
-    let mut shown = shown_rows(alloc, column.rows(low, high))?;
+    let mut shown = least_rows(alloc, column.rows(low, high), from + end - low)?;
     let window = window_of(&mut shown, from + start - low, from + end - low);
     Ok(Reply::List(elements_of(alloc, window, with_scores)?))
 }

@@ -2,11 +2,11 @@
 ghost use Rattle.std.specs.Prelude.{◌≡◌, ◌++◌, ◌∷◌, [], OnOk, IfOk};
 ghost use Rattle.zset_core.specs.SortedSet.{whole};
 ghost use Rattle.zset_core.specs.Semantics.{elements};
-ghost use Rattle.zset_core.specs.StagedEntries.{current_score, members_by};
-ghost use Rattle.zset_core.specs.BorrowedPairs.{entry_pairs, pairs_of};
+ghost use Rattle.zset_core.specs.MembersWithStagedScores.{current_score, members_by};
+ghost use Rattle.zset_core.specs.BorrowedListingPairs.{entry_pairs, pairs_of};
 
 use crate::score_and_count_replies::score_bytes;
-use crate::set::member_map::MemberMap;
+use crate::set::members_with_staged_scores::MemberMap;
 use crack_kernel::Row;
 use resp_wire::{Bytes, BytesList};
 use std::alloc::{AllocError, Allocator};

@@ -2,17 +2,21 @@
 ghost use Rattle.std.specs.Prelude.{◌≡◌, ◌+◌, ◌≤◌, ℕ, ℤ, List, length, take, drop, slice_range, IfOk, OnErr, OnOk};
 ghost use Rattle.std.specs.List.Sorted.{IsNonDecreasingBy, IsSorted};
 ghost use Rattle.ripple_column.specs.Content.{IsUnchanged, SameContent};
-ghost use Rattle.zset_core.specs.ColumnEffects.{Narrows};
+ghost use Rattle.zset_core.specs.CommandEffectsOnColumn.{Narrows};
 ghost use Rattle.zset_core.specs.SortedSet.{Pair};
 ghost use Rattle.zset_core.specs.Semantics.{from_offset, at_most, apply_limit};
-ghost use Rattle.zset_core.specs.BorrowedPairs.{pairs_of, shown_cmp};
-ghost use Rattle.zset_core.specs.WindowPieces.{IsPart, IsPieceStart, IsPieceEnd};
+ghost use Rattle.zset_core.specs.BorrowedListingPairs.{pairs_of, shown_cmp};
+ghost use Rattle.zset_core.specs.WindowPieces.{HasLeast, IsPart, IsPieceStart, IsPieceEnd};
 
 use crate::command::limit::Limit;
+use crate::query::least_pairs::least_pairs;
 use crack_kernel::Row;
 use ripple_column::Column;
 use score_bounds::Range;
 use std::alloc::{AllocError, Allocator};
+
+/// A piece of more rows than these is long.
+const LONG_PIECE: usize = 128;
 
 /// How many of `len` pairs a number of LIMIT speaks of: all of them where it is negative.
 fn limit_number(number: i64, len: usize) -> usize
@@ -105,8 +109,26 @@ pub fn piece_end(pivots: &[(i64, usize)], to: usize, last: usize) -> usize
     to.min(pivots[count].1)
 }
 
+/// The scores and the members of the least rows of a piece where they stand, in no order: at least
+/// `count` of them. Of a long piece only `count` are held where that is an eighth of it at most.
+pub fn least_rows<'a, A: Allocator + Copy>(
+    alloc: A,
+    rows: &'a [Row<A>],
+    count: usize,
+) -> Result<Vec<(i64, &'a [u8]), A>, AllocError>
+    requires { count ≤ length rows.now }
+    ensures least { IfOk result (λ shown. HasLeast rows.now (length shown.items)
+        (pairs_of shown.items)) }
+    ensures enough { IfOk result (λ shown. count ≤ length shown.items) }
+{
+    if rows.len() > LONG_PIECE && count <= rows.len() / 8 {
+        return least_pairs(alloc, rows, count);
+    }
+    shown_rows(alloc, rows)
+}
+
 /// The scores and the members of rows, where they stand.
-pub fn shown_rows<'a, A: Allocator + Copy>(
+fn shown_rows<'a, A: Allocator + Copy>(
     alloc: A,
     rows: &'a [Row<A>],
 ) -> Result<Vec<(i64, &'a [u8]), A>, AllocError>

@@ -1,10 +1,10 @@
 //! What a command does to a set in numbers.
 ghost use Rattle.std.specs.Prelude.{◌≡◌, ◌≢◌, ◌≤◌, true, false, length, take};
-ghost use Rattle.zset_core.specs.StagedEntries.{current_score, staged_score, members_by, IsSettled, IsWaiting};
+ghost use Rattle.zset_core.specs.MembersWithStagedScores.{current_score, staged_score, members_by, IsSettled, IsWaiting};
 ghost use Rattle.zset_core.specs.ChangeOutline.{IsOutline};
 
 use crate::set::draft::Draft;
-use crate::set::member_map::MemberMap;
+use crate::set::members_with_staged_scores::MemberMap;
 use std::alloc::Allocator;
 use std::hash::BuildHasher;
 

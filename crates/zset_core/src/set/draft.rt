@@ -2,16 +2,16 @@
 //! their slots.
 ghost use Rattle.std.specs.Prelude.{◌≡◌, ℕ, ◌<◌, ◌≤◌, true, None, Some, [], length, slice_get, take, List, OnOk, IfOk};
 ghost use Rattle.std.specs.FinMap as map;
-ghost use Rattle.zset_core.specs.declared.set.member_map.ScoreSlot.{ScoreSlot as SlotType};
+ghost use Rattle.zset_core.specs.declared.set.members_with_staged_scores.ScoreSlot.{ScoreSlot as SlotType};
 ghost use Rattle.zset_core.specs.Semantics.{outcome_of, counted, put_one, put_all, count_all, increase_reply};
 ghost use Rattle.zset_core.specs.ParsedForm.{given_pairs};
 ghost use Rattle.zset_core.specs.RowEdits.{Notes};
-ghost use Rattle.zset_core.specs.StagedEntries.{current_score, staged_score, rows_by, members_by, slot_at, slots, IsSettled, IsWaiting, Grows};
+ghost use Rattle.zset_core.specs.MembersWithStagedScores.{current_score, staged_score, rows_by, members_by, slot_at, slots, IsSettled, IsWaiting, Grows};
 ghost use Rattle.resp_wire.specs.Response.{response_of};
 
 use crate::command::given_pairs::GivenPairs;
 use crate::score_and_count_replies::increase_reply;
-use crate::set::member_map::{MemberMap, ScoreSlot, discard_staged, find_slot};
+use crate::set::members_with_staged_scores::{MemberMap, ScoreSlot, discard_staged, find_slot};
 use crate::set::pair_outcome::{Flags, Outcome};
 use crate::set::row_edits::Edits;
 use resp_wire::Reply;

@@ -1,6 +1,6 @@
 //! What ZADD does with one score and its member.
 ghost use Rattle.std.specs.Prelude.{◌≡◌};
-ghost use Rattle.zset_core.specs.Semantics.{outcome_of, counted, is_barred, sum_of};
+ghost use Rattle.zset_core.specs.Semantics.{outcome_of, keeps_score, counted, is_barred, sum_of};
 
 /// The options of ZADD that stop pairs.
 #[derive(Clone, Copy, Debug, PartialEq, Eq)]
@@ -9,10 +9,15 @@ pub struct Flags {
     pub nx: bool,
     /// XX: no member is added.
     pub xx: bool,
+    /// GT: a member gets a greater score or stays as it is.
+    pub gt: bool,
+    /// LT: a member gets a lower score or stays as it is.
+    pub lt: bool,
 }
 
 impl Flags {
-    /// Whether a pair of ZADD with INCR is stopped, by the score that its member has.
+    /// Whether a pair of ZADD with INCR is stopped before the sum is formed, by the score that its
+    /// member has.
     pub fn bars(self, old: Option<i64>) -> bool
         ensures { result ≡ is_barred self old }
     {
@@ -20,6 +25,13 @@ impl Flags {
             None => self.xx,
             Some(_) => self.nx,
         }
+    }
+
+    // Whether GT or LT keeps a member's score from becoming another one.
+    fn keep(self, old: i64, new: i64) -> bool
+        ensures { result ≡ keeps_score self old new }
+    {
+        (self.gt && new <= old) || (self.lt && old <= new)
     }
 }
 
@@ -36,7 +48,7 @@ pub fn sum(old: Option<i64>, given: i64) -> Option<i64>
 /// What became of a pair of ZADD.
 #[derive(Clone, Copy, Debug, PartialEq, Eq)]
 pub enum Outcome {
-    /// NX or XX stopped it.
+    /// NX, XX, GT or LT stopped it.
     Stopped,
     /// The member was not there, and was added.
     Added,
@@ -60,7 +72,7 @@ impl Outcome {
                 }
             }
             Some(old) => {
-                if flags.nx {
+                if flags.nx || flags.keep(old, new) {
                     Outcome::Stopped
                 } else if old == new {
                     Outcome::Same

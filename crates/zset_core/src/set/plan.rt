@@ -1,17 +1,18 @@
 //! What is prepared in a set, and how the plan for it is made.
-ghost use Rattle.std.specs.Prelude.{◌≡◌, ◌+◌, ◌-◌, ◌<◌, ◌≤◌, true, max, length, take, pos, IfOk, IfErr, OnOk, OnErr, IsTrue};
+ghost use Rattle.std.specs.Prelude.{◌≡◌, ◌+◌, ◌-◌, ◌<◌, ◌≤◌, true, max, length, take, pos, IfOk, IfErr, IfSome, None, OnOk, OnErr, IsTrue};
 ghost use Rattle.std.specs.FinMap as map;
 ghost use Rattle.resp_wire.specs.Response.{Integer, response_of};
-ghost use Rattle.zset_core.specs.ColumnEffects.{edit_count, increase_edits};
+ghost use Rattle.zset_core.specs.CommandEffectsOnColumn.{Selects, changes_named, edit_count, increase_edits};
 ghost use Rattle.zset_core.specs.Semantics.{counted, outcome_of, put_one, put_all, count_all, remove_all, increase_reply, increase, step};
-ghost use Rattle.zset_core.specs.CommandRequest.{is_writing};
+ghost use Rattle.zset_core.specs.CommandRequest.{is_writing, range_to_remove};
 ghost use Rattle.zset_core.specs.ParsedForm.{given_pairs};
 ghost use Rattle.ripple_column.specs.Content.{Holds, IsUnchanged, SameContent, most_pending};
 ghost use Rattle.ripple_column.specs.Cuts.{values};
-ghost use Rattle.zset_core.specs.RowEdits.{HasAtMost, HasRoom, IsFew, Notes, TurnsInto, most_edits};
-ghost use Rattle.zset_core.specs.StagedEntries.{current_score, staged_score, rows_by, members_by, IsSettled, IsBack, IsWaiting, Grows};
+ghost use Rattle.zset_core.specs.RowEdits.{HasAtMost, HasRoom, IsFew, Notes, most_edits};
+ghost use Rattle.zset_core.specs.MembersWithStagedScores.{current_score, staged_score, rows_by, members_by, IsSettled, IsBack, IsWaiting, Grows};
 ghost use Rattle.zset_core.specs.SortedSet.{pairs};
-ghost use Rattle.zset_core.specs.Plan.{Prepares, Plans, left_by};
+ghost use Rattle.zset_core.specs.Plan.{Prepares, Plans};
+ghost use Rattle.zset_core.specs.SetViewAndInvariant.{IsReadyForPlan};
 ghost use Rattle.zset_core.specs.Refusal.{IsRefused};
 
 use crate::command::Command;
@@ -20,13 +21,15 @@ use crate::command::parsed_form::Form;
 use crate::refusal::Refusal;
 use crate::score_and_count_replies::count_reply;
 use crate::set::change_outline::{Outline, outline_staged};
+use crate::set::commit::discard;
 use crate::set::draft::Draft;
-use crate::set::member_map::{MemberMap, adopt_staged, score_of, take_out};
+use crate::set::members_with_staged_scores::{MemberMap, score_of};
 use crate::set::pair_outcome::{Flags, sum};
+use crate::set::range_removal::plan_range;
 use crate::set::removal_search::collect_removed;
-use crate::set::row_edits::make_edits;
 use resp_wire::{Bytes, Reply};
 use ripple_column::{Column, MAX_PENDING};
+use score_bounds::Range;
 use std::alloc::{AllocError, Allocator};
 use std::hash::BuildHasher;
 
@@ -36,6 +39,8 @@ pub struct Plan<A: Allocator + Copy> {
     pub draft: Draft<A>,
     /// The members that leave.
     pub removed: Vec<Vec<u8, A>, A>,
+    /// The range whose members leave, if it is one: the column's rows tell which these are.
+    pub range: Option<Range>,
     pub reply: Reply<A>,
     pub outline: Outline,
 }
@@ -57,6 +62,7 @@ pub fn plan_add<H: BuildHasher, A: Allocator + Copy>(
     ensures edits { IfOk result
         (λ plan. HasAtMost (count_all flags true (members_by current_score members.old.entries)
         (given_pairs pairs.now)) plan.draft.edits) }
+    ensures named { IfOk result (λ plan. plan.range ≡ None) }
     ensures err { OnErr result (IsBack members.old.entries members.new.entries) }
 {
     let mut draft = Draft::new(alloc, members.len());
@@ -66,6 +72,7 @@ pub fn plan_add<H: BuildHasher, A: Allocator + Copy>(
             Ok(Plan {
                 draft,
                 removed: Vec::new(alloc),
+                range: None,
                 reply: Reply::Int(count as i64),
                 outline,
             })
@@ -93,6 +100,7 @@ fn plan_score<H: BuildHasher, A: Allocator + Copy>(
     ensures edits { IfOk result
         (λ plan. HasAtMost (counted true (outcome_of flags
         (map.get (members_by current_score members.old.entries) member.now) score)) plan.draft.edits) }
+    ensures named { IfOk result (λ plan. plan.range ≡ None) }
     ensures err { OnErr result (IsBack members.old.entries members.new.entries) }
 {
     let mut draft = Draft::new(alloc, members.len());
@@ -102,6 +110,7 @@ fn plan_score<H: BuildHasher, A: Allocator + Copy>(
             Ok(Plan {
                 draft,
                 removed: Vec::new(alloc),
+                range: None,
                 reply,
                 outline,
             })
@@ -123,10 +132,12 @@ fn plan_nothing<H: BuildHasher, A: Allocator + Copy>(
     ensures plan { Prepares members.now.entries members.now.entries result
         (members_by current_score members.now.entries) (response_of reply) }
     ensures edits { HasAtMost 0 result.draft.edits }
+    ensures named { result.range ≡ None }
 {
     Plan {
         draft: Draft::new(alloc, members.len()),
         removed: Vec::new(alloc),
+        range: None,
         reply,
         outline: Outline {
             added: 0,
@@ -150,6 +161,7 @@ pub fn plan_increase<H: BuildHasher, A: Allocator + Copy>(
     ensures edits { IfOk result
         (λ plan. HasAtMost (increase_edits flags (members_by current_score members.old.entries) member.now
         given) plan.draft.edits) }
+    ensures named { IfOk result (λ plan. plan.range ≡ None) }
     ensures err { OnErr result (IsBack members.old.entries members.new.entries) }
     ensures refused { IfErr result
         (λ refusal. IsRefused refusal
@@ -179,6 +191,7 @@ pub fn plan_remove<H: BuildHasher, A: Allocator + Copy>(
         - map.len (remove_all (members_by current_score members.now.entries) names.now))))) }
     ensures edits { IfOk result (λ plan. HasAtMost (map.len (members_by current_score members.now.entries)
         - map.len (remove_all (members_by current_score members.now.entries) names.now)) plan.draft.edits) }
+    ensures named { IfOk result (λ plan. plan.range ≡ None) }
 {
     let mut draft = Draft::new(alloc, members.len());
     let removed = collect_removed(alloc, members, &mut draft.edits, names)?;
@@ -186,6 +199,7 @@ pub fn plan_remove<H: BuildHasher, A: Allocator + Copy>(
     Ok(Plan {
         draft,
         removed,
+        range: None,
         reply: count_reply(count),
         outline: Outline {
             added: 0,
@@ -195,19 +209,20 @@ pub fn plan_remove<H: BuildHasher, A: Allocator + Copy>(
     })
 }
 
-/// The plan of a command that changes sets. Where it is refused the entries are what they were.
+/// The plan of ZADD or ZREM. Where it is refused the entries are what they were.
 fn plan_for<H: BuildHasher, A: Allocator + Copy>(
     alloc: A,
     members: &mut MemberMap<H, A>,
     command: &Command<A>,
 ) -> Result<Plan<A>, Refusal>
     requires settled { IsSettled members.old.entries }
-    requires writing { IsTrue (is_writing command.now.meaning) }
+    requires named { IsTrue (changes_named command.now.meaning) }
     ensures ok { IfOk result (λ plan. Plans members.old.entries members.new.entries plan
         (step (members_by current_score members.old.entries) command.now.meaning)) }
     ensures edits { IfOk result
         (λ plan. HasAtMost (edit_count (members_by current_score members.old.entries) command.now.meaning)
         plan.draft.edits) }
+    ensures named { IfOk result (λ plan. plan.range ≡ None) }
     ensures err { OnErr result (IsBack members.old.entries members.new.entries) }
     ensures refused { IfErr result
         (λ refusal. IsRefused refusal
@@ -266,19 +281,20 @@ fn make_room<H: BuildHasher, A: Allocator + Copy>(
     }
 }
 
-/// The plan of a command that changes sets, with room in the column for its edits. Where it is
-/// refused the entries are what they were, and the column holds what it held.
-pub fn make_plan<H: BuildHasher, A: Allocator + Copy>(
+/// The plan of ZADD or ZREM, with room in the column for its edits. Where it is refused the entries
+/// are what they were, and the column holds what it held.
+fn plan_named<H: BuildHasher, A: Allocator + Copy>(
     alloc: A,
     members: &mut MemberMap<H, A>,
     column: &mut Column<A>,
     command: &Command<A>,
 ) -> Result<Plan<A>, Refusal>
     requires settled { IsSettled members.old.entries }
-    requires writing { IsTrue (is_writing command.now.meaning) }
+    requires named { IsTrue (changes_named command.now.meaning) }
     ensures ok { IfOk result (λ plan. Plans members.old.entries members.new.entries plan
         (step (members_by current_score members.old.entries) command.now.meaning)) }
     ensures room { IfOk result (λ plan. HasRoom column.new plan.draft.edits) }
+    ensures named { IfOk result (λ plan. plan.range ≡ None) }
     ensures content { SameContent column.old column.new }
     ensures values { values column.new.pivots ≡ values column.old.pivots }
     ensures still { most_pending column.old
@@ -293,35 +309,38 @@ pub fn make_plan<H: BuildHasher, A: Allocator + Copy>(
     Ok(make_room(members, column, plan)?)
 }
 
-/// A plan is discarded: the entries become what they were before it. It takes no memory.
-pub fn discard<H: BuildHasher, A: Allocator + Copy>(members: &mut MemberMap<H, A>, plan: Plan<A>)
-    requires { IsWaiting plan.draft.touched.items members.old.entries }
-    ensures current { rows_by current_score members.new.entries
-        ≡ take plan.draft.kept (rows_by current_score members.old.entries) }
-    ensures settled { IsSettled members.new.entries }
-{
-    plan.draft.roll_back(members);
-}
-
-/// What the plan says is done to the entries and to the column. It takes no memory.
-pub fn apply_plan<H: BuildHasher, A: Allocator + Copy>(
+/// The plan of a command that changes sets, and the column made ready for it. Where it is refused the
+/// entries are what they were, and the column holds what it held.
+pub fn make_plan<H: BuildHasher, A: Allocator + Copy>(
+    alloc: A,
     members: &mut MemberMap<H, A>,
     column: &mut Column<A>,
-    plan: Plan<A>,
-) -> Reply<A>
-    requires waiting { IsWaiting plan.draft.touched.items members.old.entries }
-    requires room { HasRoom column.old plan.draft.edits }
-    requires turns { TurnsInto column.old (left_by members.old.entries plan) plan.draft.edits }
-    ensures members { members_by current_score members.new.entries ≡ left_by members.old.entries plan }
-    ensures settled { IsSettled members.new.entries }
-    ensures content { Holds column.new (pairs (left_by members.old.entries plan)) }
-    ensures rows { column.new.rows ≡ column.old.rows }
-    ensures pivots { column.new.pivots ≡ column.old.pivots }
-    ensures reply { result ≡ plan.reply }
+    command: &Command<A>,
+) -> Result<Plan<A>, Refusal>
+    requires settled { IsSettled members.old.entries }
+    requires writing { IsTrue (is_writing command.now.meaning) }
+    requires content { Holds column.old (pairs (members_by current_score members.old.entries)) }
+    ensures ok { IfOk result (λ plan. Plans members.old.entries members.new.entries plan
+        (step (members_by current_score members.old.entries) command.now.meaning)) }
+    ensures ready { IfOk result (λ plan. IsReadyForPlan column.new plan) }
+    ensures range { IfOk result (λ plan. plan.range ≡ range_to_remove command.now.meaning) }
+    ensures content { SameContent column.old column.new }
+    ensures values { changes_named command.now.meaning ≡ true
+        → values column.new.pivots ≡ values column.old.pivots }
+    ensures still { changes_named command.now.meaning ≡ true → most_pending column.old
+        + edit_count (members_by current_score members.old.entries) command.now.meaning ≤ MAX_PENDING
+        → IsUnchanged column.old column.new }
+    ensures selected { OnOk result (IfSome (range_to_remove command.now.meaning)
+        (λ range. Selects range column.old column.new)) }
+    ensures unselected { OnErr result (IfSome (range_to_remove command.now.meaning)
+        (λ range. IsUnchanged column.old column.new)) }
+    ensures err { OnErr result (IsBack members.old.entries members.new.entries) }
+    ensures refused { IfErr result
+        (λ refusal. IsRefused refusal
+        (step (members_by current_score members.old.entries) command.now.meaning)) }
 {
-    let draft = plan.draft;
-    adopt_staged(members, draft.touched.as_slice());
-    take_out(members, plan.removed.as_slice());
-    make_edits(column, draft.edits);
-    plan.reply
+    match command.form() {
+        Form::RemoveRange { range } => Ok(plan_range(alloc, members, column, range)?),
+        _ => plan_named(alloc, members, column, command),
+    }
 }

@@ -2,11 +2,11 @@
 ghost use Rattle.std.specs.Prelude.{◌≡◌, ◌+◌, length, IfOk, OnOk};
 ghost use Rattle.std.specs.FinMap as map;
 ghost use Rattle.zset_core.specs.Semantics.{remove_all};
-ghost use Rattle.zset_core.specs.StagedEntries.{current_score, members_by, bytes_of};
+ghost use Rattle.zset_core.specs.MembersWithStagedScores.{current_score, members_by, bytes_of};
 ghost use Rattle.zset_core.specs.RowEdits.{Notes};
 ghost use Rattle.zset_core.specs.RemovalSearch.{AreFound};
 
-use crate::set::member_map::{MemberMap, find_slot};
+use crate::set::members_with_staged_scores::{MemberMap, find_slot};
 use crate::set::row_edits::Edits;
 use resp_wire::Bytes;
 use std::alloc::{AllocError, Allocator};

@@ -1,4 +1,4 @@
-use Rattle.std.proofs.Common.{◌≡◌, ◌∷◌, ◌∙◌, true, ℤ, ℕ, List, IsPermutation, vec_capacity, ap, sym, arith}
+use Rattle.std.proofs.Common.{◌≡◌, ◌∙◌, true, vec_capacity, ap, arith}
 use Rattle.std.proofs.lemmas.List.Sorted.{length_permutation}
 use Rattle.crack_kernel.specs.PivotList.{PivotList}
 use Rattle.ripple_column.specs.ShownPivots.{IsAmong}

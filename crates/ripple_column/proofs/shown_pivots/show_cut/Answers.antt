@@ -1,6 +1,6 @@
-use Rattle.std.proofs.Common.{◌≡◌, ◌∷◌, ℤ, List, Contains, refl, length, subst, ap, arith}
+use Rattle.std.proofs.Common.{◌≡◌, ℤ, Contains, length, subst, ap, arith}
 use Rattle.std.proofs.lemmas.Int.{ints}
-use Rattle.std.proofs.lemmas.List.Sorted.{Contains-permutation, IsPermutation-refl}
+use Rattle.std.proofs.lemmas.List.Sorted.{IsPermutation-refl}
 use Rattle.crack_kernel.specs.PivotList.{IsNewValue}
 use Rattle.ripple_column.specs.Cuts.{new_values, values}
 use Rattle.ripple_column.proofs.InnerPivots.{HasCut-added, HasCut-at, among_added, value_among}

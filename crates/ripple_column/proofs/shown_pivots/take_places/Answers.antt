@@ -1,8 +1,7 @@
-use Rattle.std.proofs.Common.{◌≡◌, ◌<◌, ℕ, ℤ, pos, List, get_or, ap, sym, ◌∙◌, subst, Contains, arith}
+use Rattle.std.proofs.Common.{◌≡◌, ℕ, ℤ, pos, List, get_or, ap, ◌∙◌, subst, Contains, arith}
 use Rattle.std.proofs.lemmas.Int.{ints}
-use Rattle.std.proofs.lemmas.List.{get_or_default}
 use Rattle.ripple_column.proofs.Gaps.{length-values, values-set}
-use Rattle.ripple_column.proofs.InnerPivots.{among_more, value_among}
+use Rattle.ripple_column.proofs.InnerPivots.{among_more}
 use Rattle.ripple_column.proofs.shown_pivots.take_places.Goals as goal
 
 pub loop-i-preserved : goal.loop-i-preserved

@@ -1,5 +1,5 @@
 use Rattle.std.proofs.Common.{◌∙◌, sym, ap, Some, w64, SFits, rules, to_z-of_z, option_map}
-use Rattle.zset_core.specs.StagedEntries.{current_score}
+use Rattle.zset_core.specs.MembersWithStagedScores.{current_score}
 use Rattle.zset_core.proofs.Places.{slot_nowhere, slot_early, slot_late}
 use Rattle.zset_core.proofs.set.score_before.Goals as goal
 

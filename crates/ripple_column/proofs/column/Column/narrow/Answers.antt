@@ -3,7 +3,7 @@ use Rattle.std.proofs.lemmas.List.Sorted.{All-permutation, IsPermutation-trans, 
 use Rattle.score_bounds.specs.Scores.{greatest}
 use Rattle.ripple_column.specs.RangeAnswer.{IsAnswer}
 use Rattle.ripple_column.specs.Content.{ColumnState}
-use Rattle.ripple_column.specs.ColumnInvariant.{state}
+use Rattle.ripple_column.specs.ColumnViewAndInvariant.{state}
 use Rattle.ripple_column.specs.InnerCrackEffects.{shown}
 use Rattle.ripple_column.proofs.Selection.{CutsPart, HoldsRange-answer}
 use Rattle.ripple_column.proofs.Counts.{count_moved}

@@ -1,6 +1,6 @@
 use Rattle.std.proofs.Common.{arith}
 use Rattle.ripple_column.specs.Content.{ColumnState}
-use Rattle.ripple_column.specs.ColumnInvariant.{state}
+use Rattle.ripple_column.specs.ColumnViewAndInvariant.{state}
 use Rattle.ripple_column.proofs.Counts.{length-sub_bag}
 use Rattle.ripple_column.specs.InnerCrackEffects.{shown}
 use Rattle.ripple_column.proofs.InnerPivots.{among_found}

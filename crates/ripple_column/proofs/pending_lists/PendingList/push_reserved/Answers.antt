@@ -1,6 +1,6 @@
 use Rattle.std.proofs.Common.{◌≡◌, true, ap, sym, ◌∙◌}
 use Rattle.ripple_column.specs.RowHash.{hash_of}
-use Rattle.ripple_column.specs.PendingFilter.{is_marked}
+use Rattle.ripple_column.specs.PendingBloom.{is_marked}
 use Rattle.ripple_column.proofs.Marking.{covers_more, covers_pushed}
 use Rattle.ripple_column.proofs.pending_lists.PendingList.push_reserved.Goals as goal
 

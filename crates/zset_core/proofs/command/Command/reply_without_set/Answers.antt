@@ -17,6 +17,9 @@ returns-in-Add g c = empty_step_of c.args.self.now.meaning _ (c.form.ensures.mea
 pub returns-in-Remove : goal.returns-in-Remove
 returns-in-Remove g c = empty_step_of c.args.self.now.meaning _ (c.form.ensures.meaning ∙ ap (meaning_of c.args.self.now.words) c.in-Remove.is) refl c.requires
 
+pub returns-in-RemoveRange : goal.returns-in-RemoveRange
+returns-in-RemoveRange g c = empty_step_of c.args.self.now.meaning _ (c.form.ensures.meaning ∙ ap (meaning_of c.args.self.now.words) c.in-RemoveRange.is) refl c.requires
+
 pub returns-in-Card : goal.returns-in-Card
 returns-in-Card g c = empty_step_of c.args.self.now.meaning _ (c.form.ensures.meaning ∙ ap (meaning_of c.args.self.now.words) c.in-Card.is) refl c.requires
 

@@ -1,5 +1,5 @@
 use Rattle.std.proofs.Common.{◌∙◌, sym, subst, Some, None, IsSome, refl}
-use Rattle.zset_core.specs.OwnerEntries.{world_of}
+use Rattle.zset_core.specs.OwnerViewAndInvariant.{world_of}
 use Rattle.zset_core.proofs.Worlds.{updates_key, world_put, world_emptied, rest_emptied, rest_changed, made_at}
 use Rattle.zset_core.proofs.owner.prepare_and_commit.commit_at.Goals as goal
 

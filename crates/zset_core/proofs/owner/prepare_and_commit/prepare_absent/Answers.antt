@@ -1,6 +1,6 @@
 use Rattle.std.proofs.Common.{◌∙◌, sym}
 use Rattle.std.proofs.lemmas.Result.{err_from_is_err_and}
-use Rattle.zset_core.specs.OwnerEntries.{world_of}
+use Rattle.zset_core.specs.OwnerViewAndInvariant.{world_of}
 use Rattle.zset_core.proofs.Worlds.{refused_at, set_at_none, world_made, set_after, ready_at, outline_at}
 use Rattle.zset_core.proofs.owner.prepare_and_commit.prepare_absent.Goals as goal
 

@@ -1,6 +1,6 @@
 use Rattle.std.proofs.Common.{◌∙◌, sym}
 use Rattle.std.proofs.lemmas.Result.{err_from_is_err_and}
-use Rattle.zset_core.specs.OwnerEntries.{world_of}
+use Rattle.zset_core.specs.OwnerViewAndInvariant.{world_of}
 use Rattle.resp_wire.specs.Response.{response_of}
 use Rattle.zset_core.proofs.Worlds.{act_of_step, refused_at, set_at_none, none_at, put_empty, world_put, others_of, rest_changed}
 use Rattle.zset_core.proofs.owner.run.run_absent.Goals as goal

@@ -1,5 +1,5 @@
 use Rattle.std.proofs.Common.{subst, Some}
-use Rattle.zset_core.specs.OwnerEntries.{IsAfter}
+use Rattle.zset_core.specs.OwnerViewAndInvariant.{IsAfter}
 use Rattle.zset_core.proofs.Worlds.{updates_key}
 use Rattle.zset_core.proofs.owner.tree.insert_set.Goals as goal
 

@@ -1,6 +1,7 @@
-use Rattle.std.proofs.Common.{refl, List, ◌+◌, ◌-◌, ap, subst, ◌∙◌}
-use Rattle.zset_core.specs.BorrowedPairs.{Shown, pairs_of}
-use Rattle.zset_core.specs.WindowPieces.{IsPart}
+use Rattle.std.proofs.Common.{refl, length, List, ◌+◌, ◌-◌, ap, subst, ◌∙◌}
+use Rattle.zset_core.specs.BorrowedListingPairs.{Shown, pairs_of}
+use Rattle.zset_core.specs.SortedSet.{Pair}
+use Rattle.zset_core.specs.WindowPieces.{HasLeast, IsPart}
 use Rattle.resp_wire.specs.Response.{Array}
 use Rattle.zset_core.specs.Semantics.{elements}
 use Rattle.zset_core.proofs.Windows.{limited_window, limited_nothing, places_rise}
@@ -28,5 +29,5 @@ returns g c test members bag =
     (limited_window test members c.args.limit.now pivots.result.now pivots.result.now c.args.column.now.rows c.in_ok-shown.shown.items c.window_of-window.result.now
     c.args.rows.0 c.args.rows.1 ranks.result.0 ranks.result.1 c.piece_start-low.result c.piece_end-high.result bag pivots.ensures.law refl
     c.requires.order c.requires.within ranks.ensures.order ranks.ensures.within ranks.ensures.ranks c.piece_start-low.ensures c.piece_end-high.ensures
-    (c.in_ok-shown.ensures ∙ c.rows.ensures) (subst (λ (shown : List Shown). IsPart (pairs_of shown) (c.args.rows.0 + ranks.result.0 - c.piece_start-low.result) (c.args.rows.0 + ranks.result.1 - c.piece_start-low.result) (pairs_of c.window_of-window.result.now))
+    (subst (λ (ps : List Pair). HasLeast ps (length c.in_ok-shown.shown.items) (pairs_of c.in_ok-shown.shown.items)) c.rows.ensures c.in_ok-shown.ensures.least) (subst (λ (shown : List Shown). IsPart (pairs_of shown) (c.args.rows.0 + ranks.result.0 - c.piece_start-low.result) (c.args.rows.0 + ranks.result.1 - c.piece_start-low.result) (pairs_of c.window_of-window.result.now))
     c.deref_mut.ensures.value c.window_of-window.ensures.part) c.window_of-window.ensures.sorted))

@@ -1,5 +1,5 @@
 use Rattle.std.proofs.Common.{◌≡◌, ◌++◌, drop}
-use Rattle.zset_core.specs.BorrowedPairs.{entry_pairs, pairs_of}
+use Rattle.zset_core.specs.BorrowedListingPairs.{entry_pairs, pairs_of}
 use Rattle.zset_core.proofs.query.listing.pairs_in.Given as goal
 
 abbrev pub invariant-loop-place : goal.invariant-loop-place

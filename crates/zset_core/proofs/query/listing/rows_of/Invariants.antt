@@ -1,5 +1,5 @@
 use Rattle.std.proofs.Common.{◌≡◌, ◌++◌, drop}
-use Rattle.zset_core.specs.BorrowedPairs.{pairs_of}
+use Rattle.zset_core.specs.BorrowedListingPairs.{pairs_of}
 use Rattle.zset_core.proofs.query.listing.rows_of.Given as goal
 
 abbrev pub invariant-loop-score : goal.invariant-loop-score

@@ -1,5 +1,5 @@
 use Rattle.std.proofs.Common.{◌≡◌, take}
-use Rattle.zset_core.specs.BorrowedPairs.{pairs_of}
+use Rattle.zset_core.specs.BorrowedListingPairs.{pairs_of}
 use Rattle.zset_core.proofs.query.window.shown_rows.Given as goal
 
 abbrev pub invariant-loop-row : goal.invariant-loop-row

@@ -1,7 +1,7 @@
 use Rattle.std.proofs.Common.{length, arith}
 use Rattle.std.proofs.lemmas.List.{length-map}
 use Rattle.std.proofs.lemmas.List.Sorted.{IsPermutation-map}
-use Rattle.zset_core.specs.BorrowedPairs.{pair_of, pairs_of}
+use Rattle.zset_core.specs.BorrowedListingPairs.{pair_of, pairs_of}
 use Rattle.zset_core.proofs.Ranks.{IsPart-inner, IsPart-moved}
 use Rattle.zset_core.proofs.query.window.window_of.Goals as goal
 

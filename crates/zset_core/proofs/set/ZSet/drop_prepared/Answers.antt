@@ -7,4 +7,4 @@ invariant_of-self g c =
     let column = c.self.inside.column in
     let plan = c.in-Some.prepared.plan in
     IsSound-none c.discard.new.members.entries column c.take.new.self c.in-Some.ensures.after
-    (IsIdle-discard es c.discard.new.members.entries column plan (IsPlanned-of es column c.self.inside.prepared c.in-Some.prepared c.in-Some.ensures.value c.self.invariant) c.discard.ensures.current c.discard.ensures.settled)
+    (IsIdle-discard es c.discard.new.members.entries column c.in-Some.prepared.asked.value.meaning plan (IsPlanned-of es column c.self.inside.prepared c.in-Some.prepared c.in-Some.ensures.value c.self.invariant) c.discard.ensures.current c.discard.ensures.settled)

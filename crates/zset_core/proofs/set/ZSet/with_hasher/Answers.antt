@@ -1,5 +1,5 @@
 use Rattle.std.proofs.Common.{rules}
-use Rattle.zset_core.specs.StagedEntries.{IsSettled}
+use Rattle.zset_core.specs.MembersWithStagedScores.{IsSettled}
 use Rattle.zset_core.proofs.Planning.{IsIdle-empty}
 use Rattle.zset_core.proofs.set.ZSet.with_hasher.Goals as goal
 

@@ -1,8 +1,8 @@
 use Rattle.std.proofs.Common.{◌∙◌, sym, ap, subst, refl, Some, ℤ, w64, to_z, of_z, to_z-of_z}
 use Rattle.std.specs.FinMap as map
 use Rattle.indexmap.proofs.CallerLemmas.{insert_entry-new}
-use Rattle.zset_core.specs.StagedEntries.{staged_score, members_by, slot_at, same_bytes, Grows, IsWaiting}
-use Rattle.zset_core.specs.declared.set.member_map.ScoreSlot.{ScoreSlot}
+use Rattle.zset_core.specs.MembersWithStagedScores.{staged_score, members_by, slot_at, same_bytes, Grows, IsWaiting}
+use Rattle.zset_core.specs.declared.set.members_with_staged_scores.ScoreSlot.{ScoreSlot}
 use Rattle.zset_core.proofs.Bridge.{updates_bytes, one_put}
 use Rattle.zset_core.proofs.Staging.{Grows-push, IsWaiting-push}
 use Rattle.zset_core.proofs.set.draft.put_new.Goals as goal

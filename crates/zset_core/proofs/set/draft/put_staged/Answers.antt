@@ -1,8 +1,8 @@
 use Rattle.std.proofs.Common.{◌∙◌, sym, ap, subst, rules, List, ℕ, ℤ, SFits, w64, to_z, of_z, to_z-of_z}
 use Rattle.std.specs.FinMap as map
 use Rattle.indexmap.specs.IndexMap.{set_value_at}
-use Rattle.zset_core.specs.StagedEntries.{staged_score, current_score, members_by, IsWaiting}
-use Rattle.zset_core.specs.declared.set.member_map.ScoreSlot.{ScoreSlot}
+use Rattle.zset_core.specs.MembersWithStagedScores.{staged_score, current_score, members_by, IsWaiting}
+use Rattle.zset_core.specs.declared.set.members_with_staged_scores.ScoreSlot.{ScoreSlot}
 use Rattle.zset_core.proofs.Staging.{members_written, Grows-written, IsWaiting-written, score_at_place}
 use Rattle.zset_core.proofs.set.draft.put_staged.Goals as goal
 

@@ -4,10 +4,10 @@ use Rattle.resp_wire.specs.Response.{Integer}
 use Rattle.zset_core.specs.ParsedForm.{scored}
 use Rattle.zset_core.specs.SortedSet.{Members}
 use Rattle.zset_core.specs.Semantics.{put_all, count_all, remove_all}
-use Rattle.zset_core.specs.StagedEntries.{current_score, staged_score, members_by, bytes_of}
+use Rattle.zset_core.specs.MembersWithStagedScores.{current_score, staged_score, members_by, bytes_of}
 use Rattle.zset_core.proofs.Outlines.{outline_same, before, before_grown}
 use Rattle.zset_core.proofs.Staging.{members_same}
-use Rattle.zset_core.proofs.Bags.{HasAtMost-noted, Turns-between, IsFew-noted}
+use Rattle.zset_core.proofs.Bags.{HasAtMost-noted, Turns-between, Turns-to, IsFew-noted}
 use Rattle.zset_core.proofs.PairSteps.{count_all-few, length_scored}
 use Rattle.zset_core.proofs.set.plan.plan_add.Goals as goal
 
@@ -19,13 +19,14 @@ returns-in-Ok-clause-ok g c =
     let small : c.in-Ok.count < 9223372036854775808 = search rules in
     let left = c.in-Ok.ensures.staged ∙ ap (λ (m : Members). put_all c.args.flags m ps) same in
     let new = c.stage_all.new.members.entries in
+    let is = ap (λ gone. remove_all (members_by staged_score new) (bytes_of gone)) c.new.ensures.items ∙ left in
     record {
       kept = c.stage_all.ensures.kept ∙ c.new-draft.ensures.kept ∙ c.len.ensures.len;
       grows = c.stage_all.ensures.grows;
       waiting = c.stage_all.ensures.waiting;
-      members_are = ap (λ gone. remove_all (members_by staged_score c.stage_all.new.members.entries) (bytes_of gone)) c.new.ensures.items
-          ∙ left;
-      edits_are = Turns-between (count_all c.args.flags true (members_by staged_score old) ps) (members_by staged_score old) (members_by current_score old) (members_by staged_score new) (put_all c.args.flags (members_by current_score old) ps) c.new-draft.result.edits c.stage_all.new.self.edits same left c.new-draft.ensures.coming c.new-draft.ensures.leaving c.in-Ok.ensures.edits;
+      members_are = is;
+      edits_are = Turns-to (members_by current_score old) (put_all c.args.flags (members_by current_score old) ps) (remove_all (members_by staged_score new) (bytes_of c.new.result.items)) c.stage_all.new.self.edits is
+          (Turns-between (count_all c.args.flags true (members_by staged_score old) ps) (members_by staged_score old) (members_by current_score old) (members_by staged_score new) (put_all c.args.flags (members_by current_score old) ps) c.new-draft.result.edits c.stage_all.new.self.edits same left c.new-draft.ensures.coming c.new-draft.ensures.leaving c.in-Ok.ensures.edits);
       few_edits = IsFew-noted (count_all c.args.flags true (members_by staged_score old) ps) (members_by staged_score old) (members_by staged_score new) c.new-draft.result.edits c.stage_all.new.self.edits c.new-draft.ensures.coming c.new-draft.ensures.leaving (omega (arith, c.requires.few, count_all-few c.args.flags true (members_by staged_score old) ps, length_scored c.args.pairs.now.scores.now c.args.pairs.now.arguments.now)) c.in-Ok.ensures.edits;
       outline_is = outline_same c.outline_staged-outline.result (before new c.stage_all.new.self.kept) (members_by current_score old) (members_by staged_score new) (put_all c.args.flags (members_by current_score old) ps)
           (before_grown old new c.stage_all.new.self.kept (c.stage_all.ensures.kept ∙ c.new-draft.ensures.kept ∙ c.len.ensures.len) c.stage_all.ensures.grows) left c.outline_staged-outline.ensures;

@@ -1,10 +1,10 @@
 use Rattle.std.proofs.Common.{◌≡◌, ◌∙◌, ◌-◌, ℕ, List, arith, ap, drop, length, length-drop, rules, subst, sym, take}
 use Rattle.std.specs.FinMap as map
 use Rattle.std.proofs.lemmas.List.{take_all}
-use Rattle.zset_core.specs.ColumnEffects.{edit_count}
+use Rattle.zset_core.specs.CommandEffectsOnColumn.{edit_count}
 use Rattle.zset_core.specs.RowEdits.{HasAtMost}
 use Rattle.zset_core.specs.ParsedForm.{meaning_of}
-use Rattle.zset_core.specs.StagedEntries.{current_score, members_by}
+use Rattle.zset_core.specs.MembersWithStagedScores.{current_score, members_by}
 use Rattle.zset_core.specs.CommandRequest.{Meaning}
 use Rattle.zset_core.specs.SortedSet.{Members}
 use Rattle.zset_core.specs.Semantics.{remove_all}

@@ -3,10 +3,10 @@ use Rattle.std.specs.FinMap as map
 use Rattle.zset_core.specs.SortedSet.{Members}
 use Rattle.zset_core.specs.RowEdits.{HasAtMost}
 use Rattle.zset_core.specs.Semantics.{counted, put_one, remove_all, increase_reply, outcome_of}
-use Rattle.zset_core.specs.StagedEntries.{current_score, staged_score, members_by, bytes_of}
+use Rattle.zset_core.specs.MembersWithStagedScores.{current_score, staged_score, members_by, bytes_of}
 use Rattle.zset_core.proofs.Outlines.{outline_same, before, before_grown}
 use Rattle.zset_core.proofs.Staging.{members_same}
-use Rattle.zset_core.proofs.Bags.{HasAtMost-noted, Turns-between, IsFew-noted}
+use Rattle.zset_core.proofs.Bags.{HasAtMost-noted, Turns-between, Turns-to, IsFew-noted}
 use Rattle.zset_core.proofs.PairSteps.{counted_one}
 use Rattle.zset_core.proofs.set.plan.plan_score.Goals as goal
 
@@ -19,13 +19,14 @@ returns-in-Ok-clause-ok g c =
     ∙ ap (put_one c.args.flags (members_by current_score old) c.args.member.now) (to_z-of_z c.ranges.score) in
     let new = c.stage_increase.new.members.entries in
     let written = counted true (outcome_of c.args.flags (map.get (members_by staged_score old) c.args.member.now) z) in
+    let is = ap (λ gone. remove_all (members_by staged_score new) (bytes_of gone)) c.new.ensures.items ∙ left in
     record {
       kept = c.stage_increase.ensures.kept ∙ c.new-draft.ensures.kept ∙ c.len.ensures.len;
       grows = c.stage_increase.ensures.grows;
       waiting = c.stage_increase.ensures.waiting;
-      members_are = ap (λ gone. remove_all (members_by staged_score c.stage_increase.new.members.entries) (bytes_of gone)) c.new.ensures.items
-          ∙ left;
-      edits_are = Turns-between written (members_by staged_score old) (members_by current_score old) (members_by staged_score new) (put_one c.args.flags (members_by current_score old) c.args.member.now c.args.score) c.new-draft.result.edits c.stage_increase.new.self.edits same left c.new-draft.ensures.coming c.new-draft.ensures.leaving c.in-Ok.ensures.edits;
+      members_are = is;
+      edits_are = Turns-to (members_by current_score old) (put_one c.args.flags (members_by current_score old) c.args.member.now c.args.score) (remove_all (members_by staged_score new) (bytes_of c.new.result.items)) c.stage_increase.new.self.edits is
+          (Turns-between written (members_by staged_score old) (members_by current_score old) (members_by staged_score new) (put_one c.args.flags (members_by current_score old) c.args.member.now c.args.score) c.new-draft.result.edits c.stage_increase.new.self.edits same left c.new-draft.ensures.coming c.new-draft.ensures.leaving c.in-Ok.ensures.edits);
       few_edits = IsFew-noted written (members_by staged_score old) (members_by staged_score new) c.new-draft.result.edits c.stage_increase.new.self.edits c.new-draft.ensures.coming c.new-draft.ensures.leaving (omega (arith, counted_one true (outcome_of c.args.flags (map.get (members_by staged_score old) c.args.member.now) z))) c.in-Ok.ensures.edits;
       outline_is = outline_same c.outline_staged-outline.result (before new c.stage_increase.new.self.kept) (members_by current_score old) (members_by staged_score new) (put_one c.args.flags (members_by current_score old) c.args.member.now c.args.score)
           (before_grown old new c.stage_increase.new.self.kept (c.stage_increase.ensures.kept ∙ c.new-draft.ensures.kept ∙ c.len.ensures.len) c.stage_increase.ensures.grows) left c.outline_staged-outline.ensures;

@@ -3,7 +3,7 @@ use Rattle.std.proofs.lemmas.Grind.{common_steps}
 use Rattle.zset_core.specs.RowEdits.{Notes}
 use Rattle.zset_core.specs.Semantics.{remove_all}
 use Rattle.zset_core.specs.SortedSet.{Members}
-use Rattle.zset_core.specs.StagedEntries.{current_score, members_by, bytes_of}
+use Rattle.zset_core.specs.MembersWithStagedScores.{current_score, members_by, bytes_of}
 use Rattle.zset_core.proofs.Bags.{Notes-then, Notes-more}
 use Rattle.zset_core.proofs.set.removal_search.collect_removed.Goals as goal
 

@@ -1,6 +1,6 @@
 use Rattle.std.proofs.Common.{◌≡◌, drop}
 use Rattle.zset_core.specs.Semantics.{remove_all}
-use Rattle.zset_core.specs.StagedEntries.{current_score, members_by, bytes_of}
+use Rattle.zset_core.specs.MembersWithStagedScores.{current_score, members_by, bytes_of}
 use Rattle.zset_core.specs.RemovalSearch.{AreFound}
 use Rattle.zset_core.specs.RowEdits.{Notes}
 use Rattle.zset_core.proofs.set.removal_search.collect_removed.Given as goal

@@ -4,7 +4,7 @@ use Rattle.zset_core.specs.RowEdits.{Notes}
 use Rattle.zset_core.specs.SortedSet.{Members}
 use Rattle.zset_core.proofs.Bags.{Notes-gone}
 use Rattle.zset_core.proofs.Bridge.{get_members}
-use Rattle.zset_core.specs.StagedEntries.{current_score, members_by, bytes_of}
+use Rattle.zset_core.specs.MembersWithStagedScores.{current_score, members_by, bytes_of}
 use Rattle.zset_core.specs.Semantics.{remove_all}
 use Rattle.zset_core.specs.RemovalSearch.{AreFound}
 use Rattle.zset_core.proofs.Gathering.{AreFound-push, gone_absent, gone_again, gone_push, get-remove_all, new_one, old_one}

@@ -1,5 +1,5 @@
 use Rattle.std.proofs.Common.{◌∙◌, sym, ap, subst, take}
-use Rattle.zset_core.specs.StagedEntries.{current_score, rows_by, IsSettled}
+use Rattle.zset_core.specs.MembersWithStagedScores.{current_score, rows_by, IsSettled}
 use Rattle.zset_core.proofs.Staging.{rows_take, IsSettled-take}
 use Rattle.zset_core.proofs.set.draft.Draft.roll_back.Goals as goal
 

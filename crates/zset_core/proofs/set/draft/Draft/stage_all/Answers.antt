@@ -1,7 +1,7 @@
 use Rattle.std.proofs.Common.{◌∙◌, ◌+◌, ◌*◌, sym, ap, rules, arith, ℤ, pos, drop, get_or, SFits, w64, to_z, of_z, to_z-of_z, true}
 use Rattle.zset_core.specs.ParsedForm.{scored}
 use Rattle.zset_core.specs.Semantics.{counted, count_all}
-use Rattle.zset_core.specs.StagedEntries.{staged_score, members_by}
+use Rattle.zset_core.specs.MembersWithStagedScores.{staged_score, members_by}
 use Rattle.zset_core.proofs.PairSteps.{pairs_step, put_step, count_step, counted_one}
 use Rattle.zset_core.proofs.Staging.{Grows-then}
 use Rattle.zset_core.proofs.Bags.{Notes-then, Notes-more}

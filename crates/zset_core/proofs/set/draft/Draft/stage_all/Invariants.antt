@@ -1,6 +1,6 @@
 use Rattle.std.proofs.Common.{◌≡◌, ◌+◌, ◌*◌, ◌≤◌, ℕ, true, drop}
 use Rattle.zset_core.specs.ParsedForm.{scored}
-use Rattle.zset_core.specs.StagedEntries.{staged_score, members_by, IsWaiting, Grows}
+use Rattle.zset_core.specs.MembersWithStagedScores.{staged_score, members_by, IsWaiting, Grows}
 use Rattle.zset_core.specs.Semantics.{put_all, count_all}
 use Rattle.zset_core.specs.RowEdits.{Notes}
 use Rattle.zset_core.proofs.set.draft.Draft.stage_all.Given as goal

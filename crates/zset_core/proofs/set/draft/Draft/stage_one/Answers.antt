@@ -1,6 +1,6 @@
 use Rattle.std.proofs.Common.{◌≡◌, true, ◌∙◌, ◌∷◌, ◌++◌, [], sym, ap, subst, rules, ℤ, ℕ, List, SFits, w64, to_z, of_z, to_z-of_z}
 use Rattle.zset_core.specs.RowEdits.{Notes}
-use Rattle.zset_core.specs.StagedEntries.{staged_score, members_by}
+use Rattle.zset_core.specs.MembersWithStagedScores.{staged_score, members_by}
 use Rattle.zset_core.specs.SortedSet.{Members}
 use Rattle.zset_core.specs.Semantics.{counted}
 use Rattle.zset_core.proofs.Bags.{Notes-added, Notes-changed}

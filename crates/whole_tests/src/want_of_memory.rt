@@ -1,0 +1,187 @@
+//! Each allocation of each command refused in turn.
+
+ghost use Rattle.std.specs.Prelude.{◌≡◌, ◌≤◌, None};
+
+use fuse_alloc::Fuse;
+use resp_wire::{Bytes, BytesList, Reply, Request, write_reply};
+use std::alloc::Allocator;
+use std::hash::RandomState;
+use std::test::Fail;
+use zset_core::{Command, OneOwner, Refusal};
+
+type Owner<A> = OneOwner<RandomState, A>;
+
+/// The request whose words stand between single blanks, in memory of the owner's kind.
+fn request<A: Allocator + Copy>(alloc: A, words: &str) -> Result<Request<A>, Fail> {
+    let mut list = Vec::new(alloc);
+    for word in words.split(' ') {
+        list.push(Bytes::new(Vec::from_slice(alloc, word.as_bytes())?))?;
+    }
+    Ok(Request::new(BytesList::new(list)).ok_or("no request")?)
+}
+
+/// What an owner answers: the reply, or the refusal, of the command's reading or of its run.
+fn answer<A: Allocator + Copy>(
+    alloc: A,
+    owner: &mut Owner<A>,
+    request: Request<A>,
+) -> Result<Reply<A>, Refusal>
+    requires { owner.old.next ≡ None }
+    ensures { owner.new.next ≡ None }
+{
+    let command = Command::read(alloc, request)?;
+    owner.run(&command)
+}
+
+/// The bytes of a reply.
+fn bytes_of<A: Allocator + Copy>(alloc: A, reply: &Reply<A>) -> Result<Vec<u8, A>, Fail> {
+    let mut bytes = Vec::new(alloc);
+    write_reply(reply, &mut bytes)?;
+    Ok(bytes)
+}
+
+/// The bytes of the reply to a command that is not refused.
+fn reply<A: Allocator + Copy>(
+    alloc: A,
+    owner: &mut Owner<A>,
+    words: &str,
+) -> Result<Vec<u8, A>, Fail>
+    requires { owner.old.next ≡ None }
+    ensures { owner.new.next ≡ None }
+{
+    match answer(alloc, owner, request(alloc, words)?) {
+        Ok(reply) => bytes_of(alloc, &reply),
+        Err(_) => Err("refused")?,
+    }
+}
+
+/// Runs commands none of which is refused.
+fn run_all<A: Allocator + Copy>(
+    alloc: A,
+    owner: &mut Owner<A>,
+    commands: &[&str],
+) -> Result<(), Fail>
+    requires { owner.old.next ≡ None }
+    ensures { owner.new.next ≡ None }
+{
+    for words in commands {
+        reply(alloc, owner, words)?;
+    }
+    Ok(())
+}
+
+const LISTING: &str = "ZRANGEBYSCORE k -inf +inf WITHSCORES";
+
+/// What ample memory gives: the listing of the set before a command, and the reply to the command.
+#[derive(Drop)]
+struct Ample {
+    before: Vec<u8>,
+    reply: Vec<u8>,
+}
+
+fn with_memory(rt: &HostRuntime, setup: &[&str], words: &str) -> Result<Ample, Fail> {
+    let alloc = rt.alloc();
+    let hasher = RandomState::new(rt)?;
+    let mut listed = OneOwner::new(alloc, hasher);
+    run_all(alloc, &mut listed, setup)?;
+    let mut asked = OneOwner::new(alloc, hasher);
+    run_all(alloc, &mut asked, setup)?;
+    Ok(Ample {
+        before: reply(alloc, &mut listed, LISTING)?,
+        reply: reply(alloc, &mut asked, words)?,
+    })
+}
+
+/// What came of one refused allocation of a command.
+#[derive(Clone, Copy, PartialEq, Eq)]
+enum Outcome {
+    /// There were fewer allocations.
+    Whole,
+    /// It was refused, the set stayed, and asked again it gave its reply; or its reply came all the same.
+    Kept,
+    Wrong,
+}
+
+/// Refuses one allocation of the command behind those that set up its set.
+fn refuse(
+    rt: &HostRuntime,
+    setup: &[&str],
+    words: &str,
+    ample: &Ample,
+    allocation: u64,
+) -> Result<Outcome, Fail> {
+    let alloc = rt.alloc();
+    let fuse = Fuse::new(alloc, 0);
+    let heap = &fuse;
+    let mut owner = OneOwner::new(heap, RandomState::new(rt)?);
+    run_all(heap, &mut owner, setup)?;
+    let request = request(heap, words)?;
+    fuse.arm(allocation);
+    let found = answer(heap, &mut owner, request);
+    let is_whole = fuse.is_armed();
+    fuse.arm(0);
+    match found {
+        Ok(reply) if bytes_of(heap, &reply)?.as_slice() == ample.reply.as_slice() => {
+            Ok(if is_whole {
+                Outcome::Whole
+            } else {
+                Outcome::Kept
+            })
+        }
+        Err(Refusal::NoMemory) if !is_whole => {
+            let stayed = reply(heap, &mut owner, LISTING)?.as_slice() == ample.before.as_slice();
+            let again = reply(heap, &mut owner, words)?.as_slice() == ample.reply.as_slice();
+            Ok(if stayed && again {
+                Outcome::Kept
+            } else {
+                Outcome::Wrong
+            })
+        }
+        _ => Ok(Outcome::Wrong),
+    }
+}
+
+/// How many allocations of the command were refused, one in each run, until a run had no more.
+fn refused(rt: &HostRuntime, setup: &[&str], words: &str) -> Result<u64, Fail> {
+    let ample = with_memory(rt, setup, words)?;
+    for allocation in 1..1000u64 {
+        match refuse(rt, setup, words, &ample, allocation)? {
+            Outcome::Whole => return Ok(allocation - 1),
+            Outcome::Kept => {}
+            Outcome::Wrong => return Err("neither refused nor answered as with memory")?,
+        }
+    }
+    Err("no end")?
+}
+
+/// A set with rows that stand in pieces, and changes that wait.
+const SETUP: [&str; 5] = [
+    "ZADD k 5 a 6 b 7 c 7 d 9 e 12 f",
+    "ZCOUNT k 6 9",
+    "ZADD k 8 g -1 h 6 a",
+    "ZREM k d",
+    "ZADD j 1 x",
+];
+
+#[test]
+fn each_command_is_refused_or_answered(rt: HostRuntime) -> Result<(), Fail> {
+    let commands = [
+        "PING hi",
+        "ZADD k 1 i 2 j 3 k 4 l 5 m 6 n 7 o 8 p",
+        "ZADD new 1 a",
+        "ZADD k XX CH 3 a 9 nobody",
+        "ZADD k INCR 4 b",
+        "ZADD k GT CH 9 b 1 z",
+        "ZREM k a b nobody",
+        "ZREMRANGEBYSCORE k (6 8",
+        "ZSCORE k a",
+        "ZCOUNT k (6 +inf",
+        "ZRANGEBYSCORE k -inf 8 WITHSCORES",
+        "ZRANGEBYSCORE k 0 +inf LIMIT 1 3",
+    ];
+    for words in commands {
+        assert!(rt; refused(&rt, &SETUP, words)? >= 1, "{words}");
+    }
+    assert_eq!(rt; refused(&rt, &SETUP, "ZCARD k")?, 0);
+    Ok(())
+}

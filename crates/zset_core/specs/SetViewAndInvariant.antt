@@ -1,0 +1,52 @@
+-- What callers see of the entries of a set and of what it has prepared.
+use Rattle.std.specs.Prelude.{◌≡◌, ℕ, ◌≤◌, List, length, take, Option, None, Some, IfSome, OnSome}
+use Rattle.std.specs.FinMap as fin
+use Rattle.resp_wire.specs.Response.{response_of}
+use Rattle.zset_core.specs.MembersWithStagedScores.{Entry, current_score, rows_by, members_by, IsSettled, IsWaiting}
+use Rattle.ripple_column.specs.Content.{ColumnState, Holds}
+use Rattle.ripple_column.specs.RangeAnswer.{HasAnswer}
+use Rattle.zset_core.specs.CommandRequest.{Meaning, range_to_remove}
+use Rattle.zset_core.specs.RowEdits.{HasAtMost, HasRoom, TurnsInto}
+use Rattle.zset_core.specs.Plan.{edited_by, left_by}
+use Rattle.zset_core.specs.SortedSet.{pairs}
+use Rattle.zset_core.specs.declared.set.plan.Plan.{Plan}
+use Rattle.zset_core.specs.ViewTypes.{SetView, Next}
+use Rattle.zset_core.specs.declared.set.Prepared.{Prepared}
+
+abbrev pub next_of : {A : Type 0} → List (Entry A) → Prepared A → Next
+next_of entries p = record { meaning = p.asked.value.meaning; members = left_by entries p.plan; reply = response_of p.plan.reply }
+
+abbrev pub view_of : {A : Type 0} → List (Entry A) → ColumnState → Option (Prepared A) → SetView
+view_of entries column None = record { members = members_by current_score entries; next = None; column = column }
+view_of entries column (Some p) = record { members = fin.from_entries (take p.plan.draft.kept (rows_by current_score entries)); next = Some (next_of entries p); column = column }
+
+-- a set with nothing prepared: the content of its column is the bag of the members' pairs
+pub record IsIdle {A : Type 0} (entries : List (Entry A)) (column : ColumnState) : Type 0 where
+  pub settled : IsSettled entries
+  pub content : Holds column (pairs (members_by current_score entries))
+
+-- a column is ready for a plan: it has room for the edits; where a range leaves it has its answer for that, and there are no edits
+pub record IsReadyForPlan {A : Type 0} (column : ColumnState) (plan : Plan A) : Type 0 where
+  pub room : HasRoom column plan.draft.edits
+  pub answer : IfSome plan.range (HasAnswer column)
+  pub alone : OnSome plan.range (HasAtMost 0 plan.draft.edits)
+
+-- a set with a plan for a command: the content is the bag of the pairs from before, and the edits turn it into the bag of those
+-- that the commit leaves, but for a range that leaves
+pub record IsPlanned {A : Type 0} (entries : List (Entry A)) (column : ColumnState) (meaning : Meaning) (plan : Plan A) : Type 0 where
+  pub kept : plan.draft.kept ≤ length entries
+  pub waiting : IsWaiting plan.draft.touched.items entries
+  pub content : Holds column (pairs (fin.from_entries (take plan.draft.kept (rows_by current_score entries))))
+  pub turns : TurnsInto column (edited_by entries plan) plan.draft.edits
+  pub ready : IsReadyForPlan column plan
+  pub range : plan.range ≡ range_to_remove meaning
+
+-- what holds of every set
+abbrev pub IsSound : {A : Type 0} → List (Entry A) → ColumnState → Option (Prepared A) → Type 0
+IsSound entries column None = IsIdle entries column
+IsSound entries column (Some p) = IsPlanned entries column p.asked.value.meaning p.plan
+
+-- the number of entries that stand whatever becomes of what is prepared
+abbrev pub kept_of : {A : Type 0} → List (Entry A) → Option (Prepared A) → ℕ
+kept_of entries None = length entries
+kept_of entries (Some p) = p.plan.draft.kept

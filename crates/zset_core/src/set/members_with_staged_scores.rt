@@ -1,0 +1,130 @@
+//! The members of one set, and the scores of each: its own, and the one that is staged for it. Staged
+//! scores are adopted or discarded, and members that leave are taken out.
+
+ghost use Rattle.std.specs.Prelude.{◌≡◌, ◌<◌, ◌^◌, Some, slice_get, option_map, IfSome};
+ghost use Rattle.std.specs.FinMap as map;
+ghost use Rattle.indexmap.specs.IndexMap.{IsUnique};
+ghost use Rattle.zset_core.specs.MembersWithStagedScores.{current_score, staged_score, rows_by, members_by, slot_at, slots, same_bytes, IsSettled, IsWaiting, bytes_of};
+ghost use Rattle.zset_core.specs.SortedSet.{names_of};
+ghost use Rattle.zset_core.specs.Semantics.{remove_all};
+
+use crack_kernel::Row;
+use indexmap::IndexMap;
+use std::alloc::Allocator;
+use std::hash::BuildHasher;
+
+/// The score of a member, and the one that it gets when what is prepared is committed.
+#[derive(Clone, Copy, Debug, PartialEq, Eq)]
+pub struct ScoreSlot {
+    pub current: i64,
+    pub staged: i64,
+}
+
+/// The members of a set by their bytes. Members that a prepared command adds stand last.
+pub type MemberMap<H, A> = IndexMap<Vec<u8, A>, ScoreSlot, H, A>;
+
+/// The place of a member among the entries, with its scores.
+pub fn find_slot<H: BuildHasher, A: Allocator + Copy>(
+    members: &MemberMap<H, A>,
+    member: &[u8],
+) -> Option<(usize, ScoreSlot)>
+    ensures slot { option_map (λ p. p.1) result ≡ slot_at members.now.entries member.now }
+    ensures score { option_map (λ p. p.1.staged) result
+        ≡ map.get (members_by staged_score members.now.entries) member.now }
+    ensures place { IfSome result
+        (λ p. slice_get (slots members.now.entries) p.0 ≡ Some (member.now, p.1)) }
+    ensures unique { IsUnique same_bytes members.now }
+{
+    let _count = members.len();
+    match members.get_full(member) {
+        None => None,
+        Some((place, _, slot)) => Some((place, *slot)),
+    }
+}
+
+/// The number of members.
+pub fn card_of<H: BuildHasher, A: Allocator + Copy>(members: &MemberMap<H, A>) -> usize
+    ensures card { result ≡ map.len (members_by current_score members.now.entries) }
+    ensures few { result < 2 ^ 63 }
+{
+    members.len()
+}
+
+/// The score of a member.
+pub fn score_of<H: BuildHasher, A: Allocator + Copy>(
+    members: &MemberMap<H, A>,
+    member: &[u8],
+) -> Option<i64>
+    ensures { result ≡ map.get (members_by current_score members.now.entries) member.now }
+{
+    match members.get(member) {
+        None => None,
+        Some(slot) => Some(slot.current),
+    }
+}
+
+/// Staged scores become the members' own.
+pub fn adopt_staged<H: BuildHasher, A: Allocator + Copy>(
+    members: &mut MemberMap<H, A>,
+    touched: &[usize],
+)
+    requires { IsWaiting touched.now members.old.entries }
+    ensures staged { rows_by staged_score members.new.entries ≡ rows_by staged_score members.old.entries }
+    ensures settled { IsSettled members.new.entries }
+{
+    for place in touched {
+        let staged = members[*place].staged;
+        members[*place] = ScoreSlot {
+            current: staged,
+            staged,
+        };
+    }
+}
+
+/// Staged scores are discarded, and members keep theirs.
+pub fn discard_staged<H: BuildHasher, A: Allocator + Copy>(
+    members: &mut MemberMap<H, A>,
+    touched: &[usize],
+)
+    requires { IsWaiting touched.now members.old.entries }
+    ensures current { rows_by current_score members.new.entries ≡ rows_by current_score members.old.entries }
+    ensures settled { IsSettled members.new.entries }
+{
+    for place in touched {
+        let current = members[*place].current;
+        members[*place] = ScoreSlot {
+            current,
+            staged: current,
+        };
+    }
+}
+
+/// Members are taken out.
+pub fn take_out<H: BuildHasher, A: Allocator + Copy>(
+    members: &mut MemberMap<H, A>,
+    removed: &[Vec<u8, A>],
+)
+    requires { IsSettled members.old.entries }
+    ensures members { members_by current_score members.new.entries
+        ≡ remove_all (members_by current_score members.old.entries) (bytes_of removed.now) }
+    ensures settled { IsSettled members.new.entries }
+{
+    for member in removed {
+        members.swap_remove(member.as_slice());
+    }
+}
+
+/// The members of rows are taken out.
+pub fn take_out_rows<H: BuildHasher, A: Allocator + Copy>(
+    members: &mut MemberMap<H, A>,
+    rows: &[Row<A>],
+)
+    requires { IsSettled members.old.entries }
+    ensures members { members_by current_score members.new.entries
+        ≡ remove_all (members_by current_score members.old.entries) (names_of rows.now) }
+    ensures settled { IsSettled members.new.entries }
+{
+    for row in rows {
+        members.swap_remove(row.member());
+    }
+}
