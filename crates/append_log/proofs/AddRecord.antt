@@ -9,8 +9,8 @@ use Rattle.std.proofs.lemmas.Str.Parse.{digit_from_value}
 use Rattle.std.proofs.Math.Nat.{mul-mod_right}
 use Rattle.score_bounds.specs.Scores.{IsScore, IsPlain, score_text, score_value}
 use Rattle.zset_core.specs.SortedSet.{Pair}
-use Rattle.zset_core.specs.CommandRequest.{Meaning}
-use Rattle.zset_core.specs.CommandRequest as meanings
+use Rattle.zset_core.specs.AbstractCommand.{Meaning}
+use Rattle.zset_core.specs.AbstractCommand as meanings
 use Rattle.zset_core.specs.CommandGrammar.{command_named, is_add_option, add_options, add_pairs, are_pairs, pairs_value, named_conditions, conditions, first_of, meaning, asked}
 use Rattle.zset_core.specs.declared.command.name.CommandName.TheVariants.{Add}
 use Rattle.zset_core.proofs.CallerLemmas.{asked-ok}

@@ -9,7 +9,7 @@ use Rattle.score_bounds.specs.Scores.{IsScore, IsPlain, score_text, score_value}
 use Rattle.zset_core.specs.SortedSet.{Members, Pair, bytes_cmp, whole}
 use Rattle.zset_core.specs.Semantics.{put_all}
 use Rattle.zset_core.specs.World.{World, is_empty, set_at, put_set}
-use Rattle.zset_core.specs.WorldFitsRequests.{IsSpelled, IsBoundedSet, IsBoundedAt, IsBoundedWorld}
+use Rattle.zset_core.specs.ExpressibleWorld.{IsSpelled, IsBoundedSet, IsBoundedAt, IsBoundedWorld}
 use Rattle.zset_core.proofs.CallerLemmas.{total, exact}
 use Rattle.zset_core.proofs.CallerLemmas.{get_put_set, filled}
 use Rattle.append_log.specs.Records.{Record}

@@ -8,7 +8,7 @@ use Rattle.resp_wire.specs.RequestEncoding.{IsArgument, IsRequest}
 use Rattle.zset_core.proofs.CallerLemmas.{whole_empty}
 use Rattle.zset_core.specs.SortedSet.{Members, Pair, whole}
 use Rattle.zset_core.specs.World.{World, set_at}
-use Rattle.zset_core.specs.WorldFitsRequests.{IsSpelled, IsBoundedAt, IsBoundedWorld}
+use Rattle.zset_core.specs.ExpressibleWorld.{IsSpelled, IsBoundedAt, IsBoundedWorld}
 use Rattle.append_log.specs.Records.{AreRecords}
 use Rattle.append_log.specs.Dump.{add_record, cut_pieces, set_records, records_at}
 use Rattle.append_log.proofs.AddRecord.{pair_words, length-pair_words}

@@ -3,10 +3,10 @@ use Rattle.std.proofs.Common.{◌≡◌, ℕ, List, [], ◌∷◌, ◌++◌, ref
 use Rattle.std.specs.Prelude.{IfSome, IsTrue, option_map}
 use Rattle.resp_wire.specs.Response.{Response}
 use Rattle.zset_core.specs.SortedSet.{Members}
-use Rattle.zset_core.specs.CommandRequest.{Meaning, Asked, key_of, is_writing, Ping, Add, Increase, Remove, RemoveRange, Score, Card, Count, ListRange}
+use Rattle.zset_core.specs.AbstractCommand.{Meaning, Asked, key_of, is_writing, Ping, Add, Increase, Remove, RemoveRange, Score, Card, Count, ListRange}
 use Rattle.zset_core.specs.CommandGrammar.{asked}
 use Rattle.zset_core.specs.Semantics.{step, act_at, act}
-use Rattle.zset_core.specs.ViewTypes.{Next, ShowsAt, IsPreparedAt}
+use Rattle.zset_core.specs.SetAndOwnerViews.{Next, ShowsAt, IsPreparedAt}
 use Rattle.zset_core.specs.ChangeOutline.{IsOutline}
 use Rattle.zset_core.specs.declared.set.change_outline.Outline.{Outline}
 use Rattle.zset_core.specs.declared.refusal.Refusal.{Refusal}

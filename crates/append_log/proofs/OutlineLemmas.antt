@@ -3,7 +3,7 @@ use Rattle.std.proofs.Common.{◌≡◌, ℕ, zero, suc, refl, sym, ap, ◌∙�
 use Rattle.std.specs.Prelude.{◌≢◌}
 use base.Stored.{Gv, gnil, gnum, gcons, num, Coded}
 use Rattle.zset_core.specs.SortedSet.{Members}
-use Rattle.zset_core.specs.ViewTypes.{coded_members}
+use Rattle.zset_core.specs.SetAndOwnerViews.{coded_members}
 use Rattle.zset_core.specs.ChangeOutline.{IsOutline}
 use Rattle.zset_core.specs.declared.set.change_outline.Outline.{Outline}
 

@@ -9,9 +9,9 @@ use Rattle.std.specs.declared.cmp.Ordering.TheVariants.{Less, Equal, Greater}
 use Rattle.std.proofs.lemmas.Bool.Decides.{nat_tests}
 use Rattle.resp_wire.specs.Response.{Response}
 use Rattle.zset_core.specs.SortedSet.{Members, bytes_cmp}
-use Rattle.zset_core.specs.CommandRequest.{Meaning}
+use Rattle.zset_core.specs.AbstractCommand.{Meaning}
 use Rattle.zset_core.specs.Semantics.{step, act_at}
-use Rattle.zset_core.specs.ViewTypes.{Next, ShowsAt, IsPreparedAt}
+use Rattle.zset_core.specs.SetAndOwnerViews.{Next, ShowsAt, IsPreparedAt}
 use Rattle.zset_core.specs.World.{World, is_empty, set_at, put_set}
 use Rattle.zset_core.proofs.CallerLemmas.{get_put_set, filled, placed}
 use Rattle.zset_core.proofs.CallerLemmas.{total, exact}

@@ -5,7 +5,7 @@ use Rattle.resp_wire.specs.RequestEncoding.{request}
 use Rattle.resp_wire.specs.Response.{Response}
 use Rattle.zset_core.specs.World.{World, set_at}
 use Rattle.zset_core.specs.Semantics.{act}
-use Rattle.zset_core.specs.CommandRequest.{Asked}
+use Rattle.zset_core.specs.AbstractCommand.{Asked}
 use Rattle.zset_core.specs.declared.refusal.Refusal.{Refusal}
 use Rattle.zset_core.specs.declared.refusal.Refusal.TheVariants.{NoMemory, ScoreOverflow, LogBroken, LogFull, LogRefused}
 use Rattle.append_log.specs.Records.{Record}

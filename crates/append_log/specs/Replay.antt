@@ -1,7 +1,7 @@
 -- What records replay to: each is a command that changes sets, carried out in turn.
 use Rattle.std.specs.Prelude.{List, [], ◌∷◌, Option, Some, None, Result, Ok, Err, option_map, option_and_then, if◌then◌else◌}
 use Rattle.zset_core.specs.declared.refusal.Refusal.{Refusal}
-use Rattle.zset_core.specs.CommandRequest.{Meaning, is_writing}
+use Rattle.zset_core.specs.AbstractCommand.{Meaning, is_writing}
 use Rattle.zset_core.specs.CommandGrammar.{asked}
 use Rattle.zset_core.specs.World.{World}
 use Rattle.zset_core.specs.Semantics.{act}

@@ -3,7 +3,7 @@
 ghost use Rattle.std.specs.Prelude.{◌≡◌, ℕ, ◌+◌, ◌≤◌, None, Some, true, false, IfOk, IfErr, OnOk, IsTrue};
 ghost use Rattle.resp_wire.specs.Response.{response_of};
 ghost use Rattle.resp_wire.specs.RequestEncoding.{request};
-ghost use Rattle.zset_core.specs.CommandRequest.{is_writing};
+ghost use Rattle.zset_core.specs.AbstractCommand.{is_writing};
 ghost use Rattle.zset_core.specs.World.{World as WorldType};
 ghost use Rattle.append_log.specs.Log.{LogView, Appends, HasRecords, records_after, share_after};
 ghost use Rattle.append_log.specs.LoggedOwner.{LoggedView, AreSame, Replays, NotAppended, Ran, Refused};
@@ -117,7 +117,7 @@ impl<H: BuildHasher, S: LogSink, L: Ledger, A: Allocator + Copy> Model for Logge
     ghost Value = { LoggedView };
 
     ghost use Rattle.std.specs.Coded.{codes};
-    ghost use Rattle.zset_core.specs.ViewTypes.{coded_members, coded_world};
+    ghost use Rattle.zset_core.specs.SetAndOwnerViews.{coded_members, coded_world};
 
     ghost coded = { Prim.hlevel (codes, coded_members, coded_world) };
 

@@ -2,8 +2,8 @@
 
 ghost use Rattle.std.specs.Prelude.{◌≡◌, List, ℕ, Some, IfOk, IfSome, IsTrue};
 ghost use Rattle.resp_wire.specs.RequestEncoding.{request, IsRequest};
-ghost use Rattle.zset_core.specs.CommandRequest.{key_of, is_writing};
-ghost use Rattle.zset_core.specs.ViewTypes.{IsPreparedFor};
+ghost use Rattle.zset_core.specs.AbstractCommand.{key_of, is_writing};
+ghost use Rattle.zset_core.specs.SetAndOwnerViews.{IsPreparedFor};
 ghost use Rattle.zset_core.specs.World.{World as WorldType, set_at, put_set};
 ghost use Rattle.append_log.specs.Replay.{after};
 

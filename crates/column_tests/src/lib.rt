@@ -8,3 +8,5 @@ mod columns;
 mod merges;
 #[cfg(test)]
 mod removals;
+#[cfg(test)]
+mod windows;

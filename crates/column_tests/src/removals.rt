@@ -5,7 +5,7 @@ use std::alloc::{AllocError, Global};
 use std::process::Abort;
 
 // Selects a range, which has `want` rows, and removes these.
-fn remove<R: Abort>(
+pub fn remove<R: Abort>(
     rt: &R,
     column: &mut Column<Global>,
     min: Bound,
@@ -137,7 +137,7 @@ fn what_waits_outside_the_range_stays(rt: HostRuntime) -> Result<(), AllocError>
 }
 
 // Every pivot parts the rows of the column, inner ones too.
-fn expect_parted<R: Abort>(rt: &R, column: &Column<Global>) {
+pub fn expect_parted<R: Abort>(rt: &R, column: &Column<Global>) {
     let rows = column.rows(0, column.len());
     for pivot in column.piece_list() {
         let below = rows.iter().filter(|row| row.score() < pivot.0).count();

@@ -1,3 +1,3 @@
 pub mod Arriving
-pub mod Numbering
+pub mod ChannelInvariant
 pub mod Outcome

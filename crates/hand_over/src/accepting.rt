@@ -3,7 +3,7 @@
 ghost use Rattle.std.specs.Prelude.{ℕ, ◌≡◌, ◌+◌, ◌<◌, ◌≤◌, ◌⊎◌, ◌↔◌, true, [], IfOk, IsTrue, vec_len, vec_capacity};
 ghost use Rattle.crossbeam_channel.specs.Claims.{view, IsSeatAt};
 ghost use Rattle.crossbeam_channel.specs.Ends.{sends_on, receives_on, ruled_capacity};
-ghost use Rattle.hand_over.specs.Numbering.{tally, times, once_below, IsHandedOut};
+ghost use Rattle.hand_over.specs.ChannelInvariant.{tally, times, once_below, IsHandedOut};
 
 use crate::arrivals::{Arrival, Arrivals};
 use crate::channel::{Sender, TallyPass, send_connection};

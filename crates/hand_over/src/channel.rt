@@ -3,7 +3,7 @@
 ghost use Rattle.std.specs.Prelude.{◌≡◌, ℕ, ◌+◌, ◌-◌, ◌<◌, ◌++◌, true, false, [], List, IfSome, IfNone, ⊤};
 ghost use Rattle.crossbeam_channel.specs.Claims.{view, IsSeatAt};
 ghost use Rattle.crossbeam_channel.specs.Ends.{sends_on, receives_on, ruled_capacity};
-ghost use Rattle.hand_over.specs.Numbering.{tally, times, once_below, AllBelow, numbers_of, IsNumbered, after_sending, after_taking, IsAboveTaken, TakesFew, with_taken, after_send, after_stop};
+ghost use Rattle.hand_over.specs.ChannelInvariant.{tally, times, once_below, AllBelow, numbers_of, IsNumbered, after_sending, after_taking, IsAboveTaken, TakesFew, with_taken, after_send, after_stop};
 
 use crossbeam_channel::protocol::{Join, Lesson, Outcome, Protocol, Split};
 use crossbeam_channel::{Pass, RuledReceiver, RuledSender};

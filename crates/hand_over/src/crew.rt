@@ -4,7 +4,7 @@ ghost use Rattle.std.specs.Prelude.{ℕ, ◌≡◌, ◌+◌, ◌<◌, ◌≤◌,
 ghost use Rattle.crossbeam_channel.specs.Claims.{view, IsSeatAt};
 ghost use Rattle.crossbeam_channel.specs.Ends.{sends_on, receives_on, ruled_capacity};
 ghost use Rattle.std.specs.List.Sorted.{IsStrictlyIncreasing};
-ghost use Rattle.hand_over.specs.Numbering.{tally, times, once_below, with_pass};
+ghost use Rattle.hand_over.specs.ChannelInvariant.{tally, times, once_below, with_pass};
 ghost use Rattle.hand_over.specs.Outcome.{all_of, Served};
 
 use crate::channel::{Cut, Drains, Ends, Message, Receiver, Sender, TallyPass, dismiss};

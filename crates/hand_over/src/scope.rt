@@ -3,7 +3,7 @@
 ghost use Rattle.std.specs.Prelude.{ℕ, ◌≡◌, ◌+◌, ◌<◌, ◌≤◌, ◌^◌, ◌++◌, true, [], IfOk, OnErr, All, map, vec_len};
 ghost use Rattle.crossbeam_channel.specs.Claims.{view, IsSeatAt};
 ghost use Rattle.crossbeam_channel.specs.Ends.{sends_on, receives_on, ruled_capacity};
-ghost use Rattle.hand_over.specs.Numbering.{tally};
+ghost use Rattle.hand_over.specs.ChannelInvariant.{tally};
 ghost use Rattle.hand_over.specs.Outcome.{IsHandedOver};
 
 use crate::accepting::Unsent;

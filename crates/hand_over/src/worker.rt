@@ -4,7 +4,7 @@ ghost use Rattle.std.specs.Prelude.{◌≡◌, ◌+◌, ◌<◌, ◌≤◌, ◌^
 ghost use Rattle.crossbeam_channel.specs.Claims.{view, IsSeatAt};
 ghost use Rattle.crossbeam_channel.specs.Ends.{sends_on, receives_on, ruled_capacity};
 ghost use Rattle.std.specs.List.Sorted.{IsStrictlyIncreasing};
-ghost use Rattle.hand_over.specs.Numbering.{tally};
+ghost use Rattle.hand_over.specs.ChannelInvariant.{tally};
 
 use crate::channel::{Receiver, TallyPass, next_connection};
 use crate::handler::Handler;

@@ -9,6 +9,8 @@ mod files;
 #[cfg(test)]
 mod records;
 #[cfg(test)]
+mod removals;
+#[cfg(test)]
 mod sweeps;
 #[cfg(test)]
 mod want_of_memory;

@@ -16,7 +16,7 @@ use std::test::*;
 use zset_core::{Command, OneOwner, Refusal};
 
 /// The command whose words stand between single blanks.
-fn command<A: Allocator + Copy>(alloc: A, words: &str) -> Result<Command<A>, Fail> {
+pub fn command<A: Allocator + Copy>(alloc: A, words: &str) -> Result<Command<A>, Fail> {
     let mut list = Vec::new(alloc);
     for word in words.split(' ') {
         list.push(Bytes::new(Vec::from_slice(alloc, word.as_bytes())?))?;
@@ -26,7 +26,7 @@ fn command<A: Allocator + Copy>(alloc: A, words: &str) -> Result<Command<A>, Fai
 }
 
 /// The number that an owner answers, or that of its refusal below zero.
-fn number<A: Allocator + Copy>(answer: &Result<Reply<A>, Refusal>) -> i64 {
+pub fn number<A: Allocator + Copy>(answer: &Result<Reply<A>, Refusal>) -> i64 {
     match answer {
         Ok(Reply::Int(number)) => *number,
         Ok(_) => 100,
@@ -137,6 +137,10 @@ struct AfterChange {
     is_whole: bool,
     changed: i64,
     members: i64,
+    /// How many members have the score from before.
+    kept: i64,
+    /// What the change answered when it was asked again.
+    again: i64,
     appended: u64,
 }
 
@@ -165,11 +169,16 @@ fn change_refused<L: Ledger, A: Allocator + Copy>(
     fuse.arm(0);
     let card = command(heap, "ZCARD k")?;
     let members = number(&owner.run(&card));
+    let count = command(heap, "ZCOUNT k 9 9")?;
+    let kept = number(&owner.run(&count));
+    let again = number(&owner.run(&change));
     let (_, log) = owner.into_parts();
     Ok(AfterChange {
         is_whole,
         changed,
         members,
+        kept,
+        again,
         appended: log.appended(),
     })
 }
@@ -181,13 +190,14 @@ fn a_logged_change_meets_each_refused_allocation(rt: HostRuntime) -> Result<(), 
     for allocation in 1..1000u64 {
         let fuse = Fuse::new(alloc, 0);
         let after = change_refused::<Brand, _>(&fuse, &fuse, hasher, Blank::new(2), allocation)?;
-        let found = (after.changed, after.members, after.appended);
+        let found = [after.changed, after.members, after.kept, after.again];
+        assert_eq!(rt; after.appended, 2);
         if after.is_whole {
-            assert_eq!(rt; found, (1, 2, 2));
+            assert_eq!(rt; found, [1, 2, 0, 0]);
             assert!(rt; allocation > 5);
             return Ok(());
         }
-        assert_eq!(rt; found, (-1, 1, 1));
+        assert_eq!(rt; found, [-1, 1, 1, 1]);
     }
     Err("no end")?
 }

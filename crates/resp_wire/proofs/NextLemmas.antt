@@ -12,7 +12,7 @@ use Rattle.resp_wire.specs.RequestEncoding.{request, line, argument, IsRequest, 
 use Rattle.resp_wire.specs.Parser.{item_at}
 use Rattle.resp_wire.specs.Stream.{asked, items, requests, rest, fault, fault_of}
 use Rattle.resp_wire.specs.DecoderView.{DecoderView, begun, Gave, Waits, Stops, Nexts}
-use Rattle.resp_wire.specs.DecoderStep.{Skips, Stepped, Steps, StepEnd}
+use Rattle.resp_wire.specs.ParsingSteps.{Skips, Stepped, Steps, StepEnd}
 use Rattle.resp_wire.specs.declared.steps.End.{End}
 use Rattle.std.specs.Prelude.{IfNone}
 use Rattle.resp_wire.proofs.Items.{item_again}

@@ -10,7 +10,7 @@ use Rattle.resp_wire.specs.Parser.{head_at, argument_at}
 use Rattle.resp_wire.specs.Parser.{item_at}
 use Rattle.resp_wire.specs.DecoderView.{begun}
 use Rattle.resp_wire.specs.declared.steps.End.TheVariants as ends
-use Rattle.resp_wire.specs.DecoderStep.{SkipsTo, Skips, Went, Steps, Stepped, EndIs}
+use Rattle.resp_wire.specs.ParsingSteps.{SkipsTo, Skips, Went, Steps, Stepped, EndIs}
 use Rattle.resp_wire.specs.declared.steps.End.{End}
 use Rattle.resp_wire.proofs.Items.{head_takes, argument_takes, arguments_stop, begun_reads}
 

@@ -6,5 +6,5 @@ pub mod FaultTexts
 pub mod DecoderView
 pub mod Device
 pub mod ParserAgreement
-pub mod DecoderStep
+pub mod ParsingSteps
 pub mod DecoderFields

@@ -8,7 +8,7 @@ ghost use Rattle.std.specs.List.{flat_map};
 ghost use Rattle.resp_wire.specs.ParserAgreement.{Gives};
 ghost use Rattle.resp_wire.specs.RequestEncoding.{IsArgument, argument};
 ghost use Rattle.resp_wire.specs.Parser.{head_at};
-ghost use Rattle.resp_wire.specs.DecoderStep.{SkipsTo, ArgumentStops, Went, Steps};
+ghost use Rattle.resp_wire.specs.ParsingSteps.{SkipsTo, ArgumentStops, Went, Steps};
 
 use crate::bytes::Bytes;
 use crate::fault::{Failure, Stop};

@@ -8,7 +8,7 @@ use Rattle.std.proofs.lemmas.List.Sorted.{All-permutation, length_permutation}
 use Rattle.crack_kernel.specs.Parts.{IsBelow, IsFrom, IsParted, ChangesWithin}
 use Rattle.crack_kernel.specs.PivotList.{IsRising, ObeysPivots, RisesPast, IsPieceOf, piece_start}
 use Rattle.crack_kernel.proofs.PartChanges.{ChangesWithin-front, ChangesWithin-back, IsParted-changed}
-use Rattle.ripple_column.specs.Cuts.{IsApart}
+use Rattle.ripple_column.specs.CutPivots.{IsApart}
 use Rattle.ripple_column.proofs.Hole.{Places, Places-from_law, bound_from, bound_upto, bound_within}
 
 -- what the piece of v is among rows that obey the pivots
@@ -88,6 +88,32 @@ still_apart v ps xs ys from to piece changes k d (i, p, within, is, side) =
           elim (piece.apart i p within) [
             | inl a ↦ let upto : (get_or ps i p).0 ≤ℤ v = a.0 in let upto' : p.0 ≤ℤ v = rw value at upto in absurd (omega (arith, ints))
             | inr b ↦ let place_high : to ≤ (get_or ps i p).1 = b.1 in ChangesWithin-back from to xs ys changes k d (omega arith)
+          ]
+    ]
+
+-- what lies outside the piece of a value lies outside that of each value with the same piece, where this has rows
+pub IsApart-alike : (v w : ℤ) (ps : List (ℤ × ℕ)) (rows : List (ℤ × List ℕ)) (from to : ℕ) → from < to → IsPiece v ps rows from to → IsPiece w ps rows from to
+    → (k : ℕ) → IsApart v ps k → IsApart w ps k
+IsApart-alike v w ps rows from to some of_v of_w k (i, p, within, is, side) =
+    let value : (get_or ps i p).0 ≡ p.0 = ap (λ (q : ℤ × ℕ). q.0) is in
+    elim (of_v.apart i p within) [
+      | inl low ↦
+          elim (of_w.apart i p within) [
+            | inl low' ↦
+                elim side [
+                  | inl s ↦ (i, p, within, is, inl (rw value at low'.0, s.1))
+                  | inr s ↦ let upto : p.0 ≤ℤ v = rw value at low.0 in let above : v <ℤ p.0 = s.0 in absurd (omega (arith, ints))
+                ]
+            | inr high' ↦ let a : (get_or ps i p).1 ≤ from = low.1 in let b : to ≤ (get_or ps i p).1 = high'.1 in absurd (omega arith)
+          ]
+      | inr high ↦
+          elim (of_w.apart i p within) [
+            | inl low' ↦ let a : (get_or ps i p).1 ≤ from = low'.1 in let b : to ≤ (get_or ps i p).1 = high.1 in absurd (omega arith)
+            | inr high' ↦
+                elim side [
+                  | inl s ↦ let above : v <ℤ p.0 = rw value at high.0 in let upto : p.0 ≤ℤ v = s.0 in absurd (omega (arith, ints))
+                  | inr s ↦ (i, p, within, is, inr (rw value at high'.0, s.1))
+                ]
           ]
     ]
 

@@ -10,7 +10,7 @@ use Rattle.std.proofs.lemmas.Grind.{common_steps}
 use Rattle.crack_kernel.specs.PivotList.{IsRising, RisesPast, shifted}
 use Rattle.crack_kernel.proofs.PivotOrder.{IsRising-le, length-shifted, get_or-shifted_below, get_or-shifted_from}
 use Rattle.ripple_column.specs.MergeGap.{AllParted}
-use Rattle.ripple_column.specs.RowPlace.{StandsWithin}
+use Rattle.ripple_column.specs.StandsWithin.{StandsWithin}
 
 -- v parts the rows other than the one at the hole, at the place q
 abbrev pub PartedBut : ℤ → ℕ → ℕ → List (ℤ × List ℕ) → Type 0

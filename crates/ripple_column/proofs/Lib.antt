@@ -17,3 +17,4 @@ pub mod Frames
 pub mod InnerPivots
 pub mod InnerCracks
 pub mod Removal
+pub mod FrontRoom

@@ -15,7 +15,7 @@ use Rattle.crack_kernel.specs.RowBag.{Test}
 use Rattle.crack_kernel.specs.Parts.{IsBelow, IsFrom, IsParted}
 use Rattle.crack_kernel.specs.PivotList.{IsNewValue, IsRising, ObeysPivots}
 use Rattle.ripple_column.specs.Content.{ColumnState, IsScored, has_score_in, NoneIn}
-use Rattle.ripple_column.specs.Cuts.{is_before, values, cut_values, new_values, StandsAt}
+use Rattle.ripple_column.specs.CutPivots.{is_before, values, cut_values, new_values, StandsAt}
 use Rattle.ripple_column.specs.ShownPivots.{IsAmong}
 use Rattle.ripple_column.specs.RangeAnswer.{low_cut, high_cut, pivots_with_cuts, IsSettled, IsAnswer, HoldsRange, AddsCuts}
 use Rattle.ripple_column.proofs.Values.{StandsAt-kept}

@@ -1,8 +1,8 @@
 -- The values of pivots: which a cut adds, and which are there.
-use Rattle.std.proofs.Common.{◌≡◌, ℕ, suc, ℤ, int_lt, Bool, true, false, ◌||◌, Any, ◌<◌, List, [], ◌∷◌, ◌++◌, length, get_or, inl, inr, sym, ◌∙◌, subst, refl, ap, arith, IsPermutation, Contains}
+use Rattle.std.proofs.Common.{◌≡◌, ℕ, suc, ℤ, int_lt, Bool, true, false, ◌||◌, Any, ◌<◌, List, [], ◌∷◌, ◌++◌, length, get_or, inl, inr, sym, ◌∙◌, subst, refl, ap, arith, IsPermutation, Contains, Option, None, Some, is_some, MatchOption}
 use Rattle.std.specs.List.{list_any}
 use Rattle.std.specs.Ordering.{int_eq}
-use Rattle.std.proofs.lemmas.Bool.{cases_Bool}
+use Rattle.std.proofs.lemmas.Bool.{cases_Bool, false≢true}
 use Rattle.std.proofs.lemmas.Int.{ints}
 use Rattle.std.proofs.lemmas.Bool.Decides.{Decides-int_eq}
 use Rattle.std.proofs.lemmas.List.{get_or-map, get_or_default, length-map}
@@ -11,7 +11,7 @@ use Rattle.std.proofs.lemmas.List.Sorted.{Contains-permutation, IsPermutation-ma
 use Rattle.score_bounds.specs.declared.bounds.Cut.{Cut}
 use Rattle.score_bounds.specs.declared.bounds.Cut.TheVariants.{Start, At, End}
 use Rattle.crack_kernel.specs.PivotList.{IsNewValue}
-use Rattle.ripple_column.specs.Cuts.{is_before, values, cut_values, new_values, StandsAt, IsUncracked}
+use Rattle.ripple_column.specs.CutPivots.{is_before, values, cut_values, new_values, StandsAt, IsApart, IsUncracked}
 
 value_at : (ps : List (ℤ × ℕ)) (k : ℕ) (d : ℤ) (e : ℤ × ℕ) → k < length ps → get_or (values ps) k d ≡ (get_or ps k e).0
 value_at ps k d e h = get_or-map (λ (p : ℤ × ℕ). p.0) ps k e d h
@@ -111,3 +111,16 @@ IsUncracked-kept (At v) ps qs k kept outside =
           let new : Contains qs p = kept p (i, within, is) in
           inr (new.0, p, new.1, new.2, side)
     ]
+
+-- a cut at a value that is no pivot's cracks the value's piece
+pub IsApart-new : (v : ℤ) (ps : List (ℤ × ℕ)) (k : ℕ) → IsNewValue v ps → IsUncracked (At v) ps k → IsApart v ps k
+IsApart-new v ps k new outside =
+    elim outside [
+      | inl found ↦ absurd (false≢true (sym (list_any-new v ps new) ∙ found))
+      | inr apart ↦ apart
+    ]
+
+-- a value that is not found is new
+pub IsNewValue-none : (r : Option ℕ) (u v : ℤ) (ps : List (ℤ × ℕ)) → u ≡ v → MatchOption r (IsNewValue u ps) (λ place. Contains ps (u, place)) → is_some r ≡ false → IsNewValue v ps
+IsNewValue-none None u v ps same new none = subst (λ (w : ℤ). IsNewValue w ps) same new
+IsNewValue-none (Some place) u v ps same found none = absurd (false≢true (sym none))

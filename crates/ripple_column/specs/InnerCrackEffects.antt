@@ -1,8 +1,9 @@
 -- Cracks by inner pivots: what they leave of the rows, and of the pivots that are shown.
-use Rattle.std.specs.Prelude.{◌≡◌, ◌≤◌, ℕ, ℤ, true, min, max, List, length, IsPermutation, vec_capacity}
+use Rattle.std.specs.Prelude.{◌≡◌, ◌≤◌, ℕ, ℤ, true, min, max, List, length, IsPermutation, slice_index_or, vec_capacity}
+use Rattle.ripple_column.specs.CutPivots.{IsApart}
 use Rattle.ripple_column.specs.ShownPivots.{IsAmong, shown_of}
 use Rattle.ripple_column.specs.declared.pending_lists.Pending.{Pending}
-use Rattle.ripple_column.specs.declared.cracked_and_shown.Pieces.{Pieces}
+use Rattle.ripple_column.specs.declared.pieces.Pieces.{Pieces}
 
 -- the greatest number of pivots that inner ones make: two less than the greatest of all, for the cuts of a range
 abbrev pub most_with_inner : ℕ
@@ -26,6 +27,10 @@ pub record AreCracked {A : Type 0} (old new : Pieces A) : Type 0 where
   pub spare : min 2 old.cracked.pivots.spare ≤ new.cracked.pivots.spare
   pub room : HasRoom old → HasRoom new
   pub few : length new.cracked.pivots.list ≤ max most_with_inner (length old.cracked.pivots.list)
+
+-- the rows outside the piece of a value stay where they are
+abbrev pub RestStays : {A : Type 0} → ℤ → Pieces A → Pieces A → Type 0
+RestStays v old new = (k : ℕ) (d : ℤ × List ℕ) → IsApart v old.cracked.pivots.list k → slice_index_or new.cracked.rows.items k d ≡ slice_index_or old.cracked.rows.items k d
 
 -- of what a column shows nothing changed but the room
 pub record StaysAsShown {A : Type 0} (old new : Pieces A) (waited waits : Pending A) : Type 0 where

@@ -1,6 +1,6 @@
-pub mod RowPlace
+pub mod StandsWithin
 pub mod Content
-pub mod Cuts
+pub mod CutPivots
 pub mod ColumnViewAndInvariant
 pub mod RangeAnswer
 pub mod MergeGap
@@ -10,3 +10,4 @@ pub mod PendingBloom
 pub mod ShownPivots
 pub mod InnerCrackEffects
 pub mod ClosedUp
+pub mod FrontRoom

@@ -1,4 +1,4 @@
--- Inner pivots: pivots beside those that a column shows. They part pieces that no cut of a range parts, so that a search in
+-- The pivots that a column shows, beside its inner pivots: these part pieces that no cut of a range parts, so that a search in
 -- a piece reads few rows.
 use Rattle.std.specs.Prelude.{◌≡◌, ◌==◌, ◌&&◌, ℕ, ℤ, Bool, true, List, Contains, if◌then◌else◌}
 use Rattle.std.specs.List.{list_any}

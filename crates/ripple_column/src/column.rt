@@ -6,13 +6,13 @@ ghost use Rattle.crack_kernel.specs.PivotList.{ObeysPivots};
 ghost use Rattle.ripple_column.specs.RangeAnswer.{AddsCuts, HasAnswer, HoldsRange, IsAnswer, StandsStill, low_cut, high_cut, pivots_with_cuts};
 ghost use Rattle.ripple_column.specs.Content.{HasRow, IsUnchanged, NoneIn, Pends, SameContent, SameOutside, content_count, has_score_in, most_pending};
 ghost use Rattle.ripple_column.specs.ClosedUp.{closed_up_pivots, closed_up_rows};
-ghost use Rattle.ripple_column.specs.Cuts.{is_before, values};
+ghost use Rattle.ripple_column.specs.CutPivots.{is_before, values};
 ghost use Rattle.ripple_column.specs.ShownPivots.{IsAmong};
 
-use crate::cracked_and_shown::Pieces;
 use crate::cracking::is_before;
 use crate::inner_pivots::{is_wide, narrow};
 use crate::pending_lists::{MAX_PENDING, MAX_RESERVED, Pending};
+use crate::pieces::Pieces;
 use crate::row_removal::remove_between;
 use crate::select::{select_between, settled_places};
 use crack_kernel::{MAX_PIVOTS, Row};
@@ -196,7 +196,7 @@ impl<A: Allocator + Copy> Column<A> {
     /// stands, and the rows behind them close up. Pivots stay: a place inside the gap becomes its start,
     /// one behind it moves up. What waits goes on waiting. It takes no memory.
     ///
-    /// Its cost grows with the rows that leave and those that stand behind them.
+    /// Its cost grows with the pivots, the rows that leave and, unless they are the first, those behind them.
     pub fn remove_rows(&mut self, range: &Range)
         requires ready { HasAnswer self.old range.now }
         ensures rows { (answer : ℕ × ℕ) → IsAnswer self.old range.now answer

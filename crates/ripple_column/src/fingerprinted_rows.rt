@@ -6,8 +6,10 @@ ghost use Rattle.crack_kernel.specs.Parts.{ChangesWithin, IsBelow, IsFrom};
 ghost use Rattle.ripple_column.specs.ClosedUp.{closed_up_rows};
 
 use crate::deletion_bloom::DeletionBloom;
+use crate::fingerprint_walk::{Wanted, next_like, next_within};
+use crate::front_room_rows::FrontRoomRows;
 use crate::row_hash::{is_of_score, row_fingerprint, score_fingerprint};
-use crack_kernel::{Row, crack_piece};
+use crack_kernel::Row;
 use std::alloc::{AllocError, Allocator};
 use std::marker::Model;
 
@@ -18,31 +20,17 @@ const CARRIED: usize = 8;
 /// Room for fewer rows has none for fingerprints: the rows themselves are read as fast.
 const FINGERPRINTED_FROM: usize = 256;
 
-/// A list of at least as many rows doubles where it grows; a shorter one grows by less, since its room is
-/// most of what a small set takes.
-const DOUBLED_FROM: usize = 128;
-
-/// The part of its rows by which a shorter list grows.
-const GROWTH: usize = 4;
-
-/// The fingerprints that a row may have: that of its score and its own.
-#[derive(Clone, Copy)]
-struct Wanted {
-    of_score: u32,
-    of_row: u32,
-}
-
 /// Rows, and their fingerprints, so that a walk over many rows reads 4 bytes of each one and not 32
 /// and a member.
 ///
-/// A row's fingerprint stands at its place, where the list reaches so far, or 0 where none is made
-/// yet. It is first that of the row's score, which needs no look at the member; where that tells
+/// A row's fingerprint stands at the row's place in its vector, where the list reaches so far, or 0 where
+/// none is made yet. It is first that of the row's score, which needs no look at the member; where that tells
 /// nothing, that of score and member takes its place. Contracts see the rows alone, as a `Vec`: with a
 /// wrong fingerprint a pass would only leave its row to the ripple moves, and a ripple deletion look at
 /// each row of the piece.
 #[derive(Drop)]
 pub struct Rows<A: Allocator> {
-    rows: Vec<Row<A>, A>,
+    rows: FrontRoomRows<A>,
     fingerprints: Vec<u32, A>,
 }
 
@@ -67,14 +55,14 @@ impl<A: Allocator> Rows<A> {
     pub fn list(&self) -> &[Row<A>]
         ensures { result.now ≡ self.now.items }
     {
-        &self.rows
+        self.rows.list()
     }
 
     /// For how many more rows there is room.
     pub fn spare(&self) -> usize
         ensures { vec_len self.now + result ≡ vec_capacity self.now }
     {
-        self.rows.capacity() - self.rows.len()
+        self.rows.spare()
     }
 
     /// Makes room for `additional` more rows and their fingerprints. On Err, the rows are unchanged.
@@ -83,11 +71,14 @@ impl<A: Allocator> Rows<A> {
         ensures len { vec_len self.new ≡ vec_len self.old }
         ensures ok { OnOk result (vec_len self.new + additional ≤ vec_capacity self.new) }
     {
-        reserve_rows(&mut self.rows, additional)?;
-        if self.rows.capacity() < FINGERPRINTED_FROM {
+        let left = self.rows.left();
+        self.rows.reserve(additional)?;
+        let moved = left.saturating_sub(self.rows.left());
+        self.take_out(0, moved);
+        if self.rows.places() < FINGERPRINTED_FROM {
             return Ok(());
         }
-        let missing = self.rows.capacity().saturating_sub(self.fingerprints.len());
+        let missing = self.rows.places().saturating_sub(self.fingerprints.len());
         self.fingerprints.reserve(missing)
     }
 
@@ -122,19 +113,6 @@ impl<A: Allocator> Rows<A> {
         self.rows.truncate(len);
     }
 
-    /// Drops the rows from the place `from` on and before the place `to`. Those behind them close up.
-    pub fn remove_between(&mut self, from: usize, to: usize)
-        requires order { from ≤ to }
-        requires within { to ≤ length self.old.items }
-        ensures { self.new.items ≡ closed_up_rows from to self.old.items }
-    {
-        let known = self.fingerprints.len();
-        if from < known {
-            self.fingerprints.drain(from..to.min(known));
-        }
-        self.rows.drain(from..to);
-    }
-
     /// Puts a row at a place, and drops the one that stood there.
     pub fn set(&mut self, at: usize, row: Row<A>)
         requires { at < vec_len self.old }
@@ -142,7 +120,7 @@ impl<A: Allocator> Rows<A> {
         ensures capacity { vec_capacity self.new ≡ vec_capacity self.old }
     {
         self.note(at, score_fingerprint(row.score()));
-        self.rows[at] = row;
+        self.rows.set(at, row);
     }
 
     /// Lets two rows change places.
@@ -154,9 +132,10 @@ impl<A: Allocator> Rows<A> {
         ensures by_index { SwappedAt self.old.items self.new.items i j }
     {
         self.rows.swap(i, j);
-        let known = self.fingerprints.len();
-        if i < known && j < known {
-            self.fingerprints.swap(i, j);
+        let first = self.rows.left().min(self.fingerprints.len());
+        let known = &mut self.fingerprints[first..];
+        if i < known.len() && j < known.len() {
+            known.swap(i, j);
         }
     }
 
@@ -175,34 +154,50 @@ impl<A: Allocator> Rows<A> {
         ensures capacity { vec_capacity self.new ≡ vec_capacity self.old }
     {
         self.forget(from, to);
-        crack_piece(&mut self.rows, from, to, v)
+        self.rows.crack(from, to, v)
     }
 
     /// Notes the fingerprint of the row at a place, or of one that is about to come there.
     fn note(&mut self, at: usize, fingerprint: u32)
         ensures { self.new ≡ self.old }
     {
-        if at < self.fingerprints.len() {
-            self.fingerprints[at] = fingerprint;
+        let first = self.rows.left().min(self.fingerprints.len());
+        let known = &mut self.fingerprints[first..];
+        if at < known.len() {
+            known[at] = fingerprint;
         }
+    }
+
+    /// The fingerprints from that of the first row on.
+    fn known(&self) -> &[u32] {
+        let first = self.rows.left().min(self.fingerprints.len());
+        &self.fingerprints[first..]
     }
 
     /// The fingerprint of the row at a place, or 0 where none is made.
     fn fingerprint(&self, at: usize) -> u32 {
-        if at < self.fingerprints.len() {
-            self.fingerprints[at]
-        } else {
-            0
-        }
+        self.known().get(at).copied().unwrap_or(0)
     }
 
     /// Forgets the fingerprints from the place `from` on and before the place `to`.
     fn forget(&mut self, from: usize, to: usize)
         ensures { self.new ≡ self.old }
     {
-        let to = to.min(self.fingerprints.len());
-        if from < to {
-            self.fingerprints[from..to].fill(0);
+        let first = self.rows.left().min(self.fingerprints.len());
+        let known = &mut self.fingerprints[first..];
+        let end = to.min(known.len());
+        if from < end {
+            known[from..end].fill(0);
+        }
+    }
+
+    /// Takes the fingerprints of the places from `from` on and before `to` of the vector out.
+    fn take_out(&mut self, from: usize, to: usize)
+        ensures { self.new ≡ self.old }
+    {
+        let end = to.min(self.fingerprints.len());
+        if from < end {
+            self.fingerprints.drain(from..end);
         }
     }
 
@@ -211,8 +206,8 @@ impl<A: Allocator> Rows<A> {
     pub fn extend_fingerprints(&mut self)
         ensures { self.new ≡ self.old }
     {
-        if self.rows.capacity() >= FINGERPRINTED_FROM {
-            let _in_room = self.fingerprints.resize(self.rows.capacity(), 0);
+        if self.rows.places() >= FINGERPRINTED_FROM {
+            let _in_room = self.fingerprints.resize(self.rows.places(), 0);
         }
     }
 
@@ -241,7 +236,7 @@ impl<A: Allocator> Rows<A> {
         requires { at < length self.old.items }
         ensures { self.new ≡ self.old }
     {
-        let found = &self.rows[at];
+        let found = &self.rows.list()[at];
         if found.is_same(row) {
             return true;
         }
@@ -267,12 +262,12 @@ impl<A: Allocator> Rows<A> {
         if self.fingerprints.is_empty() {
             return to;
         }
-        let mut at = next_like(&self.fingerprints, from, to, wanted);
+        let mut at = next_like(self.known(), from, to, wanted);
         while at < to {
             if self.is_at(at, row) {
                 return at;
             }
-            at = next_like(&self.fingerprints, at + 1, to, wanted);
+            at = next_like(self.known(), at + 1, to, wanted);
         }
         to
     }
@@ -283,12 +278,13 @@ impl<A: Allocator> Rows<A> {
         requires { at < length self.old.items }
         ensures { self.new ≡ self.old }
     {
+        let row = &self.rows.list()[at];
         let mut fingerprint = self.fingerprint(at);
         if fingerprint == 0 {
-            fingerprint = score_fingerprint(self.rows[at].score());
+            fingerprint = score_fingerprint(row.score());
         }
         if is_of_score(fingerprint) && filter.may_have(fingerprint) {
-            fingerprint = row_fingerprint(&self.rows[at]);
+            fingerprint = row_fingerprint(row);
         }
         self.note(at, fingerprint);
         filter.may_have(fingerprint)
@@ -303,12 +299,12 @@ impl<A: Allocator> Rows<A> {
         ensures low { from ≤ result }
         ensures high { result ≤ to }
     {
-        let mut at = next_within(&self.fingerprints, from, to, filter);
+        let mut at = next_within(self.known(), from, to, filter);
         while at < to {
             if self.may_leave(at, filter) {
                 return at;
             }
-            at = next_within(&self.fingerprints, at + 1, to, filter);
+            at = next_within(self.known(), at + 1, to, filter);
         }
         to
     }
@@ -320,93 +316,26 @@ impl<A: Allocator + Copy> Rows<A> {
         ensures { result.items ≡ [] }
     {
         Rows {
-            rows: Vec::new(alloc),
+            rows: FrontRoomRows::new(alloc),
             fingerprints: Vec::new(alloc),
         }
     }
 
     /// What the rows take their memory from.
     pub fn allocator(&self) -> A {
-        *self.rows.allocator()
+        self.rows.allocator()
     }
-}
 
-/// Makes room for `additional` more rows. A short list gets little more than that.
-pub fn reserve_rows<A: Allocator>(
-    rows: &mut Vec<Row<A>, A>,
-    additional: usize,
-) -> Result<(), AllocError>
-    ensures items { rows.new.items ≡ rows.old.items }
-    ensures len { vec_len rows.new ≡ vec_len rows.old }
-    ensures ok { OnOk result (vec_len rows.new + additional ≤ vec_capacity rows.new) }
-{
-    let len = rows.len();
-    if len >= DOUBLED_FROM || additional <= rows.capacity() - len {
-        return rows.reserve(additional);
-    }
-    rows.reserve_exact(additional.max(len / GROWTH))
-}
-
-/// The first place from `from` on and before `to` of which the filter may have the fingerprint, or
-/// which has none, or `to`.
-fn next_within(fingerprints: &[u32], from: usize, to: usize, filter: &DeletionBloom) -> usize
-    requires { from ≤ to }
-    ensures low { from ≤ result }
-    ensures high { result ≤ to }
-{
-    let known = to.min(fingerprints.len());
-    for at in from..known {
-        if filter.may_have(fingerprints[at]) {
-            return at;
+    /// Drops the rows from the place `from` on and before the place `to`. Those behind them close up.
+    pub fn remove_between(&mut self, from: usize, to: usize)
+        requires order { from ≤ to }
+        requires within { to ≤ length self.old.items }
+        ensures { self.new.items ≡ closed_up_rows from to self.old.items }
+    {
+        let left = self.rows.left();
+        if from > 0 {
+            self.take_out(left + from, left + to);
         }
+        self.rows.remove_between(from, to);
     }
-    known.max(from)
-}
-
-/// Whether a row with the fingerprint may be the one that is wanted.
-fn is_like(fingerprint: u32, wanted: Wanted) -> bool {
-    (fingerprint == wanted.of_row) | (fingerprint == wanted.of_score) | (fingerprint == 0)
-}
-
-/// Whether one of the four fingerprints from the index `from` on is like that of the row that is
-/// wanted.
-fn four_like(fingerprints: &[u32], from: usize, wanted: Wanted) -> bool
-    requires { from + 4 ≤ length fingerprints.now }
-{
-    is_like(fingerprints[from], wanted)
-        | is_like(fingerprints[from + 1], wanted)
-        | is_like(fingerprints[from + 2], wanted)
-        | is_like(fingerprints[from + 3], wanted)
-}
-
-/// Goes on from `from` over fingerprints that are not like that of the row that is wanted, by four at a
-/// time.
-fn skip_unlike(fingerprints: &[u32], from: usize, to: usize, wanted: Wanted) -> usize
-    requires order { from ≤ to }
-    requires within { to ≤ length fingerprints.now }
-    ensures low { from ≤ result }
-    ensures high { result ≤ to }
-{
-    let mut at = from;
-    while to - at >= 4 && !four_like(fingerprints, at, wanted) {
-        at += 4;
-    }
-    at
-}
-
-/// The first place from `from` on and before `to` of which the fingerprint is like that of the row that
-/// is wanted, or which has none; or `to`.
-fn next_like(fingerprints: &[u32], from: usize, to: usize, wanted: Wanted) -> usize
-    ensures { from ≤ result }
-{
-    let known = to.min(fingerprints.len());
-    if from >= known {
-        return from;
-    }
-    for at in skip_unlike(fingerprints, from, known, wanted)..known {
-        if is_like(fingerprints[at], wanted) {
-            return at;
-        }
-    }
-    known
 }

@@ -3,19 +3,19 @@
 //!
 //! Where a range cuts nothing, as one from -inf to +inf, its piece would stay the whole column.
 
-ghost use Rattle.ripple_column.specs.InnerCrackEffects.{AreCracked};
+ghost use Rattle.ripple_column.specs.InnerCrackEffects.{AreCracked, RestStays};
 
 use crate::cracked::Cracked;
-use crate::cracked_and_shown::Pieces;
 use crate::cracking::crack_at;
 use crate::pending_lists::PendingList;
+use crate::pieces::Pieces;
 use crate::ripple::{place_or, start_below};
 use crack_kernel::{MAX_PIVOTS, Row};
 use std::alloc::Allocator;
 
 /// How many scores of a piece are read to find one that parts it: few beside the rows of the
 /// smallest piece that is cracked, and enough that a part is seldom much smaller than meant.
-const SAMPLE: usize = 64;
+pub const SAMPLE: usize = 64;
 
 /// A search for a row cracks no piece of fewer rows: they are read faster than they are cracked.
 const SEARCHED_ROWS: usize = 2048;
@@ -39,8 +39,9 @@ const MAX_WITH_INNER: usize = MAX_PIVOTS - 2;
 
 /// Cracks the piece of `v`, which becomes an inner pivot, and answers whether it did. It does not
 /// where `v` is a pivot, and where there would be too many pivots or no memory for them.
-fn crack_inside<A: Allocator>(pieces: &mut Pieces<A>, v: i64) -> bool
-    ensures { AreCracked pieces.old pieces.new }
+pub fn crack_inside<A: Allocator>(pieces: &mut Pieces<A>, v: i64) -> bool
+    ensures cracked { AreCracked pieces.old pieces.new }
+    ensures rest { RestStays v pieces.old pieces.new }
 {
     let pivots = &pieces.cracked.pivots;
     if pivots.len() >= MAX_WITH_INNER || pivots.find(v).is_some() || !pieces.set_apart() {
@@ -55,10 +56,8 @@ fn crack_inside<A: Allocator>(pieces: &mut Pieces<A>, v: i64) -> bool
     }
 }
 
-/// A score that parts these rows, from a sample: the one that a row at the place has once they are
-/// in order, and `beside` places of the sample beside it, on the side where more rows are. None where
-/// the sample has one score alone.
-fn parting_score<A: Allocator>(rows: &[Row<A>], place: usize, beside: usize) -> Option<i64> {
+/// The scores of so many of these rows, at equal distances, in order. None where there are fewer rows.
+pub fn sorted_sample<A: Allocator>(rows: &[Row<A>]) -> Option<[i64; SAMPLE]> {
     let step = rows.len() / SAMPLE;
     if step == 0 {
         return None;
@@ -70,18 +69,32 @@ fn parting_score<A: Allocator>(rows: &[Row<A>], place: usize, beside: usize) -> 
         at = at.saturating_add(step);
     }
     sample.sort_unstable();
+    Some(sample)
+}
+
+/// The score at a place of a sorted sample, or the first one behind it that parts the sample. None
+/// where the sample has one score alone.
+pub fn parting_score_at(sample: &[i64; SAMPLE], index: usize) -> Option<i64> {
     let least = sample[0];
     let above = sample.partition_point(|score| *score <= least);
     if above >= SAMPLE {
         return None;
     }
-    let near = place / step;
+    Some(sample[index.max(above).min(SAMPLE - 1)])
+}
+
+/// A score that parts these rows, from a sample: the one that a row at the place has once they are
+/// in order, and `beside` places of the sample beside it, on the side where more rows are. None where
+/// the sample has one score alone.
+fn parting_score<A: Allocator>(rows: &[Row<A>], place: usize, beside: usize) -> Option<i64> {
+    let sample = sorted_sample(rows)?;
+    let near = place / (rows.len() / SAMPLE).max(1);
     let index = if near < SAMPLE / 2 {
         near.saturating_add(beside)
     } else {
         near.saturating_sub(beside)
     };
-    Some(sample[index.max(above).min(SAMPLE - 1)])
+    parting_score_at(&sample, index)
 }
 
 /// Whether a search had better crack a piece of so many rows.

@@ -8,24 +8,27 @@
 #![tactic(auto)]
 
 mod bulk_merge;
+mod center_cracks;
 mod column;
 mod cracked;
-mod cracked_and_shown;
 mod cracking;
 mod deletion_bloom;
+mod fingerprint_walk;
 mod fingerprinted_rows;
+mod front_room_rows;
 mod inner_pivots;
 mod merge;
 mod merge_gap;
 mod merge_pass;
 mod pending_bloom;
 mod pending_lists;
+mod pending_rows;
+mod pieces;
 mod ripple;
 mod row_hash;
 mod row_removal;
 mod select;
 mod shown_pivots;
-mod waiting_rows;
 
 pub use column::Column;
 pub use pending_lists::{MAX_PENDING, MAX_RESERVED};

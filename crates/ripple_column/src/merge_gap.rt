@@ -13,6 +13,7 @@ ghost use Rattle.ripple_column.specs.MergeEffects.{KeepsFrame};
 
 use crate::deletion_bloom::DeletionBloom;
 use crate::fingerprinted_rows::Rows;
+use crate::front_room_rows::blank_row;
 use crate::pending_lists::{PendingList, row_cmp};
 use crate::ripple::{place_or, start_below};
 use crack_kernel::{Pivots, Row};
@@ -41,13 +42,6 @@ pub enum Direction {
 pub struct Tail {
     pub from: usize,
     pub direction: Direction,
-}
-
-/// The row that fills a gap. It takes no memory.
-fn blank_row<A: Allocator>(alloc: A) -> Row<A>
-    ensures { result ≡ blank }
-{
-    Row::new(0, Vec::new(alloc))
 }
 
 /// Puts `count` blank rows behind the last row.

@@ -9,8 +9,8 @@ ghost use Rattle.ripple_column.specs.MergeEffects.{HasLast};
 ghost use Rattle.ripple_column.specs.RowHash.{hash_of};
 
 use crate::pending_bloom::PendingBloom;
+use crate::pending_rows::PendingRows;
 use crate::row_hash::hash_of;
-use crate::waiting_rows::WaitingRows;
 use crack_kernel::Row;
 use score_bounds::{Interval, Range};
 use std::alloc::{AllocError, Allocator};
@@ -37,7 +37,7 @@ const KEEPS_ROOM_FROM: usize = 1024;
 /// Contracts see the rows alone, as a `Vec`.
 #[derive(Drop)]
 pub struct PendingList<A: Allocator> {
-    rows: WaitingRows<A>,
+    rows: PendingRows<A>,
     marks: PendingBloom<A>,
 }
 
@@ -59,7 +59,7 @@ impl<A: Allocator + Copy> PendingList<A> {
         ensures { result.items ≡ [] }
     {
         PendingList {
-            rows: WaitingRows::new(alloc),
+            rows: PendingRows::new(alloc),
             marks: PendingBloom::new(alloc),
         }
     }

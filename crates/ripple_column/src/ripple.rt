@@ -7,7 +7,7 @@
 ghost use Rattle.std.specs.Prelude.{◌≡◌, ◌-◌, ◌<◌, ◌≤◌, ◌==◌, ◌++◌, ◌∷◌, [], pos, if◌then◌else◌, length, Contains, IsPermutation, slice_index_or, vec_len, vec_capacity};
 ghost use Rattle.std.specs.List.{HoldsAt};
 ghost use Rattle.crack_kernel.specs.PivotList.{ObeysPivots};
-ghost use Rattle.ripple_column.specs.RowPlace.{StandsWithin};
+ghost use Rattle.ripple_column.specs.StandsWithin.{StandsWithin};
 ghost use Rattle.ripple_column.specs.MergeEffects.{KeepsFrame};
 
 use crate::fingerprinted_rows::Rows;

@@ -5,11 +5,11 @@ ghost use Rattle.ripple_column.specs.ClosedUp.{closed_up_pivots, closed_up_rows}
 ghost use Rattle.ripple_column.specs.InnerCrackEffects.{shown};
 
 use crate::cracked::Cracked;
-use crate::cracked_and_shown::Pieces;
+use crate::pieces::Pieces;
 use std::alloc::Allocator;
 
 /// Drops the rows from the place `from` on and before the place `to`.
-fn close_up<A: Allocator>(cracked: &mut Cracked<A>, from: usize, to: usize)
+fn close_up<A: Allocator + Copy>(cracked: &mut Cracked<A>, from: usize, to: usize)
     requires order { from ≤ to }
     requires within { to ≤ length cracked.old.rows.items }
     ensures rows { cracked.new.rows.items ≡ closed_up_rows from to cracked.old.rows.items }
@@ -20,7 +20,7 @@ fn close_up<A: Allocator>(cracked: &mut Cracked<A>, from: usize, to: usize)
 }
 
 /// Drops the rows from the place `from` on and before the place `to`. It takes no memory.
-pub fn remove_between<A: Allocator>(pieces: &mut Pieces<A>, from: usize, to: usize)
+pub fn remove_between<A: Allocator + Copy>(pieces: &mut Pieces<A>, from: usize, to: usize)
     requires order { from ≤ to }
     requires within { to ≤ length pieces.old.cracked.rows.items }
     ensures rows { pieces.new.cracked.rows.items ≡ closed_up_rows from to pieces.old.cracked.rows.items }

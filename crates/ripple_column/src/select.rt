@@ -6,13 +6,14 @@ ghost use Rattle.crack_kernel.specs.PivotList.{IsRising};
 ghost use Rattle.ripple_column.specs.Content.{has_score_in, NoneIn, SameOutside};
 ghost use Rattle.ripple_column.specs.MergeEffects.{Merges};
 ghost use Rattle.ripple_column.specs.InnerCrackEffects.{HasRoom, StaysAsShown, most_with_inner, shown};
-ghost use Rattle.ripple_column.specs.Cuts.{is_before, values, cut_values, count_with_cuts, new_values, values_with_cuts, StandsAt, IsUncracked};
+ghost use Rattle.ripple_column.specs.CutPivots.{is_before, values, cut_values, count_with_cuts, new_values, values_with_cuts, StandsAt, IsUncracked};
 
-use crate::cracked_and_shown::Pieces;
+use crate::center_cracks::approach_cuts;
 use crate::cracking::{count_missing, crack_between, is_before};
 use crate::inner_pivots::break_up;
 use crate::merge::merge_gathered;
-use crate::pending_lists::{Pending, PendingList};
+use crate::pending_lists::Pending;
+use crate::pieces::Pieces;
 use crate::shown_pivots::{renew_places, show_cuts};
 use crack_kernel::{MAX_PIVOTS, Pivots};
 use score_bounds::{Cut, Range};
@@ -25,14 +26,15 @@ const MANY_SHOWN: usize = 512;
 /// Few inner pivots: fewer than this part of those that are shown.
 const FEW_INNER: usize = 8;
 
-/// Drops the inner pivots where they are few beside many that are shown.
-fn drop_few_inner<A: Allocator>(pieces: &mut Pieces<A>)
+/// Drops the inner pivots where they are few beside many that are shown, and a merge is to come.
+fn drop_few_inner<A: Allocator>(pieces: &mut Pieces<A>, pending: &Pending<A>, range: &Range)
     ensures rows { pieces.new.cracked.rows ≡ pieces.old.cracked.rows }
     ensures shown { shown pieces.new ≡ shown pieces.old }
 {
     let all = pieces.cracked.pivots.len();
     let shown = pieces.kept.len();
-    if pieces.apart && shown >= MANY_SHOWN && shown <= all && (all - shown) * FEW_INNER < shown {
+    let are_few = shown >= MANY_SHOWN && shown <= all && (all - shown) * FEW_INNER < shown;
+    if pieces.apart && are_few && pending.has_within(range) {
         pieces.drop_inner();
     }
 }
@@ -66,14 +68,14 @@ fn fit_cuts<A: Allocator>(pieces: &mut Pieces<A>, first: &Cut, second: &Cut)
 /// these would be too many, pivots are dropped: the inner ones alone, if that is enough.
 pub fn make_room<A: Allocator>(
     pieces: &mut Pieces<A>,
-    insertions: &PendingList<A>,
+    pending: &Pending<A>,
     range: &Range,
     first: &Cut,
     second: &Cut,
 ) -> Result<(), AllocError>
     ensures rows { pieces.new.cracked.rows.items ≡ pieces.old.cracked.rows.items }
     ensures refused { OnErr result (shown pieces.new ≡ shown pieces.old) }
-    ensures room { OnOk result (vec_len pieces.new.cracked.rows + count_by (has_score_in range.now) insertions.now.items
+    ensures room { OnOk result (vec_len pieces.new.cracked.rows + count_by (has_score_in range.now) pending.now.insertions.items
         ≤ vec_capacity pieces.new.cracked.rows) }
 
     // The pivots that are shown.
@@ -89,11 +91,12 @@ pub fn make_room<A: Allocator>(
     ensures few { OnOk result (count_with_cuts first.now second.now pieces.new.cracked.pivots.list ≤ MAX_PIVOTS) }
 {
     // Where all that waits would find room, what waits in the range need not be counted.
+    let insertions = &pending.insertions;
     if pieces.cracked.rows.spare() < insertions.len() {
         let arriving = insertions.count_within(range);
         pieces.cracked.rows.reserve(arriving)?;
     }
-    drop_few_inner(pieces);
+    drop_few_inner(pieces, pending, range);
     pieces.reserve_cuts()?;
     fit_cuts(pieces, first, second);
     Ok(())
@@ -211,8 +214,9 @@ pub fn select_between<A: Allocator + Copy>(
     if !is_before(first, second) {
         return Ok((0, 0));
     }
-    make_room(pieces, &pending.insertions, range, first, second)?;
+    make_room(pieces, pending, range, first, second)?;
     settle(pieces, pending, range);
+    approach_cuts(pieces, first, second);
     Ok(crack_and_show(pieces, first, second))
 }
 

@@ -3,14 +3,14 @@
 ghost use Rattle.std.specs.Prelude.{◌≡◌, ◌+◌, ◌<◌, ◌≤◌, ◌++◌, ℤ, ℕ, List, [], true, false, length, Contains, IsPermutation, OnOk, OnErr, min, max, vec_len, vec_capacity};
 ghost use Rattle.crack_kernel.specs.RowBag.{IsSubBag};
 ghost use Rattle.crack_kernel.specs.PivotList.{IsRising};
-ghost use Rattle.ripple_column.specs.Cuts.{is_before, values, count_with_cuts, new_values, values_with_cuts, StandsAt};
+ghost use Rattle.ripple_column.specs.CutPivots.{is_before, values, count_with_cuts, new_values, values_with_cuts, StandsAt};
 ghost use Rattle.ripple_column.specs.ShownPivots.{HasCut, IsAmong, shown_of};
 ghost use Rattle.ripple_column.specs.MergeEffects.{Merges};
 ghost use Rattle.ripple_column.specs.InnerCrackEffects.{HasRoom, StaysAsShown, shown};
 
-use crate::cracked_and_shown::Pieces;
 use crate::merge::{merge_all, reserve_write};
 use crate::pending_lists::{MAX_PENDING, MAX_RESERVED, Pending};
+use crate::pieces::Pieces;
 use crack_kernel::{MAX_PIVOTS, Pivots};
 use score_bounds::Cut;
 use std::alloc::{AllocError, Allocator};

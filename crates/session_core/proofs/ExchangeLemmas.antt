@@ -4,7 +4,7 @@ use Rattle.std.proofs.lemmas.List.{append-nil}
 use Rattle.std.proofs.lemmas.List.Concat.{flat_map-append}
 use Rattle.resp_wire.specs.declared.fault.ProtocolFault.{ProtocolFault}
 use Rattle.resp_wire.specs.Response.{Response, encoded}
-use Rattle.zset_core.specs.CommandRequest.{Asked}
+use Rattle.zset_core.specs.AbstractCommand.{Asked}
 use Rattle.zset_core.specs.declared.refusal.Refusal.{Refusal}
 use Rattle.session_core.specs.declared.fault.SessionFault.{SessionFault}
 use Rattle.session_core.specs.declared.fault.SessionFault.TheVariants.{NoMemory, ReadFault, WriteFault, Wire, TooManyReads}

@@ -8,7 +8,7 @@ use Rattle.resp_wire.specs.RequestEncoding.{request, encoding_of}
 use Rattle.resp_wire.specs.Stream.{requests, rest, fault}
 use Rattle.resp_wire.specs.DecoderView.{DecoderView, Gave, Waits}
 use Rattle.resp_wire.specs.Response.{Response, encoded}
-use Rattle.zset_core.specs.CommandRequest.{Asked}
+use Rattle.zset_core.specs.AbstractCommand.{Asked}
 use Rattle.zset_core.specs.declared.refusal.Refusal.{Refusal}
 use Rattle.session_core.specs.declared.fault.SessionFault.{SessionFault}
 use Rattle.session_core.specs.declared.fault.SessionFault.TheVariants.{NoMemory, ReadFault, WriteFault, Wire as WireFaultEnd, TooManyReads}

@@ -9,7 +9,7 @@ use Rattle.std.proofs.lemmas.List.Sorted.{sum_by-IsPermutation}
 use Rattle.set_table.specs.declared.counts.Tally.{Tally}
 use Rattle.set_table.specs.declared.table.close.totals.Totals.{Totals}
 use Rattle.set_table.specs.CellStates.{CellView, InStep}
-use Rattle.set_table.specs.PassStates.{PassView}
+use Rattle.set_table.specs.WorkerPasses.{PassView}
 use Rattle.set_table.specs.Tallies.{empty_tally, added_of, removed_of}
 use Rattle.set_table.specs.ClosingTotals.{AddsUp, added_at, removed_at, members_at, sum_below, sum_of, pass_at, share_at, no_pass}
 use Rattle.set_table.specs.ClosingSteps.{HaveShares, AddsPlace, AddsUpTo}

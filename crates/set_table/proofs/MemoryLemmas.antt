@@ -3,7 +3,7 @@ use Rattle.std.proofs.Common.{◌≡◌, ◌≢◌, ◌⊎◌, inl, inr, ℕ, Li
 use Rattle.std.proofs.Math.ListN.{get_or}
 use Rattle.std.specs.declared.option.Option.{Option}
 use Rattle.set_table.specs.declared.naming.memory.MetKey.{MetKey}
-use Rattle.set_table.specs.KeyMemory.{Says, IsMet, AllMet, HasHash, AllHashed}
+use Rattle.set_table.specs.KeyCache.{Says, IsMet, AllMet, HasHash, AllHashed}
 use Rattle.set_table.specs.Naming.{Naming, NotesView, Grows, BearsOther, IsPlace, Learns, hash_from, name_at}
 use Rattle.set_table.proofs.PlaceLemmas.{place_grows, same_some}
 

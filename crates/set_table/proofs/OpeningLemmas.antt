@@ -20,11 +20,11 @@ use Rattle.std.proofs.lemmas.List.Elements.{All-push}
 use Rattle.std.proofs.lemmas.List.Sums.{sum_by-cons, sum_by-set, sum_by_more}
 use Rattle.std.proofs.lemmas.Map.Text.{is_eq-slice_cmp}
 use Rattle.zset_core.specs.SortedSet.{Members, bytes_cmp}
-use Rattle.zset_core.specs.ViewTypes.{SetView}
+use Rattle.zset_core.specs.SetAndOwnerViews.{SetView}
 use Rattle.zset_core.specs.World.{World}
 use Rattle.set_table.specs.CellStates.{CellView, new_cell}
 use Rattle.set_table.specs.Naming.{Naming, NotesView, AreNotesOf, Grows, IsPlace, name_at, hash_from}
-use Rattle.set_table.specs.PassStates.{TableView, PassView, AreSharesOf}
+use Rattle.set_table.specs.WorkerPasses.{TableView, PassView, AreSharesOf}
 use Rattle.set_table.specs.Tallies.{ShareView}
 use Rattle.set_table.specs.Opening.{Keyed, keyed_at, HasItsPlace, AllHavePlaces, AreEmptySets, AreIdleSets, AreNewCells, AreNewPasses, AreNewShares, IsNewPass, IsOpened, cards_of, members_of, pass_at, sum_of}
 use Rattle.set_table.proofs.PlaceLemmas.{place_grows, same_some}

@@ -2,10 +2,10 @@
 use Rattle.std.proofs.Common.{◌≡◌, ℕ, ◌+◌, true, false, Option, Some, None, IfSome, IsTrue, IsSome, Result, Ok, IfOk, inl, inr, refl, sym, subst, ◌∙◌, arith}
 use Rattle.resp_wire.specs.Response.{Response}
 use Rattle.zset_core.specs.SortedSet.{Members}
-use Rattle.zset_core.specs.CommandRequest.{Asked, is_writing, Meaning}
+use Rattle.zset_core.specs.AbstractCommand.{Asked, is_writing, Meaning}
 use Rattle.zset_core.specs.ChangeOutline.{IsOutline}
 use Rattle.zset_core.specs.Semantics.{step}
-use Rattle.zset_core.specs.ViewTypes.{Next, Shows, IsPreparedFor}
+use Rattle.zset_core.specs.SetAndOwnerViews.{Next, Shows, IsPreparedFor}
 use Rattle.zset_core.specs.declared.set.change_outline.Outline.{Outline}
 use Rattle.zset_core.specs.declared.refusal.Refusal.{Refusal}
 use Rattle.zset_core.specs.declared.refusal.Refusal.TheVariants.{NoMemory, UnknownCommand, WrongArity, Syntax, NxAndXx, GtLtNx, IncrPair, BadScore, BadBound, BadInteger, TableFull, Spent, ScoreOverflow, LogBroken, LogFull, LogRefused, OutOfStep}

@@ -4,8 +4,8 @@ use Rattle.std.specs.FinMap as fin
 use Rattle.std.proofs.lemmas.List.Folds.{sum_by-replicate}
 use Rattle.std.proofs.lemmas.List.Sums.{sum_by-set, get_or-le-sum_by}
 use Rattle.resp_wire.specs.Response.{Response}
-use Rattle.zset_core.specs.CommandRequest.{Asked}
-use Rattle.zset_core.specs.ViewTypes.{SetView}
+use Rattle.zset_core.specs.AbstractCommand.{Asked}
+use Rattle.zset_core.specs.SetAndOwnerViews.{SetView}
 use Rattle.set_table.specs.declared.counts.Tally.{Tally}
 use Rattle.set_table.specs.declared.counts.Counts.{Counts}
 use Rattle.set_table.specs.declared.counts.OwnCounts.{OwnCounts}

@@ -1,6 +1,6 @@
 -- What is known on the way while a table is closed.
 use Rattle.std.specs.Prelude.{◌≡◌, ℕ, ◌+◌, ◌*◌, ◌^◌, ◌≤◌, ◌<◌, min, List, length, take}
-use Rattle.set_table.specs.PassStates.{PassView}
+use Rattle.set_table.specs.WorkerPasses.{PassView}
 use Rattle.set_table.specs.ClosingTotals.{pass_at, share_at, added_at, removed_at, members_at, sum_below, sum_of}
 use Rattle.set_table.specs.declared.table.close.totals.Totals.{Totals}
 

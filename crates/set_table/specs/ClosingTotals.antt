@@ -4,7 +4,7 @@ use Rattle.std.specs.List.{sum_by}
 use Rattle.std.proofs.Math.ListN.{get_or}
 use Rattle.set_table.specs.Naming.{name_at, IsPlace}
 pub use Rattle.set_table.specs.Opening.{no_pass, pass_at, sum_of}
-use Rattle.set_table.specs.PassStates.{PassView, no_share}
+use Rattle.set_table.specs.WorkerPasses.{PassView, no_share}
 use Rattle.set_table.specs.Tallies.{ShareView}
 use Rattle.set_table.specs.declared.table.close.totals.Totals.{Totals}
 

@@ -2,8 +2,8 @@ pub mod Tallies
 pub mod SetSteps
 pub mod CellStates
 pub mod Naming
-pub mod KeyMemory
-pub mod PassStates
+pub mod KeyCache
+pub mod WorkerPasses
 pub mod TableAnswers
 pub mod Opening
 pub mod ClosingTotals

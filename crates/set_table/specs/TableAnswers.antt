@@ -2,13 +2,12 @@
 use Rattle.std.specs.Prelude.{◌≡◌, ℕ, ◌⊎◌, List, None, Some, false}
 use Rattle.std.specs.FinMap as fin
 use Rattle.resp_wire.specs.Response.{response_of}
-use Rattle.zset_core.specs.CommandGrammar.{is_creating}
-use Rattle.zset_core.specs.CommandRequest.{Asked, Meaning, key_of}
+use Rattle.zset_core.specs.AbstractCommand.{Asked, Meaning, key_of, is_creating}
 use Rattle.zset_core.specs.Semantics.{step}
 use Rattle.zset_core.specs.declared.refusal.Refusal.{Refusal}
 use Rattle.zset_core.specs.declared.refusal.Refusal.TheVariants.{NoMemory, TableFull, ScoreOverflow, LogBroken, LogFull, LogRefused, Spent, OutOfStep}
 use Rattle.set_table.specs.Naming.{IsPlace, IsFull}
-use Rattle.set_table.specs.PassStates.{TableView, PassView, WasAnswered}
+use Rattle.set_table.specs.WorkerPasses.{TableView, PassView, WasAnswered}
 use Rattle.set_table.specs.declared.table.Answered.{Answered}
 use Rattle.set_table.specs.declared.table.Answered.TheVariants.{Ran, NoPlace}
 

@@ -4,8 +4,8 @@ ghost use Rattle.std.specs.Prelude.{◌≡◌, ◌<◌, ◌≤◌, ◌^◌, ◌�
 ghost use Rattle.std.proofs.Math.ListN.{get_or, set};
 ghost use Rattle.std.specs.FinMap as map;
 ghost use Rattle.ripple_column.specs.Content.{Holds};
-ghost use Rattle.zset_core.specs.CommandRequest.{key_of};
-ghost use Rattle.zset_core.specs.ReadyForCommand.{IsReadyFor};
+ghost use Rattle.zset_core.specs.AbstractCommand.{key_of};
+ghost use Rattle.zset_core.specs.AnswerableAsItStands.{IsReadyFor};
 ghost use Rattle.zset_core.specs.SortedSet.{pairs};
 ghost use Rattle.set_table.specs.CellStates.{HasNoReading, HasRead, HasRun, InStep, IsRefused, IsWhole, WasRun, counts_of, new_cell};
 ghost use Rattle.set_table.specs.TableAnswers.{IsSetRefusal};
@@ -50,7 +50,7 @@ impl<H: BuildHasher, L: Ledger, A: Allocator + Copy> Model for Cell<H, L, A> {
     ghost Value = { CellView };
 
     ghost use Rattle.std.specs.Coded.{codes};
-    ghost use Rattle.zset_core.specs.ViewTypes.{coded_members};
+    ghost use Rattle.zset_core.specs.SetAndOwnerViews.{coded_members};
 
     ghost coded = { Prim.hlevel (codes, coded_members) };
 

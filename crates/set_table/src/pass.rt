@@ -23,7 +23,7 @@ pub struct Pass<A: Allocator> {
 }
 
 impl<A: Allocator> Model for Pass<A> {
-    ghost use Rattle.set_table.specs.PassStates.{PassView};
+    ghost use Rattle.set_table.specs.WorkerPasses.{PassView};
 
     ghost Value = { PassView };
 

@@ -1,9 +1,9 @@
 //! Sets behind locks of their own, found by names that are set once.
 
 ghost use Rattle.std.specs.Prelude.{◌≡◌, ◌<◌, false, length, IfOk, IfErr, IfSome, OnErr, IsSome, MatchOption};
-ghost use Rattle.zset_core.specs.CommandRequest.{key_of, is_writing};
+ghost use Rattle.zset_core.specs.AbstractCommand.{key_of, is_writing};
 ghost use Rattle.set_table.specs.Naming.{Grows, IsPlace};
-ghost use Rattle.set_table.specs.PassStates.{IsPassOf, WasAnswered};
+ghost use Rattle.set_table.specs.WorkerPasses.{IsPassOf, WasAnswered};
 ghost use Rattle.set_table.specs.TableAnswers.{HasNoPlace, IsAnswered, IsClaimRefusal, IsSetRefusal, IsTableRefusal};
 
 mod close;
@@ -41,7 +41,7 @@ pub struct Table<H: BuildHasher, S: LogSink, L: Ledger, A: Allocator + Copy> {
 
 impl<H: BuildHasher, S: LogSink, L: Ledger, A: Allocator + Copy> Model for Table<H, S, L, A> {
     ghost use Rattle.std.specs.Prelude.{◌≡◌, ◌<◌, ◌≤◌, length};
-    ghost use Rattle.set_table.specs.PassStates.{TableView};
+    ghost use Rattle.set_table.specs.WorkerPasses.{TableView};
 
     ghost Value = { TableView };
 

@@ -1,5 +1,5 @@
 ghost use Rattle.std.specs.Prelude.{◌≡◌, None, IsSome, OnOk, OnErr, option_map};
-ghost use Rattle.zset_core.specs.CommandRequest.{key_of};
+ghost use Rattle.zset_core.specs.AbstractCommand.{key_of};
 
 use resp_wire::{Bytes, BytesList, Reply, Request, write_reply};
 use std::alloc::Global;

@@ -1,7 +1,7 @@
 //! How many names are compared with a key to find its place.
 
 ghost use Rattle.std.specs.Prelude.{◌≡◌, ◌≤◌, ◌+◌, None};
-ghost use Rattle.set_table.specs.PassStates.{IsPassOf};
+ghost use Rattle.set_table.specs.WorkerPasses.{IsPassOf};
 
 use crate::exchange::{Owner, Sets, Size, opened, owner_of};
 use set_table::Pass;

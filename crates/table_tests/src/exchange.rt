@@ -2,7 +2,7 @@
 
 ghost use Rattle.std.specs.Prelude.{◌≡◌, ◌<◌, ◌≤◌, ◌+◌, ◌^◌, None, length, IfOk};
 ghost use Rattle.set_table.specs.ClosingTotals.{pass_at};
-ghost use Rattle.set_table.specs.PassStates.{IsPassOf};
+ghost use Rattle.set_table.specs.WorkerPasses.{IsPassOf};
 
 use append_log::{Log, LogSink, MemorySink};
 use resp_wire::{Bytes, BytesList, Reply, Request, write_reply};

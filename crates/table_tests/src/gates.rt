@@ -1,7 +1,7 @@
 //! A run that is held inside its place's lock until another was answered.
 
 ghost use Rattle.std.specs.Prelude.{◌≡◌, ◌≤◌, None};
-ghost use Rattle.set_table.specs.PassStates.{IsPassOf};
+ghost use Rattle.set_table.specs.WorkerPasses.{IsPassOf};
 
 use crate::closing::closed;
 use crate::exchange::{Owner, Size, answers, command, opened, owner_of, reply_text};

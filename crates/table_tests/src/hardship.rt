@@ -1,7 +1,7 @@
 //! Keys whose walks begin at one place, and a log that fails.
 
 ghost use Rattle.std.specs.Prelude.{◌≡◌, ◌≤◌, None, IfOk};
-ghost use Rattle.set_table.specs.PassStates.{IsPassOf};
+ghost use Rattle.set_table.specs.WorkerPasses.{IsPassOf};
 
 use crate::exchange::{Owner, Sets, Size, answers, opened, owner_of, pair};
 use append_log::{FuseSink, Log, MemorySink};

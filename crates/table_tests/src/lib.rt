@@ -19,6 +19,8 @@ mod hardship;
 #[cfg(test)]
 mod places;
 #[cfg(test)]
+mod sink_sweeps;
+#[cfg(test)]
 mod two_adders;
 #[cfg(test)]
 mod two_workers;

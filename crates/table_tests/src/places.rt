@@ -1,7 +1,7 @@
 //! Keys and their places.
 
 ghost use Rattle.std.specs.Prelude.{◌≡◌, ◌≤◌, None};
-ghost use Rattle.set_table.specs.PassStates.{IsPassOf};
+ghost use Rattle.set_table.specs.WorkerPasses.{IsPassOf};
 
 use crate::exchange::{Owner, Sets, Size, answers, opened, owner_of};
 use append_log::{Log, MemorySink};

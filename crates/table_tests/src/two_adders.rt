@@ -1,7 +1,7 @@
 //! Two threads that add members to one key.
 
 ghost use Rattle.std.specs.Prelude.{◌≡◌, ◌≤◌, IfOk, None};
-ghost use Rattle.set_table.specs.PassStates.{IsPassOf};
+ghost use Rattle.set_table.specs.WorkerPasses.{IsPassOf};
 
 use crate::closing::closed;
 use crate::exchange::{Owner, Size, answers, command, opened, owner_of};

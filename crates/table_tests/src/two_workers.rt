@@ -1,7 +1,7 @@
 //! Two threads with a pass each: keys that both claim, and commands that an owner answers too.
 
 ghost use Rattle.std.specs.Prelude.{◌≡◌, ◌≤◌, None, length};
-ghost use Rattle.set_table.specs.PassStates.{IsPassOf};
+ghost use Rattle.set_table.specs.WorkerPasses.{IsPassOf};
 
 use crate::exchange::{Owner, Size, command, opened, owner_of};
 use append_log::LogSink;

@@ -1,8 +1,8 @@
 //! Commands over a log, and records.
 
 ghost use Rattle.std.specs.Prelude.{◌≡◌, IsTrue, IfOk};
-ghost use Rattle.zset_core.specs.CommandRequest.{is_writing};
-ghost use Rattle.zset_core.specs.ViewTypes.{IsPreparedFor};
+ghost use Rattle.zset_core.specs.AbstractCommand.{is_writing};
+ghost use Rattle.zset_core.specs.SetAndOwnerViews.{IsPreparedFor};
 
 use crate::exchange::bytes_of;
 use append_log::{Log, LogSink, LoggedOwner, MemorySink, NoSink, Record, SinkFault};

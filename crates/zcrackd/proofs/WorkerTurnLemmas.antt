@@ -3,7 +3,7 @@ use Rattle.std.proofs.Common.{◌≡◌, ℕ, List, [], ◌∷◌, Option, Resul
 use Rattle.resp_wire.specs.Response.{Response}
 use Rattle.resp_wire.specs.Stream.{requests, fault}
 use Rattle.resp_wire.specs.declared.fault.ProtocolFault.{ProtocolFault}
-use Rattle.zset_core.specs.CommandRequest.{Meaning}
+use Rattle.zset_core.specs.AbstractCommand.{Meaning}
 use Rattle.zset_core.specs.CommandGrammar.{asked}
 use Rattle.zset_core.specs.declared.refusal.Refusal.{Refusal}
 use Rattle.session_core.specs.Exchange.{ExchangeOf, Exchanges}

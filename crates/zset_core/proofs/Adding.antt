@@ -5,10 +5,10 @@ use Rattle.std.specs.Option.{ok_or}
 use Rattle.std.proofs.lemmas.Bool.{cond-true, cond-false, eqb-true, and_from, and_right, and_left, not_from_true, not_from_false}
 use Rattle.std.proofs.lemmas.List.{drop-drop, get_or-drop}
 use Rattle.score_bounds.specs.Scores.{score_value}
-use Rattle.zset_core.specs.CommandRequest as meanings
-use Rattle.zset_core.specs.ParsedForm.{word_at, scored}
+use Rattle.zset_core.specs.AbstractCommand as meanings
+use Rattle.zset_core.specs.ParsedArguments.{word_at, scored}
 use Rattle.zset_core.specs.CommandGrammar.{first_of, has_option, has_two_of_gt_lt_nx, are_pairs, asked_flags, add_meaning, add_options, add_pairs, pairs_value, command_conditions, command_meaning}
-use Rattle.zset_core.specs.ParseResults.{AreAddParts, AreScores, given_value}
+use Rattle.zset_core.specs.ReadingMatchesGrammar.{AreAddParts, AreScores, given_value}
 use Rattle.zset_core.specs.declared.command.name.CommandName.TheVariants as names
 use Rattle.zset_core.specs.declared.set.pair_outcome.Flags.{Flags}
 use Rattle.zset_core.specs.declared.refusal.Refusal.{Refusal}

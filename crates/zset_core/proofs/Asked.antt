@@ -1,6 +1,6 @@
 -- What a request is read as, by the first refusal whose condition holds and by its meaning.
 use Rattle.std.proofs.Common.{◌≡◌, ℕ, List, refl, Some, None, Ok, Err}
-use Rattle.zset_core.specs.CommandRequest.{Meaning}
+use Rattle.zset_core.specs.AbstractCommand.{Meaning}
 use Rattle.zset_core.specs.CommandGrammar.{first_of, conditions, refusal_of, meaning, asked}
 use Rattle.zset_core.specs.declared.refusal.Refusal.{Refusal}
 

@@ -12,15 +12,15 @@ use Rattle.resp_wire.specs.RequestEncoding.{IsArgument, IsRequest}
 use Rattle.resp_wire.specs.Response.{Response, NullBulk}
 use Rattle.score_bounds.specs.Scores.{IsScore, is_score, integer_value, score_value}
 use Rattle.zset_core.specs.SortedSet.{Members, Pair, bytes_cmp, names_of}
-use Rattle.zset_core.specs.CommandRequest.{Meaning, key_of}
-use Rattle.zset_core.specs.CommandRequest as meanings
+use Rattle.zset_core.specs.AbstractCommand.{Meaning, key_of}
+use Rattle.zset_core.specs.AbstractCommand as meanings
 use Rattle.zset_core.specs.Semantics.{outcome_of, writes, put_one, put_all, remove_all, sum_of, is_barred, increase_reply, step, act_at}
 use Rattle.zset_core.specs.World.{World, is_empty, set_at, put_set}
-use Rattle.zset_core.specs.ViewTypes.{Next, ShowsAt, IsPreparedAt}
-use Rattle.zset_core.specs.ParsedForm.{word_at}
+use Rattle.zset_core.specs.SetAndOwnerViews.{Next, ShowsAt, IsPreparedAt}
+use Rattle.zset_core.specs.ParsedArguments.{word_at}
 use Rattle.zset_core.specs.CommandGrammar.{add_options, add_pairs, has_option, pairs_value, add_meaning, increase, asked_flags, command_meaning, meaning, command_named, refusal_of, asked, asked_range, asked_options, RangeOption, is_with_scores, last_limit}
 use Rattle.score_bounds.specs.declared.bounds.Range.{Range}
-use Rattle.zset_core.specs.WorldFitsRequests.{IsSpelled, IsBoundedSet, IsBoundedAt, IsBoundedWorld, PutsSpelled, IsBoundedMeaning}
+use Rattle.zset_core.specs.ExpressibleWorld.{IsSpelled, IsBoundedSet, IsBoundedAt, IsBoundedWorld, PutsSpelled, IsBoundedMeaning}
 use Rattle.zset_core.specs.declared.command.name.CommandName.{CommandName}
 use Rattle.zset_core.specs.declared.command.name.CommandName.TheVariants.{Ping, Add, Remove, RemoveRange, Score, Card, Count, ListRange}
 use Rattle.zset_core.specs.declared.set.pair_outcome.Flags.{Flags}

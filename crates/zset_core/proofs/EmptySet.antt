@@ -5,8 +5,7 @@ use Rattle.std.specs.FinMap as fin
 use Rattle.score_bounds.specs.Bounds.{is_in}
 use Rattle.resp_wire.specs.Response.{Response, Integer, NullBulk, Array}
 use Rattle.zset_core.specs.SortedSet.{Members, Pair, bytes_cmp, pairs, listing}
-use Rattle.zset_core.specs.CommandRequest.{Meaning, key_of, Ping, Add, Increase, Remove, RemoveRange, Score, Card, Count, ListRange}
-use Rattle.zset_core.specs.CommandGrammar.{is_creating}
+use Rattle.zset_core.specs.AbstractCommand.{Meaning, key_of, Ping, Add, Increase, Remove, RemoveRange, Score, Card, Count, ListRange, is_creating}
 use Rattle.zset_core.specs.Semantics.{outcome_of, writes, counted, put_one, put_all, count_all, is_barred, sum_of, increase_reply, remove_all, without_range, score_reply, elements, apply_limit, from_offset, at_most, step}
 use Rattle.zset_core.specs.declared.set.pair_outcome.Flags.{Flags}
 use Rattle.zset_core.specs.declared.set.pair_outcome.Outcome.TheVariants.{Stopped, Added}

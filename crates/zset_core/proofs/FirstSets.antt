@@ -13,11 +13,11 @@ use Rattle.std.specs.BTreeMap.{BTreeMap, Updates}
 use Rattle.std.specs.declared.snapshot.Snapshot.{Snapshot}
 use Rattle.std.specs.declared.vec.Vec.{Vec}
 use Rattle.zset_core.specs.SortedSet.{Members, bytes_cmp}
-use Rattle.zset_core.specs.WorldFitsRequests.{IsBoundedWorld, IsBoundedAt, IsBoundedOwner}
-use Rattle.zset_core.specs.CommandRequest.{Asked}
+use Rattle.zset_core.specs.ExpressibleWorld.{IsBoundedWorld, IsBoundedAt, IsBoundedOwner}
+use Rattle.zset_core.specs.AbstractCommand.{Asked}
 use Rattle.zset_core.specs.OwnerViewAndInvariant.{Keyed, world_of, set_in, IsAfter, IsRising, AllRest, IsOwned, owner_view}
-use Rattle.zset_core.specs.Taken.{IsFirst}
-use Rattle.zset_core.specs.ViewTypes.{SetView, OwnerView}
+use Rattle.zset_core.specs.FirstSetTaken.{IsFirst}
+use Rattle.zset_core.specs.SetAndOwnerViews.{SetView, OwnerView}
 use Rattle.zset_core.specs.World.{World}
 use Rattle.zset_core.proofs.Bridge.{total, exact}
 use Rattle.zset_core.proofs.OwnerBounds.{world_bounded, idle_after}

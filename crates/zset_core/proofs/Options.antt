@@ -4,11 +4,11 @@ use Rattle.std.specs.Prelude.{codes, option_map, is_none}
 use Rattle.std.specs.List.{list_any}
 use Rattle.std.proofs.lemmas.Bool.{cond-true, cond-false}
 use Rattle.std.proofs.Math.Bool.{or-true, or-false, or_assoc}
-use Rattle.zset_core.specs.ParsedForm.{word_at}
+use Rattle.zset_core.specs.ParsedArguments.{word_at}
 use Rattle.zset_core.specs.CommandGrammar.{RangeOption, WithScores, LimitTo, is_named, is_with_scores, is_bad_limit, limit_value, last_limit, range_options}
-use Rattle.zset_core.specs.ParseResults.{choice_after}
+use Rattle.zset_core.specs.ReadingMatchesGrammar.{choice_after}
 use Rattle.zset_core.specs.declared.command.limit.Limit.{Limit}
-use Rattle.zset_core.specs.declared.command.range.RangeChoice.{RangeChoice}
+use Rattle.zset_core.specs.declared.command.range_commands.RangeChoice.{RangeChoice}
 
 pub range_options-with_scores : (words : List (List ℕ)) → 0 < length words → is_named (codes "WITHSCORES") (word_at words 0) ≡ true
     → range_options words ≡ option_map (λ more. WithScores ∷ more) (range_options (drop 1 words))

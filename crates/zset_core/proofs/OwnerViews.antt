@@ -22,8 +22,8 @@ use Rattle.std.specs.Cmp.Lexicographic.{bytes_decides}
 use Rattle.std.specs.FinMap as fin
 use Rattle.std.specs.declared.snapshot.Snapshot.{Snapshot}
 use Rattle.zset_core.specs.SortedSet.{Members, bytes_cmp}
-use Rattle.zset_core.specs.CommandRequest.{Asked, key_of}
-use Rattle.zset_core.specs.ViewTypes.{SetView, Next, OwnerView, next_for, IsSetAt, HasNoSet}
+use Rattle.zset_core.specs.AbstractCommand.{Asked, key_of}
+use Rattle.zset_core.specs.SetAndOwnerViews.{SetView, Next, OwnerView, next_for, IsSetAt, HasNoSet}
 use Rattle.zset_core.specs.World.{World, set_at}
 use Rattle.zset_core.specs.OwnerViewAndInvariant.{Keyed, world_of, names_of, IsRising, set_in, next_at, IsResting, AllRest, IsHeld, owner_view, IsOwned}
 use Rattle.zset_core.proofs.Worlds.{keyed, key_cmp, filled_view, get_world, set_at_entry, set_at_none, next_here}

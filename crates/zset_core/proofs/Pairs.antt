@@ -5,9 +5,9 @@ use Rattle.std.specs.List.{take_while, prefix_len}
 use Rattle.std.proofs.lemmas.List.{take-append-drop, append-nil, drop-drop}
 use Rattle.std.proofs.Math.Seq.{take-append_seam}
 use Rattle.score_bounds.specs.Scores.{score_value}
-use Rattle.zset_core.specs.ParsedForm.{word_at, scored}
+use Rattle.zset_core.specs.ParsedArguments.{word_at, scored}
 use Rattle.zset_core.specs.CommandGrammar.{is_add_option, add_options, add_pairs, pairs_value}
-use Rattle.zset_core.specs.ParseResults.{AreScores}
+use Rattle.zset_core.specs.ReadingMatchesGrammar.{AreScores}
 
 taken_again : (words : List (List ℕ)) (count : ℕ) → take (length (take count words)) words ≡ take count words
 taken_again words count =

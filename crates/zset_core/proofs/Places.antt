@@ -8,7 +8,7 @@ use Rattle.std.specs.FinMap as fin
 use Rattle.std.proofs.lemmas.Bool.Decides.{nat_tests}
 use Rattle.indexmap.proofs.MapLemmas.{distinct-take, Found-position}
 use Rattle.ripple_column.specs.Content.{ColumnState}
-use Rattle.zset_core.specs.ViewTypes.{SetView}
+use Rattle.zset_core.specs.SetAndOwnerViews.{SetView}
 use Rattle.zset_core.specs.MembersWithStagedScores.{Entry, current_score, members_by, slot_at, same_bytes}
 use Rattle.zset_core.specs.SetViewAndInvariant.{view_of, IsSound, kept_of}
 use Rattle.zset_core.specs.declared.set.Prepared.{Prepared}

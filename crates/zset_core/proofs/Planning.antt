@@ -9,8 +9,8 @@ use Rattle.zset_core.specs.RowEdits.{HasAtMost, most_edits}
 use Rattle.zset_core.specs.Plan.{Plans, Prepares, edited_by, left_by}
 use Rattle.zset_core.specs.ChangeOutline.{IsOutline}
 use Rattle.zset_core.specs.CommandEffectsOnColumn.{edit_count}
-use Rattle.zset_core.specs.CommandRequest.{Meaning, range_to_remove}
-use Rattle.zset_core.specs.ViewTypes.{SetView, Next}
+use Rattle.zset_core.specs.AbstractCommand.{Meaning, range_to_remove}
+use Rattle.zset_core.specs.SetAndOwnerViews.{SetView, Next}
 use Rattle.zset_core.specs.SetViewAndInvariant.{view_of, next_of, IsIdle, IsPlanned, IsReadyForPlan, IsSound}
 use Rattle.zset_core.specs.declared.set.plan.Plan.{Plan}
 use Rattle.zset_core.specs.declared.set.Prepared.{Prepared}

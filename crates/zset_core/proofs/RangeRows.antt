@@ -16,7 +16,7 @@ use Rattle.ripple_column.proofs.CallerLemmas.{count_all}
 use Rattle.zset_core.specs.SortedSet.{Members, Pair, pair_cmp, pairs, marks, listing}
 use Rattle.resp_wire.specs.Response.{Response, Integer, Array}
 use Rattle.zset_core.specs.CommandEffectsOnColumn.{Reads, Selects}
-use Rattle.zset_core.specs.CommandRequest.{Meaning, Count, ListRange}
+use Rattle.zset_core.specs.AbstractCommand.{Meaning, Count, ListRange}
 use Rattle.zset_core.specs.Semantics.{step, elements, apply_limit}
 use Rattle.zset_core.specs.declared.command.limit.Limit.{Limit}
 use Rattle.zset_core.proofs.Order.{is_pair, is_equal, pair_total, filter_apart, len_marks, pairs_apart}

@@ -13,7 +13,7 @@ use Rattle.std.specs.declared.cmp.Ordering.{Ordering}
 use Rattle.std.proofs.lemmas.Map.Text.{is_eq-slice_cmp}
 use Rattle.std.proofs.lemmas.Bool.Decides.{nat_tests}
 use Rattle.zset_core.specs.SortedSet.{Members, bytes_cmp}
-use Rattle.zset_core.specs.ViewTypes.{SetView, Next, Shows, IsPreparedFor, ShowsAt, IsPreparedAt}
+use Rattle.zset_core.specs.SetAndOwnerViews.{SetView, Next, Shows, IsPreparedFor, ShowsAt, IsPreparedAt}
 use Rattle.zset_core.specs.ChangeOutline.{IsOutline}
 use Rattle.zset_core.specs.declared.set.change_outline.Outline.{Outline}
 use Rattle.zset_core.specs.World.{World, is_empty, set_at, put_set}
@@ -21,7 +21,7 @@ use Rattle.zset_core.specs.OwnerViewAndInvariant.{Keyed, world_of, set_in, IsRes
 use Rattle.zset_core.proofs.Bridge.{total, exact}
 use Rattle.std.proofs.Common.{IfOk, IfErr}
 use Rattle.resp_wire.specs.Response.{Response}
-use Rattle.zset_core.specs.CommandRequest.{Meaning}
+use Rattle.zset_core.specs.AbstractCommand.{Meaning}
 use Rattle.zset_core.specs.Semantics.{step, act_at}
 use Rattle.zset_core.specs.Refusal.{IsRefused}
 use Rattle.zset_core.specs.declared.refusal.Refusal.{Refusal}

@@ -5,9 +5,9 @@ use Rattle.score_bounds.specs.declared.bounds.Range.{Range}
 use Rattle.ripple_column.specs.ClosedUp.{closed_up_pivots, closed_up_rows}
 use Rattle.ripple_column.specs.RangeAnswer.{AddsCuts, HasAnswer, IsAnswer, StandsStill, low_cut, high_cut, pivots_with_cuts}
 use Rattle.ripple_column.specs.Content.{ColumnState, IsUnchanged, NoneIn, SameOutside}
-use Rattle.ripple_column.specs.Cuts.{is_before}
+use Rattle.ripple_column.specs.CutPivots.{is_before}
 use Rattle.zset_core.specs.SortedSet.{Members}
-use Rattle.zset_core.specs.CommandRequest.{Meaning, Ping, Add, Increase, Remove, RemoveRange, Score, Card, Count, ListRange}
+use Rattle.zset_core.specs.AbstractCommand.{Meaning, Ping, Add, Increase, Remove, RemoveRange, Score, Card, Count, ListRange}
 use Rattle.zset_core.specs.Semantics.{outcome_of, counted, count_all, sum_of, remove_all}
 use Rattle.zset_core.specs.declared.set.pair_outcome.Flags.{Flags}
 

@@ -7,9 +7,9 @@ use Rattle.std.specs.Str.{str_eq_ignore_ascii_case}
 use Rattle.score_bounds.specs.Scores.{score_value, integer_value}
 use Rattle.score_bounds.specs.Bounds.{range_value}
 use Rattle.score_bounds.specs.declared.bounds.Range.{Range}
-use Rattle.zset_core.specs.CommandRequest.{Meaning}
-use Rattle.zset_core.specs.CommandRequest as meanings
-use Rattle.zset_core.specs.ParsedForm.{word_at}
+use Rattle.zset_core.specs.AbstractCommand.{Meaning}
+use Rattle.zset_core.specs.AbstractCommand as meanings
+use Rattle.zset_core.specs.ParsedArguments.{word_at}
 use Rattle.zset_core.specs.declared.command.limit.Limit.{Limit}
 use Rattle.zset_core.specs.declared.set.pair_outcome.Flags.{Flags}
 use Rattle.zset_core.specs.declared.command.name.CommandName.{CommandName}
@@ -207,9 +207,3 @@ meaning words = option_and_then (λ name. command_meaning name words) (command_n
 -- what a request is read as: the first refusal, and where there is none the meaning, which it then has
 unfoldable pub asked : List (List ℕ) → Result Meaning Refusal
 asked words = option_map_or Err (refusal_of words) (ok_or (meaning words) UnknownCommand)
-
--- whether a command makes a set where its key has none: ZADD without XX
-abbrev pub is_creating : Meaning → Bool
-is_creating (meanings.Add key flags changed pairs) = not flags.xx
-is_creating (meanings.Increase key flags given member) = not flags.xx
-is_creating _ = false

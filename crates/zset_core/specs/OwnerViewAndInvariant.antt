@@ -8,8 +8,8 @@ use Rattle.std.specs.FinMap as fin
 use Rattle.std.specs.declared.vec.Vec.{Vec}
 use Rattle.std.specs.declared.snapshot.Snapshot.{Snapshot}
 use Rattle.zset_core.specs.SortedSet.{bytes_cmp}
-use Rattle.zset_core.specs.CommandRequest.{Asked, key_of}
-use Rattle.zset_core.specs.ViewTypes.{SetView, Next, OwnerView}
+use Rattle.zset_core.specs.AbstractCommand.{Asked, key_of}
+use Rattle.zset_core.specs.SetAndOwnerViews.{SetView, Next, OwnerView}
 use Rattle.zset_core.specs.World.{World, is_empty, put_set}
 
 abbrev pub Keyed : Type 0 → Type 0

@@ -9,7 +9,7 @@ use Rattle.score_bounds.specs.Bounds.{is_in}
 use Rattle.score_bounds.specs.Scores.{is_score, score_text}
 use Rattle.zset_core.specs.SortedSet.{Members, Pair, listing}
 use Rattle.zset_core.specs.World.{World, put_set, set_at}
-use Rattle.zset_core.specs.CommandRequest.{Meaning, key_of, Ping, Add, Increase, Remove, RemoveRange, Score, Card, Count, ListRange}
+use Rattle.zset_core.specs.AbstractCommand.{Meaning, key_of, Ping, Add, Increase, Remove, RemoveRange, Score, Card, Count, ListRange}
 use Rattle.zset_core.specs.declared.set.pair_outcome.Flags.{Flags}
 use Rattle.zset_core.specs.declared.set.pair_outcome.Outcome.{Outcome}
 use Rattle.zset_core.specs.declared.set.pair_outcome.Outcome.TheVariants.{Stopped, Added, Changed, Same}

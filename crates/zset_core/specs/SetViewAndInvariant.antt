@@ -5,12 +5,12 @@ use Rattle.resp_wire.specs.Response.{response_of}
 use Rattle.zset_core.specs.MembersWithStagedScores.{Entry, current_score, rows_by, members_by, IsSettled, IsWaiting}
 use Rattle.ripple_column.specs.Content.{ColumnState, Holds}
 use Rattle.ripple_column.specs.RangeAnswer.{HasAnswer}
-use Rattle.zset_core.specs.CommandRequest.{Meaning, range_to_remove}
+use Rattle.zset_core.specs.AbstractCommand.{Meaning, range_to_remove}
 use Rattle.zset_core.specs.RowEdits.{HasAtMost, HasRoom, TurnsInto}
 use Rattle.zset_core.specs.Plan.{edited_by, left_by}
 use Rattle.zset_core.specs.SortedSet.{pairs}
 use Rattle.zset_core.specs.declared.set.plan.Plan.{Plan}
-use Rattle.zset_core.specs.ViewTypes.{SetView, Next}
+use Rattle.zset_core.specs.SetAndOwnerViews.{SetView, Next}
 use Rattle.zset_core.specs.declared.set.Prepared.{Prepared}
 
 abbrev pub next_of : {A : Type 0} → List (Entry A) → Prepared A → Next

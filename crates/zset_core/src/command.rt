@@ -2,23 +2,23 @@
 
 ghost use Rattle.std.specs.Prelude.{◌≡◌, ◌≢◌, IfOk, IfErr, Ok, Err};
 ghost use Rattle.std.specs.Option.{option_copied};
-ghost use Rattle.zset_core.specs.CommandGrammar.{asked, is_creating};
-ghost use Rattle.zset_core.specs.WorldFitsRequests.{IsBoundedMeaning};
-ghost use Rattle.zset_core.specs.ParsedForm.{meaning_of, IsWhole};
-ghost use Rattle.zset_core.specs.CommandRequest.{key_of, is_writing};
+ghost use Rattle.zset_core.specs.CommandGrammar.{asked};
+ghost use Rattle.zset_core.specs.ExpressibleWorld.{IsBoundedMeaning};
+ghost use Rattle.zset_core.specs.ParsedArguments.{meaning_of, IsWhole};
+ghost use Rattle.zset_core.specs.AbstractCommand.{key_of, is_writing, is_creating};
 ghost use Rattle.zset_core.specs.declared.refusal.Refusal.TheVariants as refusals;
 
 pub mod add;
 pub mod dispatch;
 pub mod given_pairs;
 pub mod limit;
+pub mod missing_key_reply;
 pub mod name;
-pub mod parsed_form;
-pub mod range;
-pub mod reply_without_set;
+pub mod parsed_arguments;
+pub mod range_commands;
 
 use crate::command::dispatch::{argument, read_form};
-use crate::command::parsed_form::Form;
+use crate::command::parsed_arguments::Form;
 use crate::refusal::Refusal;
 use resp_wire::Request;
 use std::alloc::Allocator;
@@ -35,8 +35,8 @@ pub struct Command<A: Allocator> {
 impl<A: Allocator> Model for Command<A> {
     ghost use Rattle.std.specs.Prelude.{◌≡◌, Ok};
     ghost use Rattle.zset_core.specs.CommandGrammar.{asked};
-    ghost use Rattle.zset_core.specs.ParsedForm.{meaning_of, IsWhole};
-    ghost use Rattle.zset_core.specs.CommandRequest.{Asked};
+    ghost use Rattle.zset_core.specs.ParsedArguments.{meaning_of, IsWhole};
+    ghost use Rattle.zset_core.specs.AbstractCommand.{Asked};
 
     ghost Value = { Asked };
 

@@ -3,28 +3,28 @@ ghost use Rattle.std.specs.Prelude.{◌≡◌, None, IfOk, IfErr, IfSome, OnOk, 
 ghost use Rattle.std.specs.FinMap as map;
 ghost use Rattle.std.specs.Option.{option_copied};
 ghost use Rattle.resp_wire.specs.Response.{response_of};
-ghost use Rattle.zset_core.specs.CommandRequest.{is_writing, key_of};
+ghost use Rattle.zset_core.specs.AbstractCommand.{is_writing, key_of};
 ghost use Rattle.zset_core.specs.ChangeOutline.{IsOutline};
 ghost use Rattle.zset_core.specs.Refusal.{IsRefused};
-ghost use Rattle.zset_core.specs.WorldFitsRequests.{IsBoundedWorld};
+ghost use Rattle.zset_core.specs.ExpressibleWorld.{IsBoundedWorld};
 ghost use Rattle.zset_core.specs.SortedSet.{whole};
-ghost use Rattle.zset_core.specs.ViewTypes.{HasNoSet, IsPreparedAt, IsSetAt};
+ghost use Rattle.zset_core.specs.SetAndOwnerViews.{HasNoSet, IsPreparedAt, IsSetAt};
 ghost use Rattle.zset_core.specs.World.{key_behind, put_set, set_at};
 ghost use Rattle.zset_core.specs.Semantics.{act};
 
 mod boxed_set;
 mod empty_set;
-mod key_walk;
+mod keys_in_order;
 mod prepare_and_commit;
 mod run;
+mod set_tree;
 mod take_first;
-mod tree;
 
 use crate::command::Command;
-use crate::owner::key_walk::{first_key, next_key, nth_key};
+use crate::owner::keys_in_order::{first_key, next_key, nth_key};
 use crate::owner::prepare_and_commit::{commit_at, drop_at, prepare_at};
 use crate::owner::run::run_at;
-use crate::owner::tree::SetTree;
+use crate::owner::set_tree::SetTree;
 use crate::query::ping::pong;
 use crate::refusal::Refusal;
 use crate::set::ZSet;
@@ -49,17 +49,17 @@ pub struct OneOwner<H: BuildHasher, A: Allocator + Copy> {
 }
 
 impl<H: BuildHasher, A: Allocator + Copy> Model for OneOwner<H, A> {
-    ghost use Rattle.zset_core.specs.ViewTypes.{OwnerView};
+    ghost use Rattle.zset_core.specs.SetAndOwnerViews.{OwnerView};
 
     ghost Value = { OwnerView };
 
     ghost use Rattle.std.specs.Coded.{codes};
-    ghost use Rattle.zset_core.specs.ViewTypes.{coded_members, coded_world};
+    ghost use Rattle.zset_core.specs.SetAndOwnerViews.{coded_members, coded_world};
 
     ghost coded = { Prim.hlevel (codes, coded_members, coded_world) };
 
     ghost use Rattle.zset_core.specs.OwnerViewAndInvariant.{owner_view, IsOwned};
-    ghost use Rattle.zset_core.specs.WorldFitsRequests.{IsBoundedOwner};
+    ghost use Rattle.zset_core.specs.ExpressibleWorld.{IsBoundedOwner};
 
     ghost view = { λ o. owner_view o.sets.entries o.asked };
 

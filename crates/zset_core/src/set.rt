@@ -4,17 +4,17 @@ ghost use Rattle.std.specs.FinMap as map;
 ghost use Rattle.indexmap.specs.IndexMap.{IsUnique};
 ghost use Rattle.zset_core.specs.MembersWithStagedScores.{current_score, slot_at, same_bytes};
 ghost use Rattle.zset_core.specs.SetViewAndInvariant.{kept_of};
-ghost use Rattle.zset_core.specs.CommandRequest.{is_writing, key_of, range_to_remove};
+ghost use Rattle.zset_core.specs.AbstractCommand.{is_writing, key_of, range_to_remove};
 ghost use Rattle.zset_core.specs.ChangeOutline.{IsOutline};
 ghost use Rattle.zset_core.specs.Refusal.{IsRefused};
 ghost use Rattle.ripple_column.specs.Content.{Holds, IsUnchanged, most_pending};
-ghost use Rattle.ripple_column.specs.Cuts.{values};
+ghost use Rattle.ripple_column.specs.CutPivots.{values};
 ghost use Rattle.zset_core.specs.CommandEffectsOnColumn.{NarrowsFor, Reads, Selects, TakesOut, changes_named, edit_count};
 ghost use Rattle.zset_core.specs.RowEdits.{most_edits};
-ghost use Rattle.zset_core.specs.ReadyForCommand.{IsReadyFor};
+ghost use Rattle.zset_core.specs.AnswerableAsItStands.{IsReadyFor};
 ghost use Rattle.zset_core.specs.SortedSet.{pairs, whole};
 ghost use Rattle.zset_core.specs.Semantics.{step};
-ghost use Rattle.zset_core.specs.ViewTypes.{IsPreparedFor};
+ghost use Rattle.zset_core.specs.SetAndOwnerViews.{IsPreparedFor};
 ghost use Rattle.resp_wire.specs.Response.{response_of};
 
 pub mod change_outline;
@@ -66,12 +66,12 @@ pub struct ZSet<H: BuildHasher, A: Allocator + Copy> {
 }
 
 impl<H: BuildHasher, A: Allocator + Copy> Model for ZSet<H, A> {
-    ghost use Rattle.zset_core.specs.ViewTypes.{SetView};
+    ghost use Rattle.zset_core.specs.SetAndOwnerViews.{SetView};
 
     ghost Value = { SetView };
 
     ghost use Rattle.std.specs.Coded.{codes};
-    ghost use Rattle.zset_core.specs.ViewTypes.{coded_members};
+    ghost use Rattle.zset_core.specs.SetAndOwnerViews.{coded_members};
 
     ghost coded = { Prim.hlevel (codes, coded_members) };
 

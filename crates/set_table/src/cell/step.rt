@@ -2,8 +2,8 @@
 
 ghost use Rattle.std.specs.Prelude.{◌≡◌, None, false, IfOk, IfErr, OnOk, OnErr, IsSome, IsTrue};
 ghost use Rattle.resp_wire.specs.Response.{response_of};
-ghost use Rattle.zset_core.specs.CommandRequest.{key_of, is_writing};
-ghost use Rattle.zset_core.specs.ViewTypes.{IsPreparedFor};
+ghost use Rattle.zset_core.specs.AbstractCommand.{key_of, is_writing};
+ghost use Rattle.zset_core.specs.SetAndOwnerViews.{IsPreparedFor};
 ghost use Rattle.append_log.specs.Log.{share_after};
 ghost use Rattle.set_table.specs.SetSteps.{IsAppendRefusal, IsHindered, IsLogged, Stepped};
 

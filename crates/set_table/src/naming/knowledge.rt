@@ -21,7 +21,7 @@ pub(crate) struct Knowledge {
 }
 
 impl Model for Knowledge {
-    ghost use Rattle.set_table.specs.KeyMemory.{AllHashed, AllMet};
+    ghost use Rattle.set_table.specs.KeyCache.{AllHashed, AllMet};
     ghost use Rattle.set_table.specs.Naming.{NotesView};
 
     ghost Value = { NotesView };

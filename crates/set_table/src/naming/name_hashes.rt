@@ -3,7 +3,7 @@
 
 ghost use Rattle.std.specs.Prelude.{◌≡◌, ◌≢◌, ◌<◌, ◌^◌, IfOk, IsTrue};
 ghost use Rattle.std.proofs.Math.ListN.{get_or};
-ghost use Rattle.set_table.specs.KeyMemory.{AllHashed, HasHash};
+ghost use Rattle.set_table.specs.KeyCache.{AllHashed, HasHash};
 ghost use Rattle.set_table.specs.Naming.{Naming as NamingType};
 
 use std::alloc::{AllocError, Global};

@@ -5,7 +5,7 @@ ghost use Rattle.std.proofs.Math.ListN.{get_or};
 ghost use Rattle.set_table.specs.CellStates.{InStep};
 ghost use Rattle.set_table.specs.ClosingSteps.{AddsPlace, HaveShares, IsBounded};
 ghost use Rattle.set_table.specs.ClosingTotals.{AddsUp, AgreeAt, AreNumbered, HaveOnePlace, pass_at, share_at};
-ghost use Rattle.set_table.specs.PassStates.{IsPassOf};
+ghost use Rattle.set_table.specs.WorkerPasses.{IsPassOf};
 
 mod agreement;
 mod order;

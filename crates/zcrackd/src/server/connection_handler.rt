@@ -1,7 +1,7 @@
 //! What a worker thread does with its connections.
 
 ghost use Rattle.std.specs.Prelude.{◌≡◌, ◌+◌, ◌<◌, ◌^◌};
-ghost use Rattle.set_table.specs.PassStates.{IsPassOf};
+ghost use Rattle.set_table.specs.WorkerPasses.{IsPassOf};
 ghost use Rattle.zcrackd.specs.WorkerTurns.{Keeps};
 ghost use Rattle.zcrackd.specs.WorkerTurnLaws.{keeps_itself, keeps_on};
 

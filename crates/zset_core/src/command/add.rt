@@ -3,13 +3,13 @@
 ghost use Rattle.std.specs.Prelude.{◌≡◌, ◌≢◌, ◌+◌, ◌*◌, ◌%◌, ◌<◌, ◌≤◌, true, false, ℕ, List, [], ◌∷◌, ◌++◌, length, codes, OnOk, IfOk, IfErr};
 ghost use Rattle.std.specs.List.{take_while};
 ghost use Rattle.zset_core.specs.CommandGrammar.{most_arguments, add_options, add_pairs, asked_flags, has_option, has_two_of_gt_lt_nx, is_add_option, command_conditions, command_meaning, pairs_value};
-ghost use Rattle.zset_core.specs.ParseResults.{AreAddParts, AreScores, IsReading, given_value};
+ghost use Rattle.zset_core.specs.ReadingMatchesGrammar.{AreAddParts, AreScores, IsReading, given_value};
 ghost use Rattle.zset_core.specs.declared.command.name.CommandName.TheVariants as names;
 ghost use Rattle.zset_core.specs.declared.refusal.Refusal.TheVariants as refusals;
 
 use crate::command::dispatch::{argument, behind};
 use crate::command::name::is_named;
-use crate::command::parsed_form::Form;
+use crate::command::parsed_arguments::Form;
 use crate::refusal::Refusal;
 use crate::set::pair_outcome::Flags;
 use resp_wire::Bytes;
@@ -142,7 +142,7 @@ fn has_option<A: Allocator>(options: &[Bytes<A>], name: &[u8]) -> bool
 }
 
 // The score of INCR's one pair.
-#[tactic(auto, unfolding(crate::specs::ParseResults::given_value))]
+#[tactic(auto, unfolding(crate::specs::ReadingMatchesGrammar::given_value))]
 fn read_given<A: Allocator>(pairs: &[Bytes<A>]) -> Result<i64, Refusal>
     ensures { result ≡ given_value pairs.now }
 {

@@ -2,13 +2,13 @@
 
 ghost use Rattle.std.specs.Prelude.{◌≡◌, ◌<◌, ◌≤◌, true, length, drop};
 ghost use Rattle.zset_core.specs.CommandGrammar.{most_arguments, conditions, has_arity, meaning, command_conditions, command_meaning};
-ghost use Rattle.zset_core.specs.ParsedForm.{word_at};
-ghost use Rattle.zset_core.specs.ParseResults.{IsReading};
+ghost use Rattle.zset_core.specs.ParsedArguments.{word_at};
+ghost use Rattle.zset_core.specs.ReadingMatchesGrammar.{IsReading};
 
 use crate::command::add::read_add;
 use crate::command::name::CommandName;
-use crate::command::parsed_form::Form;
-use crate::command::range::{read_count, read_list_range, read_remove_range};
+use crate::command::parsed_arguments::Form;
+use crate::command::range_commands::{read_count, read_list_range, read_remove_range};
 use crate::refusal::Refusal;
 use resp_wire::Bytes;
 use std::alloc::Allocator;

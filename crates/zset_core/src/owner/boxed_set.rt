@@ -2,11 +2,11 @@
 ghost use Rattle.std.specs.Prelude.{◌≡◌, ◌<◌, ◌^◌, None, Some, IfOk, IfErr, IfSome, OnOk, OnErr, IsSome, IsTrue};
 ghost use Rattle.std.specs.FinMap as map;
 ghost use Rattle.resp_wire.specs.Response.{response_of};
-ghost use Rattle.zset_core.specs.CommandRequest.{is_writing, key_of};
+ghost use Rattle.zset_core.specs.AbstractCommand.{is_writing, key_of};
 ghost use Rattle.zset_core.specs.ChangeOutline.{IsOutline};
 ghost use Rattle.zset_core.specs.Refusal.{IsRefused};
 ghost use Rattle.zset_core.specs.Semantics.{step};
-ghost use Rattle.zset_core.specs.ViewTypes.{IsPreparedFor};
+ghost use Rattle.zset_core.specs.SetAndOwnerViews.{IsPreparedFor};
 
 use crate::command::Command;
 use crate::owner::run::run_set;
@@ -28,12 +28,12 @@ pub struct BoxedSet<H: BuildHasher, A: Allocator + Copy> {
 }
 
 impl<H: BuildHasher, A: Allocator + Copy> Model for BoxedSet<H, A> {
-    ghost use Rattle.zset_core.specs.ViewTypes.{SetView};
+    ghost use Rattle.zset_core.specs.SetAndOwnerViews.{SetView};
 
     ghost Value = { SetView };
 
     ghost use Rattle.std.specs.Coded.{codes};
-    ghost use Rattle.zset_core.specs.ViewTypes.{coded_members};
+    ghost use Rattle.zset_core.specs.SetAndOwnerViews.{coded_members};
 
     ghost coded = { Prim.hlevel (codes, coded_members) };
 

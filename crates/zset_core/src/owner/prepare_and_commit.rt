@@ -1,16 +1,16 @@
 //! A command prepared in the set of its key, and what becomes of it.
 ghost use Rattle.std.specs.Prelude.{◌≡◌, None, Some, IfOk, IfErr, IfSome, OnOk, OnErr, IsSome, IsTrue};
 ghost use Rattle.resp_wire.specs.Response.{response_of};
-ghost use Rattle.zset_core.specs.CommandRequest.{is_writing};
+ghost use Rattle.zset_core.specs.AbstractCommand.{is_writing};
 ghost use Rattle.zset_core.specs.ChangeOutline.{IsOutline};
 ghost use Rattle.zset_core.specs.OwnerViewAndInvariant.{world_of, set_in, next_at, AllRest, OthersRest};
 ghost use Rattle.zset_core.specs.Refusal.{IsRefused};
-ghost use Rattle.zset_core.specs.ViewTypes.{IsPreparedAt};
+ghost use Rattle.zset_core.specs.SetAndOwnerViews.{IsPreparedAt};
 ghost use Rattle.zset_core.specs.World.{set_at, put_set};
 ghost use Rattle.zset_core.specs.Semantics.{act_at};
 
 use crate::command::Command;
-use crate::owner::tree::{SetTree, insert_set};
+use crate::owner::set_tree::{SetTree, insert_set};
 use crate::refusal::Refusal;
 use crate::set::ZSet;
 use crate::set::change_outline::Outline;

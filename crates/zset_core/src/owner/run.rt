@@ -1,13 +1,13 @@
 //! A command run on the set of its key.
 ghost use Rattle.std.specs.Prelude.{◌≡◌, None, Some, IfOk, IfErr, OnErr, IsSome};
 ghost use Rattle.resp_wire.specs.Response.{response_of};
-ghost use Rattle.zset_core.specs.CommandRequest.{key_of};
+ghost use Rattle.zset_core.specs.AbstractCommand.{key_of};
 ghost use Rattle.zset_core.specs.OwnerViewAndInvariant.{world_of, set_in, AllRest};
 ghost use Rattle.zset_core.specs.Refusal.{IsRefused};
 ghost use Rattle.zset_core.specs.Semantics.{step, act_at};
 
 use crate::command::Command;
-use crate::owner::tree::{SetTree, insert_set};
+use crate::owner::set_tree::{SetTree, insert_set};
 use crate::refusal::Refusal;
 use crate::set::ZSet;
 use resp_wire::Reply;

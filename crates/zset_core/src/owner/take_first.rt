@@ -3,10 +3,10 @@
 ghost use Rattle.std.specs.Prelude.{◌≡◌, ◌∷◌, [], None, IfSome, MatchOption};
 ghost use Rattle.std.specs.FinMap as map;
 ghost use Rattle.zset_core.specs.OwnerViewAndInvariant.{IsAfter, IsRising};
-ghost use Rattle.zset_core.specs.Taken.{IsFirst};
+ghost use Rattle.zset_core.specs.FirstSetTaken.{IsFirst};
 
 use crate::owner::OneOwner;
-use crate::owner::tree::SetTree;
+use crate::owner::set_tree::SetTree;
 use crate::set::ZSet;
 use std::alloc::Allocator;
 use std::hash::BuildHasher;

@@ -3,16 +3,16 @@ ghost use Rattle.std.specs.Prelude.{◌≡◌, ◌≤◌, ◌↔◌, ◌⊎◌, 
 ghost use Rattle.crack_kernel.specs.RowBag.{SameBag};
 ghost use Rattle.resp_wire.specs.Response.{Array, Integer, response_of};
 ghost use Rattle.ripple_column.specs.Content.{Holds, IsUnchanged, SameContent};
-ghost use Rattle.zset_core.specs.CommandRequest.{is_writing, key_of};
+ghost use Rattle.zset_core.specs.AbstractCommand.{is_writing, key_of};
 ghost use Rattle.zset_core.specs.CommandEffectsOnColumn.{NarrowsFor, Reads};
-ghost use Rattle.zset_core.specs.ReadyForCommand.{IsReadyFor};
+ghost use Rattle.zset_core.specs.AnswerableAsItStands.{IsReadyFor};
 ghost use Rattle.zset_core.specs.SortedSet.{Members, listing, pairs};
 ghost use Rattle.zset_core.specs.Semantics.{elements, apply_limit, step};
 ghost use Rattle.zset_core.specs.MembersWithStagedScores.{current_score, members_by, IsSettled, same_bytes};
 
 use crate::command::Command;
 use crate::command::limit::Limit;
-use crate::command::parsed_form::Form;
+use crate::command::parsed_arguments::Form;
 use crate::query::listing::elements_of;
 use crate::query::window::{
     is_wide_window, least_rows, narrow_window, piece_end, piece_start, ranks_of, window_of,

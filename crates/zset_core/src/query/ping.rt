@@ -2,12 +2,12 @@
 ghost use Rattle.std.specs.Prelude.{◌≡◌, Some, None, slice_get, IfOk};
 ghost use Rattle.std.specs.FinMap as map;
 ghost use Rattle.resp_wire.specs.Response.{response_of};
-ghost use Rattle.zset_core.specs.CommandRequest as Meanings;
-ghost use Rattle.zset_core.specs.CommandRequest.{key_of};
+ghost use Rattle.zset_core.specs.AbstractCommand as Meanings;
+ghost use Rattle.zset_core.specs.AbstractCommand.{key_of};
 ghost use Rattle.zset_core.specs.Semantics.{step};
 
 use crate::command::Command;
-use crate::command::parsed_form::Form;
+use crate::command::parsed_arguments::Form;
 use resp_wire::{Bytes, Reply};
 use std::alloc::{AllocError, Allocator};
 

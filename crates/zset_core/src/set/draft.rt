@@ -4,7 +4,7 @@ ghost use Rattle.std.specs.Prelude.{◌≡◌, ℕ, ◌<◌, ◌≤◌, true, No
 ghost use Rattle.std.specs.FinMap as map;
 ghost use Rattle.zset_core.specs.declared.set.members_with_staged_scores.ScoreSlot.{ScoreSlot as SlotType};
 ghost use Rattle.zset_core.specs.Semantics.{outcome_of, counted, put_one, put_all, count_all, increase_reply};
-ghost use Rattle.zset_core.specs.ParsedForm.{given_pairs};
+ghost use Rattle.zset_core.specs.ParsedArguments.{given_pairs};
 ghost use Rattle.zset_core.specs.RowEdits.{Notes};
 ghost use Rattle.zset_core.specs.MembersWithStagedScores.{current_score, staged_score, rows_by, members_by, slot_at, slots, IsSettled, IsWaiting, Grows};
 ghost use Rattle.resp_wire.specs.Response.{response_of};

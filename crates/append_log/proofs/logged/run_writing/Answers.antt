@@ -1,5 +1,5 @@
 use Rattle.std.proofs.Common.{◌≡◌, sym, ◌∙◌, ap, true, false}
-use Rattle.zset_core.specs.CommandRequest.{key_of}
+use Rattle.zset_core.specs.AbstractCommand.{key_of}
 use Rattle.zset_core.specs.World.{set_at}
 use Rattle.resp_wire.specs.Response.{response_of}
 use Rattle.append_log.proofs.SameWorlds.{act-ready}

@@ -1,5 +1,5 @@
 use Rattle.std.proofs.Common.{length}
-use Rattle.resp_wire.specs.DecoderStep.{SkipsTo}
+use Rattle.resp_wire.specs.ParsingSteps.{SkipsTo}
 use Rattle.resp_wire.proofs.steps.past_skips.Given as goal
 
 abbrev pub invariant-skips : goal.invariant-skips

@@ -1,6 +1,8 @@
-use Rattle.std.proofs.Common.{◌≡◌, ◌∙◌, true, vec_capacity, ap, arith}
+use Rattle.std.proofs.Common.{◌≡◌, ◌∙◌, ℤ, true, vec_capacity, ap, subst, arith}
+use Rattle.std.proofs.lemmas.Int.{ints}
 use Rattle.std.proofs.lemmas.List.Sorted.{length_permutation}
 use Rattle.crack_kernel.specs.PivotList.{PivotList}
+use Rattle.ripple_column.specs.CutPivots.{IsApart}
 use Rattle.ripple_column.specs.ShownPivots.{IsAmong}
 use Rattle.ripple_column.proofs.InnerPivots.{found_more, shown_own}
 use Rattle.ripple_column.proofs.Values.{Contains-added}
@@ -14,8 +16,8 @@ invariant_of-pieces-in-Ok g c =
     let more : IsAmong apart.cracked.pivots.list qs = Contains-added _ c.crack_at-place.result apart.cracked.pivots.list qs moved in
     record { among = found_more apart.apart apart.kept.list apart.cracked.pivots.list qs more apart.among }
 
-pub returns-in-Ok : goal.returns-in-Ok
-returns-in-Ok g c =
+pub returns-in-Ok-clause-cracked : goal.returns-in-Ok-clause-cracked
+returns-in-Ok-clause-cracked g c =
     let e = c.crack_at-place.ensures in
     let s = c.set_apart.ensures in
     let old = c.args.pieces.now in
@@ -33,3 +35,11 @@ returns-in-Ok g c =
       room = s.room;
       few = omega (arith, c.len.ensures.len, length_permutation _ qs moved);
     }
+
+pub returns-in-Ok-clause-rest : goal.returns-in-Ok-clause-rest
+returns-in-Ok-clause-rest g c k d apart =
+    let s = c.set_apart.ensures in
+    let same : c.reserve.new.self.list ≡ c.args.pieces.now.cracked.pivots.list = c.reserve.ensures.list ∙ ap (λ (ps : PivotList). ps.list) s.pivots in
+    let still = rw same at c.crack_at-place.ensures.still in
+    let moved = rw s.rows at still in
+    moved k d (subst (λ (w : ℤ). IsApart w c.args.pieces.now.cracked.pivots.list k) (omega (arith, ints)) apart)

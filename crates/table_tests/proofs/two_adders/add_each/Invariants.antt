@@ -1,4 +1,4 @@
-use Rattle.set_table.specs.PassStates.{IsPassOf}
+use Rattle.set_table.specs.WorkerPasses.{IsPassOf}
 use Rattle.table_tests.proofs.two_adders.add_each.Given as goal
 
 abbrev pub invariant-loop-command : goal.invariant-loop-command

@@ -1,5 +1,5 @@
 use Rattle.std.proofs.Common.{◌≡◌, ℕ, ◌<◌, length, get_or}
-use Rattle.set_table.specs.PassStates.{no_share}
+use Rattle.set_table.specs.WorkerPasses.{no_share}
 use Rattle.set_table.specs.Tallies.{empty_tally}
 use Rattle.set_table.proofs.open.passes.new_shares.Given as goal
 

@@ -1,5 +1,5 @@
 use Rattle.std.proofs.Common.{◌∙◌, ℕ, List, ap, sym, subst, arith, rules, length}
-use Rattle.set_table.specs.PassStates.{TableView}
+use Rattle.set_table.specs.WorkerPasses.{TableView}
 use Rattle.set_table.specs.ClosingTotals.{AddsUp}
 use Rattle.set_table.specs.ClosingSteps.{HaveShares}
 use Rattle.set_table.proofs.table.Table.add_up.Goals as goal

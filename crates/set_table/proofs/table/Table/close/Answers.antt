@@ -1,7 +1,7 @@
 use Rattle.std.proofs.Common.{◌≡◌, ◌<◌, ◌∙◌, ℕ, List, ap, sym, subst, refl, rules, length}
 use Rattle.std.specs.List.Sorted.{IsPermutation}
 use Rattle.set_table.specs.Naming.{AreNotesOf}
-use Rattle.set_table.specs.PassStates.{PassView, TableView}
+use Rattle.set_table.specs.WorkerPasses.{PassView, TableView}
 use Rattle.set_table.specs.ClosingTotals.{AgreeAt, AreNumbered, pass_at}
 use Rattle.set_table.specs.declared.table.close.CloseFault.TheVariants.{MissingPass, OutOfStep}
 use Rattle.set_table.proofs.ClosingLemmas.{of_permuted}

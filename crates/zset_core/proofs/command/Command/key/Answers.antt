@@ -1,6 +1,6 @@
 use Rattle.std.proofs.Common.{subst}
-use Rattle.zset_core.specs.WorldFitsRequests.{IsBoundedMeaning}
-use Rattle.zset_core.specs.CommandRequest.{Asked}
+use Rattle.zset_core.specs.ExpressibleWorld.{IsBoundedMeaning}
+use Rattle.zset_core.specs.AbstractCommand.{Asked}
 use Rattle.zset_core.proofs.Bounds.{asked_bounded}
 use Rattle.zset_core.proofs.command.Command.key.Goals as goal
 

@@ -1,8 +1,8 @@
 use Rattle.std.proofs.Common.{ℕ, List, subst, refl, Ok, Err}
 use Rattle.std.proofs.lemmas.Result.{err_from_is_err_and}
 use Rattle.zset_core.specs.CommandGrammar.{conditions, meaning}
-use Rattle.zset_core.specs.ParsedForm.{meaning_of}
-use Rattle.zset_core.specs.ParseResults.{IsReading}
+use Rattle.zset_core.specs.ParsedArguments.{meaning_of}
+use Rattle.zset_core.specs.ReadingMatchesGrammar.{IsReading}
 use Rattle.zset_core.proofs.Asked.{asked-ok, asked-err}
 use Rattle.zset_core.proofs.command.Command.read.Goals as goal
 

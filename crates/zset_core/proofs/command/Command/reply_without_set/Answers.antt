@@ -1,7 +1,7 @@
 use Rattle.std.proofs.Common.{◌∙◌, ap, refl, Some, sym}
 use Rattle.std.specs.FinMap as map
 use Rattle.resp_wire.specs.Response.{Array}
-use Rattle.zset_core.specs.ParsedForm.{meaning_of}
+use Rattle.zset_core.specs.ParsedArguments.{meaning_of}
 use Rattle.zset_core.proofs.EmptySet.{empty_step_of}
 use Rattle.zset_core.proofs.command.Command.reply_without_set.Goals as goal
 

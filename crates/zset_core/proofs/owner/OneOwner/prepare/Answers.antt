@@ -1,8 +1,8 @@
 use Rattle.std.proofs.Common.{◌∙◌, sym, ap, subst, List, ℕ, Option, Some, rules, IfSome}
 use Rattle.resp_wire.specs.RequestEncoding.{IsArgument}
-use Rattle.zset_core.specs.CommandRequest.{Asked, key_of}
+use Rattle.zset_core.specs.AbstractCommand.{Asked, key_of}
 use Rattle.zset_core.specs.OwnerViewAndInvariant.{world_of, next_at}
-use Rattle.zset_core.specs.WorldFitsRequests.{IsBoundedWorld}
+use Rattle.zset_core.specs.ExpressibleWorld.{IsBoundedWorld}
 use Rattle.zset_core.proofs.Bounds.{IsBoundedNext, ready_bounded_at}
 use Rattle.zset_core.proofs.OwnerBounds.{world_bounded}
 use Rattle.zset_core.proofs.owner.OneOwner.prepare.Goals as goal

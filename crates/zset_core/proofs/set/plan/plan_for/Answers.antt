@@ -3,9 +3,9 @@ use Rattle.std.specs.FinMap as map
 use Rattle.std.proofs.lemmas.List.{take_all}
 use Rattle.zset_core.specs.CommandEffectsOnColumn.{edit_count}
 use Rattle.zset_core.specs.RowEdits.{HasAtMost}
-use Rattle.zset_core.specs.ParsedForm.{meaning_of}
+use Rattle.zset_core.specs.ParsedArguments.{meaning_of}
 use Rattle.zset_core.specs.MembersWithStagedScores.{current_score, members_by}
-use Rattle.zset_core.specs.CommandRequest.{Meaning}
+use Rattle.zset_core.specs.AbstractCommand.{Meaning}
 use Rattle.zset_core.specs.SortedSet.{Members}
 use Rattle.zset_core.specs.Semantics.{remove_all}
 use Rattle.zset_core.proofs.set.plan.plan_for.Goals as goal

@@ -1,7 +1,7 @@
 use Rattle.std.proofs.Common.{List, ◌∙◌, sym, subst}
 use Rattle.std.proofs.Common.{ℕ}
 use Rattle.std.specs.declared.option.Option.{Option}
-use Rattle.set_table.specs.KeyMemory.{AllMet, AllHashed}
+use Rattle.set_table.specs.KeyCache.{AllMet, AllHashed}
 use Rattle.set_table.specs.declared.naming.memory.MetKey.{MetKey}
 use Rattle.set_table.proofs.MemoryLemmas.{both_same}
 use Rattle.set_table.proofs.naming.knowledge.Knowledge.again.Goals as goal

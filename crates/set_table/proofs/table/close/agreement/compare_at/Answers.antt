@@ -5,7 +5,7 @@ use Rattle.std.proofs.Common.{sym}
 use Rattle.std.specs.declared.option.Option.{Option}
 use Rattle.std.specs.declared.option.Option.TheVariants.{None, Some}
 use Rattle.set_table.specs.Naming.{name_at}
-use Rattle.set_table.specs.PassStates.{PassView}
+use Rattle.set_table.specs.WorkerPasses.{PassView}
 use Rattle.set_table.specs.ClosingTotals.{pass_at, no_pass}
 use Rattle.set_table.proofs.table.close.agreement.compare_at.Goals as goal
 

@@ -1,0 +1,163 @@
+ghost use Rattle.std.specs.Prelude.{◌<◌, ◌≤◌, ◌^◌};
+
+use crate::columns::{add, expect_count, expect_state};
+use crate::removals::{expect_parted, remove};
+use ripple_column::Column;
+use score_bounds::Bound;
+use std::alloc::{AllocError, Global};
+use std::process::Abort;
+
+// A column beside the scores of its rows, which rise.
+#[derive(Drop)]
+struct Window {
+    column: Column<Global>,
+    scores: Vec<i64>,
+}
+
+// Adds a row at the high end.
+fn push(alloc: Global, window: &mut Window, score: i64) -> Result<(), AllocError> {
+    add(alloc, &mut window.column, score, &score.to_be_bytes())?;
+    window.scores.push(score)?;
+    Ok(())
+}
+
+// A window of so many rows with the scores from 0 on.
+fn filled_window(alloc: Global, len: u16) -> Result<Window, AllocError> {
+    let mut window = Window {
+        column: Column::new(alloc),
+        scores: Vec::new(alloc),
+    };
+    for score in 0..len {
+        push(alloc, &mut window, i64::from(score))?;
+    }
+    Ok(window)
+}
+
+// Takes the first row out.
+fn remove_first<R: Abort>(rt: &R, window: &mut Window) -> Result<(), AllocError> {
+    assert!(rt; !window.scores.is_empty());
+    let first = window.scores.remove(0);
+    let column = &mut window.column;
+    remove(rt, column, Bound::NegInf, Bound::Incl(first), 1)
+}
+
+// Adds rows with the scores from `from` on and before `to`, and takes the first row out after each. Those
+// that came are merged where their score can be divided by `merged`.
+fn slide<R: Abort>(
+    rt: &R,
+    alloc: Global,
+    window: &mut Window,
+    from: u16,
+    to: u16,
+    merged: u16,
+) -> Result<(), AllocError>
+    requires { 0 < merged }
+{
+    for score in from..to {
+        push(alloc, window, i64::from(score))?;
+        if score % merged == 0 {
+            window.column.merge_all()?;
+        }
+        remove_first(rt, window)?;
+    }
+    window.column.merge_all()
+}
+
+// The column has just these rows, and its pivots part them.
+fn expect_rows<R: Abort>(rt: &R, alloc: Global, window: &Window) -> Result<(), AllocError> {
+    let rows = window.column.rows(0, window.column.len());
+    let mut scores: Vec<i64> = rows.iter().map(|row| row.score()).collect(alloc)?;
+    scores.sort_unstable();
+    assert_eq!(rt; scores.as_slice(), window.scores.as_slice());
+    for row in rows {
+        assert!(rt; row.member() == row.score().to_be_bytes().as_slice());
+    }
+    expect_parted(rt, &window.column);
+    Ok(())
+}
+
+// Takes two rows in the middle out.
+fn remove_two<R: Abort>(rt: &R, window: &mut Window) -> Result<(), AllocError> {
+    let middle = window.scores.len() / 2;
+    assert!(rt; middle > 0);
+    let second = window.scores.remove(middle);
+    let first = window.scores.remove(middle - 1);
+    let column = &mut window.column;
+    remove(rt, column, Bound::Incl(first), Bound::Incl(second), 2)
+}
+
+// Turns a window of `len` rows over twice, takes rows in the middle out, turns it over again, and empties it.
+fn turn_over<R: Abort>(rt: &R, alloc: Global, len: u16, merged: u16) -> Result<(), AllocError>
+    requires some { 0 < len }
+    requires few { len < 2 ^ 14 }
+    requires merged { 0 < merged }
+{
+    let mut window = filled_window(alloc, len)?;
+    slide(rt, alloc, &mut window, len, 3 * len, merged)?;
+    expect_rows(rt, alloc, &window)?;
+    remove_two(rt, &mut window)?;
+    expect_rows(rt, alloc, &window)?;
+    slide(rt, alloc, &mut window, 3 * len, 4 * len - 2, merged)?;
+    expect_rows(rt, alloc, &window)?;
+    let rows = window.scores.len();
+    remove(rt, &mut window.column, Bound::NegInf, Bound::PosInf, rows)?;
+    window.scores.clear();
+    push(alloc, &mut window, 7)?;
+    window.column.merge_all()?;
+    expect_rows(rt, alloc, &window)
+}
+
+#[test]
+fn the_first_row_leaves_again_and_again(rt: HostRuntime) -> Result<(), AllocError> {
+    let alloc = rt.alloc();
+    turn_over(&rt, alloc, 10, 1)?;
+    turn_over(&rt, alloc, 3000, 1)?;
+    turn_over(&rt, alloc, 3000, 64)
+}
+
+#[test]
+fn pivots_close_up_behind_rows_that_left(rt: HostRuntime) -> Result<(), AllocError> {
+    let alloc = rt.alloc();
+    let mut window = filled_window(alloc, 10)?;
+    slide(&rt, alloc, &mut window, 10, 13, 1)?;
+    let column = &mut window.column;
+    expect_state(&rt, column, &[(1, 0), (2, 0), (3, 0)], 10, (0, 0));
+    expect_count(&rt, column, Bound::Incl(5), Bound::Incl(6), 2)?;
+    expect_state(
+        &rt,
+        column,
+        &[(1, 0), (2, 0), (3, 0), (5, 2), (7, 4)],
+        10,
+        (0, 0),
+    );
+    slide(&rt, alloc, &mut window, 13, 16, 1)?;
+    expect_state(
+        &rt,
+        &window.column,
+        &[(1, 0), (2, 0), (3, 0), (4, 0), (5, 0), (6, 0), (7, 1)],
+        10,
+        (0, 0),
+    );
+    Ok(())
+}
+
+// How many rows the first piece with rows has.
+fn first_piece(column: &Column<Global>) -> usize {
+    for pivot in column.piece_list() {
+        if pivot.1 > 0 {
+            return pivot.1;
+        }
+    }
+    column.len()
+}
+
+// More turns than there may be pivots for a search to crack at: a sliding cut reads a short piece all the same.
+#[test]
+fn a_sliding_cut_finds_short_pieces(rt: HostRuntime) -> Result<(), AllocError> {
+    let alloc = rt.alloc();
+    let mut window = filled_window(alloc, 9000)?;
+    assert!(rt; first_piece(&window.column) > 2048);
+    slide(&rt, alloc, &mut window, 9000, 9600, 8)?;
+    assert!(rt; first_piece(&window.column) <= 2048);
+    expect_rows(&rt, alloc, &window)
+}

@@ -1,0 +1,19 @@
+use Rattle.std.proofs.Common.{refl, sym, ◌∙◌, arith}
+use Rattle.std.proofs.lemmas.Int.{ints}
+use Rattle.crack_kernel.specs.PivotList.{IsNewValue}
+use Rattle.ripple_column.proofs.CrackSteps.{IsPiece, IsApart-alike, IsPiece-from}
+use Rattle.ripple_column.proofs.Values.{IsApart-new, IsNewValue-none}
+use Rattle.ripple_column.proofs.center_cracks.crack_center.Goals as goal
+
+pub returns-clause-still : goal.returns-clause-still
+returns-clause-still g c k d outside =
+    let ps = c.args.pieces.now.cracked.pivots.list in
+    let rows = c.args.pieces.now.cracked.rows.items in
+    let law = c.args.pieces.now.cracked.law in
+    let v = c.args.v in
+    let new : IsNewValue v ps = IsNewValue-none c.find.result _ v ps (omega (arith, ints)) c.find.ensures (sym c.is_some.ensures ∙ c.if-is_some.false) in
+    let piece : IsPiece v ps rows c.piece_of-from.result.0 c.piece_of-from.result.1 =
+    IsPiece-from _ v ps rows c.piece_of-from.result (omega (arith, ints)) law (rw c.len-rows_len.ensures at c.piece_of-from.ensures) in
+    let center = IsPiece-from _ _ ps rows c.piece_of-center_from.result refl law (rw c.len-rows_len.ensures at c.piece_of-center_from.ensures) in
+    let alike = rw c.if-center_to-to.false at (rw c.if-center_from-from.false at center) in
+    c.crack_inside.ensures.rest k d (IsApart-alike v _ ps rows _ _ (omega (arith, c.if-from-to.false)) piece alike k (IsApart-new v ps k new outside))

@@ -1,0 +1,95 @@
+//! Cracks in the center of a piece, where a range's cut would come near its end (Stochastic Database
+//! Cracking, Halim, Idreos, Karras and Yap, PVLDB 5, 2012: data driven center).
+//!
+//! Where ranges move on, as those of a sliding window do, each cut comes near the end of the piece that
+//! no range has parted yet. Cracked at the cuts alone, all its rows would be read each time.
+
+ghost use Rattle.std.specs.Prelude.{◌≡◌, ℕ, ℤ, List, slice_index_or};
+ghost use Rattle.ripple_column.specs.CutPivots.{IsUncracked};
+ghost use Rattle.ripple_column.specs.InnerCrackEffects.{AreCracked, shown};
+ghost use Rattle.score_bounds.specs.declared.bounds.Cut.TheVariants.{At};
+
+use crate::inner_pivots::{SAMPLE, crack_inside, parting_score_at, sorted_sample};
+use crate::pieces::Pieces;
+use crack_kernel::Row;
+use score_bounds::Cut;
+use std::alloc::Allocator;
+
+/// A piece of fewer rows is cracked at a cut alone, which reads them as fast as a crack in the center.
+const LONG_PIECE: usize = 2048;
+
+/// A cut comes near the end of a piece where fewer rows of its sample than this are on one side.
+const NEAR: usize = SAMPLE / 8;
+
+/// A score that parts these rows in the center, where a cut at `v` would come near an end of them.
+fn center_score<A: Allocator>(rows: &[Row<A>], v: i64) -> Option<i64> {
+    let sample = sorted_sample(rows)?;
+    let below = sample.partition_point(|score| *score < v);
+    if below >= NEAR && below <= SAMPLE - NEAR {
+        return None;
+    }
+    parting_score_at(&sample, SAMPLE / 2)
+}
+
+/// Cracks the piece of `v` in its center, where it is long and a cut at `v` would come near its end, and
+/// answers whether it did. Where `v` is a pivot it cracks nothing.
+fn crack_center<A: Allocator>(pieces: &mut Pieces<A>, v: i64) -> bool
+    ensures cracked { AreCracked pieces.old pieces.new }
+    ensures still { (k : ℕ) (d : ℤ × List ℕ) → IsUncracked (At v) pieces.old.cracked.pivots.list k
+        → slice_index_or pieces.new.cracked.rows.items k d ≡ slice_index_or pieces.old.cracked.rows.items k d }
+{
+    let cracked = &pieces.cracked;
+    if cracked.pivots.find(v).is_some() {
+        return false;
+    }
+    let rows_len = cracked.rows.len();
+    let (from, to) = cracked.pivots.piece_of(v, rows_len);
+    if from >= to || to > rows_len || to - from < LONG_PIECE {
+        return false;
+    }
+    let Some(center) = center_score(&cracked.rows.list()[from..to], v) else {
+        return false;
+    };
+    // A row's score lies in the row's piece: this is only told here.
+    let (center_from, center_to) = cracked.pivots.piece_of(center, rows_len);
+    if center_from != from || center_to != to {
+        return false;
+    }
+    crack_inside(pieces, center)
+}
+
+/// Cracks the piece of `v` in its center, and the half of it with `v` again, until a cut there comes near no
+/// end of a long piece.
+fn crack_centers<A: Allocator>(pieces: &mut Pieces<A>, v: i64)
+    ensures cracked { AreCracked pieces.old pieces.new }
+    ensures still { (k : ℕ) (d : ℤ × List ℕ) → IsUncracked (At v) pieces.old.cracked.pivots.list k
+        → slice_index_or pieces.new.cracked.rows.items k d ≡ slice_index_or pieces.old.cracked.rows.items k d }
+{
+    for _turn in 0..SAMPLE {
+        if !crack_center(pieces, v) {
+            return;
+        }
+    }
+}
+
+/// Cracks the piece of a cut in centers, where the cut is not an end of the column.
+fn approach_cut<A: Allocator>(pieces: &mut Pieces<A>, cut: &Cut)
+    ensures cracked { AreCracked pieces.old pieces.new }
+    ensures still { (k : ℕ) (d : ℤ × List ℕ) → IsUncracked cut.now pieces.old.cracked.pivots.list k
+        → slice_index_or pieces.new.cracked.rows.items k d ≡ slice_index_or pieces.old.cracked.rows.items k d }
+{
+    if let Cut::At(v) = *cut {
+        crack_centers(pieces, v);
+    }
+}
+
+/// Cracks the pieces of two cuts in their centers, so that the cuts come near no end of a long piece.
+pub fn approach_cuts<A: Allocator>(pieces: &mut Pieces<A>, first: &Cut, second: &Cut)
+    ensures cracked { AreCracked pieces.old pieces.new }
+    ensures still { (k : ℕ) (d : ℤ × List ℕ) → IsUncracked first.now (shown pieces.old) k
+        → IsUncracked second.now (shown pieces.old) k → slice_index_or pieces.new.cracked.rows.items k d
+        ≡ slice_index_or pieces.old.cracked.rows.items k d }
+{
+    approach_cut(pieces, first);
+    approach_cut(pieces, second);
+}

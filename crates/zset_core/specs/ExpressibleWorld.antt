@@ -1,0 +1,51 @@
+-- What requests can carry: keys and members of at most 65,536 bytes, and scores of 64 bits. No owner has other sets, so that
+-- requests can be replayed to each of its worlds.
+use Rattle.std.specs.Prelude.{◌≡◌, ℕ, false, List, IfSome}
+use Rattle.std.specs.List.{AllByRecursion}
+use Rattle.std.specs.FinMap as fin
+use Rattle.resp_wire.specs.RequestEncoding.{IsArgument}
+use Rattle.score_bounds.specs.Scores.{IsScore}
+use Rattle.zset_core.specs.SortedSet.{Members, Pair}
+use Rattle.zset_core.specs.AbstractCommand.{Meaning, key_of}
+use Rattle.zset_core.specs.AbstractCommand as meanings
+use Rattle.zset_core.specs.SetAndOwnerViews.{OwnerView}
+use Rattle.zset_core.specs.World.{World, is_empty}
+
+-- a pair that a request can carry
+abbrev pub IsSpelled : Pair → Type 0
+IsSpelled p = IsScore p.0 × IsArgument p.1
+
+-- a set of such pairs
+abbrev pub IsBoundedSet : Members → Type 0
+IsBoundedSet members = (member : List ℕ) → IfSome (fin.get members member) (λ score. IsSpelled (score, member))
+
+-- a set that a world may have at a key: it is not empty
+pub record IsBoundedAt (name : List ℕ) (set : Members) : Type 0 where
+  pub key : IsArgument name
+  pub filled : is_empty set ≡ false
+  pub members : IsBoundedSet set
+
+-- a world of such sets
+abbrev pub IsBoundedWorld : World → Type 0
+IsBoundedWorld world = (key : List ℕ) → IfSome (fin.get world key) (IsBoundedAt key)
+
+-- a command puts no other pairs into a set
+abbrev pub PutsSpelled : Meaning → Type 0
+PutsSpelled (meanings.Ping text) = Unit {0}
+PutsSpelled (meanings.Add key flags changed pairs) = AllByRecursion IsSpelled pairs
+PutsSpelled (meanings.Increase key flags given member) = IsSpelled (given, member)
+PutsSpelled (meanings.Remove key members) = Unit {0}
+PutsSpelled (meanings.RemoveRange key range) = Unit {0}
+PutsSpelled (meanings.Score key member) = Unit {0}
+PutsSpelled (meanings.Card key) = Unit {0}
+PutsSpelled (meanings.Count key range) = Unit {0}
+PutsSpelled (meanings.ListRange key range with_scores limit) = Unit {0}
+
+pub record IsBoundedMeaning (meaning : Meaning) : Type 0 where
+  pub key : IfSome (key_of meaning) IsArgument
+  pub puts : PutsSpelled meaning
+
+-- an owner of such sets, and one of them is prepared at most
+pub record IsBoundedOwner (owner : OwnerView) : Type 0 where
+  pub world : IsBoundedWorld owner.world
+  pub next : IfSome owner.next (λ next. IsArgument next.0 × IsBoundedSet next.1.members)
