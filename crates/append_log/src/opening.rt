@@ -88,6 +88,9 @@ fn cut_torn<F: OpenFile>(file: &F, loaded: &Loaded) -> Result<(), FileFault>
 /// it is missing, replays its records on the sets of the owner, and cuts its torn end where there
 /// is one. The folder of a file with no whole byte is synced.
 ///
+/// No contract knows a file's bytes: this one says that some were read, that the owner has what these
+/// replay to, and that the new sink counts its calls and failures from 0.
+///
 /// # Errors
 ///
 /// A file with damage, or with a record that is no command, is not written to. The owner then holds

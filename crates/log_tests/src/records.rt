@@ -11,6 +11,8 @@ use zset_core::{Command, OneOwner, Refusal};
 
 pub type Owner = OneOwner<RandomState, Global>;
 
+type Logged<L> = LoggedOwner<RandomState, FuseSink<MemorySink<Global>>, L, Global>;
+
 // The request of a text's arguments, which single spaces part.
 fn request(alloc: Global, text: &str) -> Result<Request<Global>, Fail> {
     let mut arguments = Vec::new(alloc);
@@ -61,6 +63,27 @@ pub struct Played {
     pub sink: FuseSink<MemorySink<Global>>,
 }
 
+// The reply to a command, or the number of its refusal.
+fn answered<L: Ledger>(alloc: Global, owner: &mut Logged<L>, text: &str) -> Result<String, Fail> {
+    let command = command(alloc, text)?;
+    let answer = owner.run(&command);
+    shown(alloc, &answer)
+}
+
+// The replies to commands in turn, each with a space behind it.
+fn replies_to<L: Ledger>(
+    alloc: Global,
+    owner: &mut Logged<L>,
+    commands: &[&str],
+) -> Result<String, Fail> {
+    let mut replies = String::new(alloc);
+    for text in commands {
+        replies.push_str(answered(alloc, owner, text)?.as_str())?;
+        replies.push(' ')?;
+    }
+    Ok(replies)
+}
+
 pub fn play<L: Ledger>(
     alloc: Global,
     hasher: RandomState,
@@ -77,13 +100,7 @@ pub fn play<L: Ledger>(
 {
     let log = Log::<_, L>::new(blank, sink, max_records);
     let mut owner = LoggedOwner::new(alloc, OneOwner::new(alloc, hasher), log);
-    let mut replies = String::new(alloc);
-    for text in commands {
-        let command = command(alloc, text)?;
-        let answer = owner.run(&command);
-        replies.push_str(shown(alloc, &answer)?.as_str())?;
-        replies.push(' ')?;
-    }
+    let replies = replies_to(alloc, &mut owner, commands)?;
     let (_, log) = owner.into_parts();
     let appended = log.appended();
     let is_broken = log.is_broken();

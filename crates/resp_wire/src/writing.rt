@@ -74,6 +74,19 @@ fn put_reply<A: Allocator>(reply: &Reply<A>, out: &mut Vec<u8, A>) -> Result<(),
     }
 }
 
+/// The most bytes that stand beside an argument's own, or before the first one: a mark, a number of at
+/// most five digits, and the ends of two lines.
+const FRAME: usize = 10;
+
+/// As many bytes as the arguments take once they are written, and few more, so that the room is made at once.
+fn room_for<A: Allocator>(words: &[Bytes<A>]) -> usize {
+    let mut room = FRAME;
+    for word in words {
+        room = room.saturating_add(word.len()).saturating_add(FRAME);
+    }
+    room
+}
+
 /// Writes a request at the end of the bytes. On Err, they are unchanged.
 pub fn write_request<A: Allocator>(
     wanted: &Request<A>,
@@ -82,6 +95,7 @@ pub fn write_request<A: Allocator>(
     ensures ok { OnOk result (out.new.items ≡ out.old.items ++ request wanted.now) }
     ensures err { OnErr result (out.new.items ≡ out.old.items) }
 {
+    out.reserve(room_for(wanted.words()))?;
     let had = out.len();
     let written = put_array(out, wanted.words());
     if written.is_err() {

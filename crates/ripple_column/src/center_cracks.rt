@@ -9,9 +9,10 @@ ghost use Rattle.ripple_column.specs.CutPivots.{IsUncracked};
 ghost use Rattle.ripple_column.specs.InnerCrackEffects.{AreCracked, shown};
 ghost use Rattle.score_bounds.specs.declared.bounds.Cut.TheVariants.{At};
 
-use crate::inner_pivots::{SAMPLE, crack_inside, parting_score_at, sorted_sample};
+use crate::inner_cracks::{SAMPLE, crack_inside, parting_score_at, sorted_sample};
 use crate::pieces::Pieces;
-use crack_kernel::Row;
+use crate::ripple::{place_or, start_below};
+use crack_kernel::{Pivots, Row};
 use score_bounds::Cut;
 use std::alloc::Allocator;
 
@@ -20,6 +21,32 @@ const LONG_PIECE: usize = 2048;
 
 /// A cut comes near the end of a piece where fewer rows of its sample than this are on one side.
 const NEAR: usize = SAMPLE / 8;
+
+/// Around so many places, at equal distances, the pieces are looked at to tell whether all are short.
+const LOOKED_AT: usize = 8;
+
+/// How many rows the piece around a place has.
+fn piece_len<A: Allocator>(pivots: &Pivots<A>, place: usize, rows_len: usize) -> usize {
+    let list = pivots.list();
+    let i = list.partition_point(|pivot| pivot.1 <= place);
+    if i > list.len() {
+        return rows_len;
+    }
+    place_or(list, i, rows_len).saturating_sub(start_below(list, i))
+}
+
+/// Whether pivots part the rows into short pieces, as far as a few of these tell.
+pub fn are_short<A: Allocator>(pivots: &Pivots<A>, rows_len: usize) -> bool {
+    let step = rows_len / LOOKED_AT;
+    let mut place = 0usize;
+    for _piece in 0..LOOKED_AT {
+        if piece_len(pivots, place, rows_len) >= LONG_PIECE {
+            return false;
+        }
+        place = place.saturating_add(step);
+    }
+    true
+}
 
 /// A score that parts these rows in the center, where a cut at `v` would come near an end of them.
 fn center_score<A: Allocator>(rows: &[Row<A>], v: i64) -> Option<i64> {

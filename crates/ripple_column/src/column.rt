@@ -10,10 +10,10 @@ ghost use Rattle.ripple_column.specs.CutPivots.{is_before, values};
 ghost use Rattle.ripple_column.specs.ShownPivots.{IsAmong};
 
 use crate::cracking::is_before;
-use crate::inner_pivots::{is_wide, narrow};
+use crate::inner_cracks::{is_wide, narrow};
 use crate::pending_lists::{MAX_PENDING, MAX_RESERVED, Pending};
 use crate::pieces::Pieces;
-use crate::row_removal::remove_between;
+use crate::range_removal::remove_between;
 use crate::select::{select_between, settled_places};
 use crack_kernel::{MAX_PIVOTS, Row};
 use score_bounds::Range;

@@ -8,9 +8,9 @@ ghost use Rattle.ripple_column.specs.MergeEffects.{Merges};
 ghost use Rattle.ripple_column.specs.InnerCrackEffects.{HasRoom, StaysAsShown, most_with_inner, shown};
 ghost use Rattle.ripple_column.specs.CutPivots.{is_before, values, cut_values, count_with_cuts, new_values, values_with_cuts, StandsAt, IsUncracked};
 
-use crate::center_cracks::approach_cuts;
+use crate::center_cracks::{approach_cuts, are_short};
 use crate::cracking::{count_missing, crack_between, is_before};
-use crate::inner_pivots::break_up;
+use crate::inner_cracks::break_up;
 use crate::merge::merge_gathered;
 use crate::pending_lists::Pending;
 use crate::pieces::Pieces;
@@ -26,7 +26,8 @@ const MANY_SHOWN: usize = 512;
 /// Few inner pivots: fewer than this part of those that are shown.
 const FEW_INNER: usize = 8;
 
-/// Drops the inner pivots where they are few beside many that are shown, and a merge is to come.
+/// Drops the inner pivots where they are few beside many that are shown, if a merge is to come, or if the
+/// shown ones alone make the pieces short: each new cut would be put into both lists.
 fn drop_few_inner<A: Allocator>(pieces: &mut Pieces<A>, pending: &Pending<A>, range: &Range)
     ensures rows { pieces.new.cracked.rows ≡ pieces.old.cracked.rows }
     ensures shown { shown pieces.new ≡ shown pieces.old }
@@ -34,7 +35,10 @@ fn drop_few_inner<A: Allocator>(pieces: &mut Pieces<A>, pending: &Pending<A>, ra
     let all = pieces.cracked.pivots.len();
     let shown = pieces.kept.len();
     let are_few = shown >= MANY_SHOWN && shown <= all && (all - shown) * FEW_INNER < shown;
-    if pieces.apart && are_few && pending.has_within(range) {
+    if !pieces.apart || !are_few {
+        return;
+    }
+    if pending.has_within(range) || are_short(&pieces.kept, pieces.cracked.rows.len()) {
         pieces.drop_inner();
     }
 }

@@ -97,7 +97,9 @@ impl<H: BuildHasher, S: LogSink, L: Ledger, A: Allocator + Copy> Table<H, S, L, 
 
     /// Runs a command at its key's place. Where the key has none yet, a command that creates gives it
     /// one, and any other gets the reply of an empty set, as PING gets its own. A command that reads is
-    /// asked under the shared lock first. `rt` waits for locks; the gate is called inside each one.
+    /// asked under the shared lock first. `rt` waits for locks; the gate is called inside each one. A pass
+    /// is one worker's memory: the places that it knows, and for each place a share, the sum of what the
+    /// worker was answered there.
     ///
     /// On [`Answered::Ran`] the place is the key's, by what the pass knows then. The answer's `found` is what
     /// all passes together had been told of the place's members before, its `own` what this command added

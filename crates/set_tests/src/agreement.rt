@@ -2,15 +2,13 @@
 
 ghost use Rattle.std.specs.Prelude.{◌≡◌, None};
 
-use crate::columns::{Set, run};
+use crate::columns::{Set, new_set, run};
 use crate::examples::{command, text_of};
 use crate::random_changes::{Extent, Plain, next, random_change};
 use std::alloc::Global;
 use std::collections::BTreeMap;
-use std::hash::RandomState;
 use std::process::Abort;
 use std::test::*;
-use zset_core::ZSet;
 
 // What is asked for: scores above `low` and up to `high`.
 #[derive(Clone, Copy)]
@@ -80,6 +78,47 @@ fn listing_reply(alloc: Global, rows: &[(i64, String)], asked: &Question) -> Res
     Ok(format!(in alloc; "*{elements}~{text}")?)
 }
 
+// The reply that a plain set gives.
+fn plain_reply(alloc: Global, plain: &Plain, asked: &Question) -> Result<String, Fail> {
+    let rows = plain_rows(alloc, plain, asked)?;
+    listing_reply(alloc, rows.as_slice(), asked)
+}
+
+// Runs a command on a set: the reply is as wanted.
+fn expect_run<R: Abort>(
+    rt: &R,
+    alloc: Global,
+    set: &mut Set,
+    text: &str,
+    want: &str,
+) -> Result<(), Fail>
+    requires { set.old.next ≡ None }
+    ensures { set.new.next ≡ None }
+{
+    let told = run(alloc, set, text)?;
+    assert_eq!(rt; text_of(alloc, &told)?.as_str(), want, "{text}");
+    Ok(())
+}
+
+// Asks a set as it stands: the reply is as wanted.
+fn expect_ready<R: Abort>(
+    rt: &R,
+    alloc: Global,
+    set: &Set,
+    text: &str,
+    want: &str,
+) -> Result<(), Fail>
+    requires { set.now.next ≡ None }
+{
+    let command = command(alloc, text)?;
+    if command.key().is_none() {
+        Err("no key")?;
+    }
+    let told = set.ready(&command).ok_or("not ready")??;
+    assert_eq!(rt; text_of(alloc, &told)?.as_str(), want, "{text}");
+    Ok(())
+}
+
 // Asks a set, and asks it again as it stands then: both replies are those of the plain set.
 fn expect_listing<R: Abort>(
     rt: &R,
@@ -91,18 +130,10 @@ fn expect_listing<R: Abort>(
     requires { set.old.next ≡ None }
     ensures { set.new.next ≡ None }
 {
-    let rows = plain_rows(alloc, plain, asked)?;
-    let want = listing_reply(alloc, rows.as_slice(), asked)?;
+    let want = plain_reply(alloc, plain, asked)?;
     let text = listing_text(alloc, asked)?;
-    let told = run(alloc, set, text.as_str())?;
-    assert_eq!(rt; text_of(alloc, &told)?, want, "{text}");
-    let command = command(alloc, text.as_str())?;
-    if command.key().is_none() {
-        Err("no key")?;
-    }
-    let again = set.ready(&command).ok_or("not ready")??;
-    assert_eq!(rt; text_of(alloc, &again)?, want, "{text}");
-    Ok(())
+    expect_run(rt, alloc, set, text.as_str(), want.as_str())?;
+    expect_ready(rt, alloc, set, text.as_str(), want.as_str())
 }
 
 // A set of 20 members with 10 scores, and the same plain.
@@ -120,24 +151,48 @@ fn twenty(alloc: Global, set: &mut Set) -> Result<Plain, Fail>
     Ok(plain)
 }
 
+// Asks for the windows from an offset on, of each count from -2 to 22.
+fn expect_windows_from<R: Abort>(
+    rt: &R,
+    alloc: Global,
+    set: &mut Set,
+    plain: &Plain,
+    offset: i64,
+) -> Result<(), Fail>
+    requires { set.old.next ≡ None }
+    ensures { set.new.next ≡ None }
+{
+    for count in -2..23 {
+        let asked = Question {
+            low: -1,
+            high: 9,
+            with_scores: false,
+            limit: Some((offset, count)),
+        };
+        expect_listing(rt, alloc, set, plain, &asked)?;
+    }
+    Ok(())
+}
+
+// Asks for the windows of each offset from -2 to 22.
+fn expect_windows<R: Abort>(rt: &R, alloc: Global, set: &mut Set, plain: &Plain) -> Result<(), Fail>
+    requires { set.old.next ≡ None }
+    ensures { set.new.next ≡ None }
+{
+    for offset in -2..23 {
+        expect_windows_from(rt, alloc, set, plain, offset)?;
+    }
+    Ok(())
+}
+
 #[test]
 fn windows_are_cut_out_of_the_listing(rt: HostRuntime) -> Result<(), Fail> {
     let alloc = rt.alloc();
-    let mut set = ZSet::with_hasher(alloc, RandomState::new(&rt)?);
+    let mut set = new_set(&rt)?;
     let plain = twenty(alloc, &mut set)?;
     for crack in ["ZCARD k", "ZCOUNT k 2 4", "ZCOUNT k (6 8"] {
         run(alloc, &mut set, crack)?;
-        for offset in -2..23 {
-            for count in -2..23 {
-                let asked = Question {
-                    low: -1,
-                    high: 9,
-                    with_scores: false,
-                    limit: Some((offset, count)),
-                };
-                expect_listing(&rt, alloc, &mut set, &plain, &asked)?;
-            }
-        }
+        expect_windows(&rt, alloc, &mut set, &plain)?;
     }
     Ok(())
 }
@@ -173,31 +228,44 @@ fn expect_count<R: Abort>(
     let rows = plain_rows(alloc, plain, asked)?;
     let want = format!(in alloc; ":{}~", rows.len())?;
     let text = format!(in alloc; "ZCOUNT k ({} {}", asked.low, asked.high)?;
-    let told = run(alloc, set, text.as_str())?;
-    assert_eq!(rt; text_of(alloc, &told)?, want, "{text}");
-    Ok(())
+    expect_run(rt, alloc, set, text.as_str(), want.as_str())
+}
+
+// Twelve members with twenty scores.
+const FEW: Extent = Extent {
+    members: 12,
+    scores: 20,
+};
+
+// A random change of a set, a listing and a count, by the numbers behind this one; and the last of these.
+fn change_and_ask<R: Abort>(
+    rt: &R,
+    alloc: Global,
+    set: &mut Set,
+    plain: &mut Plain,
+    number: u64,
+) -> Result<u64, Fail>
+    requires { set.old.next ≡ None }
+    ensures { set.new.next ≡ None }
+{
+    let first = next(number);
+    let text = random_change(alloc, plain, first, &FEW)?;
+    run(alloc, set, text.as_str())?;
+    let second = next(first);
+    expect_listing(rt, alloc, set, plain, &random_question(second))?;
+    let third = next(second);
+    expect_count(rt, alloc, set, plain, &random_question(third))?;
+    Ok(third)
 }
 
 #[test]
 fn random_commands_agree_with_a_plain_set(rt: HostRuntime) -> Result<(), Fail> {
     let alloc = rt.alloc();
-    let mut set = ZSet::with_hasher(alloc, RandomState::new(&rt)?);
+    let mut set = new_set(&rt)?;
     let mut plain = BTreeMap::new(alloc);
-    let extent = Extent {
-        members: 12,
-        scores: 20,
-    };
     let mut number = 1;
     for _ in 0..3000u32 {
-        number = next(number);
-        let text = random_change(alloc, &mut plain, number, &extent)?;
-        run(alloc, &mut set, text.as_str())?;
-        number = next(number);
-        let asked = random_question(number);
-        expect_listing(&rt, alloc, &mut set, &plain, &asked)?;
-        number = next(number);
-        let asked = random_question(number);
-        expect_count(&rt, alloc, &mut set, &plain, &asked)?;
+        number = change_and_ask(&rt, alloc, &mut set, &mut plain, number)?;
     }
     Ok(())
 }
@@ -259,7 +327,7 @@ fn agree_on_windows<R: Abort>(
 fn windows_of_big_sets_agree_with_plain_sets(rt: HostRuntime) -> Result<(), Fail> {
     let alloc = rt.alloc();
     for scores in [3, 1_000_000] {
-        let mut set = ZSet::with_hasher(alloc, RandomState::new(&rt)?);
+        let mut set = new_set(&rt)?;
         let extent = Extent {
             members: 12_000,
             scores,
@@ -269,35 +337,45 @@ fn windows_of_big_sets_agree_with_plain_sets(rt: HostRuntime) -> Result<(), Fail
     Ok(())
 }
 
-#[test]
-fn windows_of_one_score_are_listed(rt: HostRuntime) -> Result<(), Fail> {
-    let alloc = rt.alloc();
-    let mut set = ZSet::with_hasher(alloc, RandomState::new(&rt)?);
-    let extent = Extent {
-        members: 1_000,
-        scores: 1,
-    };
-    let plain = big(alloc, &mut set, &extent)?;
-    let limits = [
-        (0, 1),
-        (0, 10),
-        (7, 3),
-        (0, 125),
-        (124, 1),
-        (0, 126),
-        (500, 10),
-        (995, 10),
-    ];
-    for limit in limits {
+// Offsets and counts of LIMIT, near pivots of a set of 1,000 members and between them.
+const LIMITS: [(i64, i64); 8] = [
+    (0, 1),
+    (0, 10),
+    (7, 3),
+    (0, 125),
+    (124, 1),
+    (0, 126),
+    (500, 10),
+    (995, 10),
+];
+
+// Asks for the windows of a set of one score.
+fn expect_limits<R: Abort>(rt: &R, alloc: Global, set: &mut Set, plain: &Plain) -> Result<(), Fail>
+    requires { set.old.next ≡ None }
+    ensures { set.new.next ≡ None }
+{
+    for limit in LIMITS {
         let asked = Question {
             low: -1,
             high: 0,
             with_scores: true,
             limit: Some(limit),
         };
-        expect_listing(&rt, alloc, &mut set, &plain, &asked)?;
+        expect_listing(rt, alloc, set, plain, &asked)?;
     }
     Ok(())
+}
+
+#[test]
+fn windows_of_one_score_are_listed(rt: HostRuntime) -> Result<(), Fail> {
+    let alloc = rt.alloc();
+    let mut set = new_set(&rt)?;
+    let extent = Extent {
+        members: 1_000,
+        scores: 1,
+    };
+    let plain = big(alloc, &mut set, &extent)?;
+    expect_limits(&rt, alloc, &mut set, &plain)
 }
 
 // Whether a listing of the ten lowest would read many rows of the set, and less after `narrow`.
@@ -306,20 +384,37 @@ fn is_wide(alloc: Global, set: &Set) -> Result<bool, Fail> {
     Ok(set.is_wide(&command))
 }
 
+// Runs a command: a listing of the ten lowest is wide then, or is not.
+fn expect_wide<R: Abort>(
+    rt: &R,
+    alloc: Global,
+    set: &mut Set,
+    text: &str,
+    wide: bool,
+) -> Result<(), Fail>
+    requires { set.old.next ≡ None }
+    ensures { set.new.next ≡ None }
+{
+    run(alloc, set, text)?;
+    assert_eq!(rt; is_wide(alloc, set)?, wide, "{text}");
+    Ok(())
+}
+
 #[test]
 fn a_window_of_a_long_piece_is_narrowed_once(rt: HostRuntime) -> Result<(), Fail> {
     let alloc = rt.alloc();
-    let mut set = ZSet::with_hasher(alloc, RandomState::new(&rt)?);
+    let mut set = new_set(&rt)?;
     let extent = Extent {
         members: 3_000,
         scores: 1_000_000,
     };
     big(alloc, &mut set, &extent)?;
-    run(alloc, &mut set, "ZCOUNT k -inf +inf")?;
-    assert!(rt; is_wide(alloc, &set)?);
-    run(alloc, &mut set, "ZRANGEBYSCORE k -inf +inf")?;
-    assert!(rt; is_wide(alloc, &set)?);
-    run(alloc, &mut set, "ZRANGEBYSCORE k -inf +inf LIMIT 0 10")?;
-    assert!(rt; !is_wide(alloc, &set)?);
+    for (text, wide) in [
+        ("ZCOUNT k -inf +inf", true),
+        ("ZRANGEBYSCORE k -inf +inf", true),
+        ("ZRANGEBYSCORE k -inf +inf LIMIT 0 10", false),
+    ] {
+        expect_wide(&rt, alloc, &mut set, text, wide)?;
+    }
     Ok(())
 }

@@ -1,4 +1,5 @@
-ghost use Rattle.std.specs.Prelude.{◌≡◌, None};
+ghost use Rattle.std.specs.Prelude.{◌≡◌, None, false, IfOk, IsTrue};
+ghost use Rattle.zset_core.specs.AbstractCommand.{is_writing};
 
 use crate::examples::{command, text_of};
 use resp_wire::Reply;
@@ -6,9 +7,41 @@ use std::alloc::Global;
 use std::hash::RandomState;
 use std::process::Abort;
 use std::test::*;
-use zset_core::ZSet;
+use zset_core::{Command, ZSet};
 
 pub type Set = ZSet<RandomState, Global>;
+
+/// A set without members.
+pub fn new_set(rt: &HostRuntime) -> Result<Set, Fail>
+    ensures { IfOk result (λ set. set.next ≡ None) }
+{
+    Ok(ZSet::with_hasher(rt.alloc(), RandomState::new(rt)?))
+}
+
+/// The reply to a command that changes nothing.
+fn ask(set: &mut Set, command: &Command<Global>) -> Result<Reply<Global>, Fail>
+    requires idle { set.old.next ≡ None }
+    requires reading { is_writing command.now.meaning ≡ false }
+    ensures { set.new.next ≡ None }
+{
+    if command.key().is_none() {
+        Err("no key")?;
+    }
+    set.narrow(command)?;
+    Ok(set.answer(command)?)
+}
+
+/// The reply to a command that changes sets.
+fn change(set: &mut Set, command: &Command<Global>) -> Result<Reply<Global>, Fail>
+    requires idle { set.old.next ≡ None }
+    requires writing { IsTrue (is_writing command.now.meaning) }
+    ensures { set.new.next ≡ None }
+{
+    match set.prepare(command) {
+        Err(_) => Err("refused")?,
+        Ok(_) => Ok(set.commit()),
+    }
+}
 
 /// The reply to a command that is run on a set, as an owner runs it.
 pub fn run(alloc: Global, set: &mut Set, text: &str) -> Result<Reply<Global>, Fail>
@@ -16,16 +49,10 @@ pub fn run(alloc: Global, set: &mut Set, text: &str) -> Result<Reply<Global>, Fa
     ensures { set.new.next ≡ None }
 {
     let command = command(alloc, text)?;
-    if command.key().is_none() {
-        Err("no key")?;
-    }
-    if !command.writes() {
-        set.narrow(&command)?;
-        return Ok(set.answer(&command)?);
-    }
-    match set.prepare(&command) {
-        Err(_) => Err("refused")?,
-        Ok(_) => Ok(set.commit()),
+    if command.writes() {
+        change(set, &command)
+    } else {
+        ask(set, &command)
     }
 }
 
@@ -59,130 +86,172 @@ fn expect<R: Abort>(
     Ok(())
 }
 
+/// Commands with the column that each leaves: what waits in a range is merged, and its cuts become pivots.
+const MERGED_AND_CRACKED: [(&str, &str, &str); 6] = [
+    (
+        "ZADD k 1 m1 2 m2 3 m3 4 m4 5 m5 6 m6 7 m7 8 m8 9 m9 10 m10",
+        ":10~",
+        "0 rows +10 -0",
+    ),
+    ("ZCOUNT k -inf +inf", ":10~", "10 rows +0 -0"),
+    ("ZCOUNT k 3 6", ":4~", "10 rows +0 -0 (3, 2) (7, 6)"),
+    ("ZADD k 1 x 5 y 9 z", ":3~", "10 rows +3 -0 (3, 2) (7, 6)"),
+    ("ZREM k y", ":1~", "10 rows +2 -0 (3, 2) (7, 6)"),
+    (
+        "ZRANGEBYSCORE k 0 10",
+        "*12~$2~m1~$1~x~$2~m2~$2~m3~$2~m4~$2~m5~$2~m6~$2~m7~$2~m8~$2~m9~$1~z~$3~m10~",
+        "12 rows +0 -0 (0, 0) (3, 3) (7, 7) (11, 12)",
+    ),
+];
+
 #[test]
 fn a_range_merges_and_cracks(rt: HostRuntime) -> Result<(), Fail> {
     let alloc = rt.alloc();
-    let mut set = ZSet::with_hasher(alloc, RandomState::new(&rt)?);
-    let rows = [
-        (
-            "ZADD k 1 m1 2 m2 3 m3 4 m4 5 m5 6 m6 7 m7 8 m8 9 m9 10 m10",
-            ":10~",
-            "0 rows +10 -0",
-        ),
-        ("ZCOUNT k -inf +inf", ":10~", "10 rows +0 -0"),
-        ("ZCOUNT k 3 6", ":4~", "10 rows +0 -0 (3, 2) (7, 6)"),
-        ("ZADD k 1 x 5 y 9 z", ":3~", "10 rows +3 -0 (3, 2) (7, 6)"),
-        ("ZREM k y", ":1~", "10 rows +2 -0 (3, 2) (7, 6)"),
-        (
-            "ZRANGEBYSCORE k 0 10",
-            "*12~$2~m1~$1~x~$2~m2~$2~m3~$2~m4~$2~m5~$2~m6~$2~m7~$2~m8~$2~m9~$1~z~$3~m10~",
-            "12 rows +0 -0 (0, 0) (3, 3) (7, 7) (11, 12)",
-        ),
-    ];
-    expect(&rt, alloc, &mut set, rows.as_slice())
+    let mut set = new_set(&rt)?;
+    expect(&rt, alloc, &mut set, &MERGED_AND_CRACKED)
 }
+
+const LEFT: &str = "8 rows +0 -0 (0, 0) (3, 3) (4, 4) (7, 4) (8, 4) (11, 8)";
+
+const NONE_LEFT: &str = "0 rows +0 -0 (0, 0) (3, 0) (4, 0) (7, 0) (8, 0) (11, 0)";
+
+/// Twelve members, and two pivots.
+const TWELVE: [(&str, &str, &str); 3] = [
+    (
+        "ZADD k 1 m1 2 m2 3 m3 4 m4 5 m5 6 m6",
+        ":6~",
+        "0 rows +6 -0",
+    ),
+    (
+        "ZADD k 7 m7 8 m8 9 m9 10 m10 1 x 9 z",
+        ":6~",
+        "0 rows +12 -0",
+    ),
+    ("ZCOUNT k 3 6", ":4~", "4 rows +8 -0 (3, 0) (7, 4)"),
+];
+
+/// Commands with the column that each leaves, once twelve members stand there.
+const CLOSED_UP: [(&str, &str, &str); 6] = [
+    (
+        "ZCOUNT k 0 10",
+        ":12~",
+        "12 rows +0 -0 (0, 0) (3, 3) (7, 7) (11, 12)",
+    ),
+    ("ZREMRANGEBYSCORE k (3 7", ":4~", LEFT),
+    ("ZCOUNT k 0 10", ":8~", LEFT),
+    ("ZREMRANGEBYSCORE k 9 1", ":0~", LEFT),
+    ("ZREMRANGEBYSCORE k -inf +inf", ":8~", NONE_LEFT),
+    ("ZCARD k", ":0~", NONE_LEFT),
+];
 
 // Rows leave with their range: those behind them and the pivots close up, and no pivot goes.
 #[test]
 fn a_removed_range_closes_up(rt: HostRuntime) -> Result<(), Fail> {
     let alloc = rt.alloc();
-    let mut set = ZSet::with_hasher(alloc, RandomState::new(&rt)?);
-    run(alloc, &mut set, "ZADD k 1 m1 2 m2 3 m3 4 m4 5 m5 6 m6")?;
-    run(alloc, &mut set, "ZADD k 7 m7 8 m8 9 m9 10 m10 1 x 9 z")?;
-    run(alloc, &mut set, "ZCOUNT k 3 6")?;
-    let left = "8 rows +0 -0 (0, 0) (3, 3) (4, 4) (7, 4) (8, 4) (11, 8)";
-    let none = "0 rows +0 -0 (0, 0) (3, 0) (4, 0) (7, 0) (8, 0) (11, 0)";
-    let rows = [
-        (
-            "ZCOUNT k 0 10",
-            ":12~",
-            "12 rows +0 -0 (0, 0) (3, 3) (7, 7) (11, 12)",
-        ),
-        ("ZREMRANGEBYSCORE k (3 7", ":4~", left),
-        ("ZCOUNT k 0 10", ":8~", left),
-        ("ZREMRANGEBYSCORE k 9 1", ":0~", left),
-        ("ZREMRANGEBYSCORE k -inf +inf", ":8~", none),
-        ("ZCARD k", ":0~", none),
-    ];
-    expect(&rt, alloc, &mut set, rows.as_slice())
+    let mut set = new_set(&rt)?;
+    expect(&rt, alloc, &mut set, &TWELVE)?;
+    expect(&rt, alloc, &mut set, &CLOSED_UP)
 }
+
+/// Commands with the column that each leaves, where rows wait in a range that is removed, and outside it.
+const MERGED_AND_REMOVED: [(&str, &str, &str); 7] = [
+    ("ZADD k 1 a 5 b 9 c", ":3~", "0 rows +3 -0"),
+    ("ZCOUNT k -inf +inf", ":3~", "3 rows +0 -0"),
+    ("ZADD k 5 d 8 e", ":2~", "3 rows +2 -0"),
+    ("ZREM k c", ":1~", "3 rows +2 -1"),
+    (
+        "ZREMRANGEBYSCORE k 4 6",
+        ":2~",
+        "2 rows +1 -1 (4, 1) (7, 1)",
+    ),
+    (
+        "ZREMRANGEBYSCORE k 4 6",
+        ":0~",
+        "2 rows +1 -1 (4, 1) (7, 1)",
+    ),
+    (
+        "ZRANGEBYSCORE k -inf +inf",
+        "*2~$1~a~$1~e~",
+        "2 rows +0 -0 (4, 1) (7, 1)",
+    ),
+];
 
 // What waits in a removed range is merged first and leaves with it; what waits outside stays.
 #[test]
 fn what_waits_leaves_with_its_range(rt: HostRuntime) -> Result<(), Fail> {
     let alloc = rt.alloc();
-    let mut set = ZSet::with_hasher(alloc, RandomState::new(&rt)?);
-    let rows = [
-        ("ZADD k 1 a 5 b 9 c", ":3~", "0 rows +3 -0"),
-        ("ZCOUNT k -inf +inf", ":3~", "3 rows +0 -0"),
-        ("ZADD k 5 d 8 e", ":2~", "3 rows +2 -0"),
-        ("ZREM k c", ":1~", "3 rows +2 -1"),
-        (
-            "ZREMRANGEBYSCORE k 4 6",
-            ":2~",
-            "2 rows +1 -1 (4, 1) (7, 1)",
-        ),
-        (
-            "ZREMRANGEBYSCORE k 4 6",
-            ":0~",
-            "2 rows +1 -1 (4, 1) (7, 1)",
-        ),
-        (
-            "ZRANGEBYSCORE k -inf +inf",
-            "*2~$1~a~$1~e~",
-            "2 rows +0 -0 (4, 1) (7, 1)",
-        ),
-    ];
-    expect(&rt, alloc, &mut set, rows.as_slice())
+    let mut set = new_set(&rt)?;
+    expect(&rt, alloc, &mut set, &MERGED_AND_REMOVED)
 }
+
+/// Commands with the column that each leaves, where a member's scores lie in other pieces.
+const MOVED: [(&str, &str, &str); 10] = [
+    ("ZADD k 1 a 5 b 9 c", ":3~", "0 rows +3 -0"),
+    ("ZCOUNT k -inf +inf", ":3~", "3 rows +0 -0"),
+    ("ZCOUNT k 4 6", ":1~", "3 rows +0 -0 (4, 1) (7, 2)"),
+    ("ZADD k CH 8 a", ":1~", "3 rows +1 -1 (4, 1) (7, 2)"),
+    ("ZCOUNT k -inf (4", ":0~", "2 rows +1 -0 (4, 0) (7, 1)"),
+    ("ZCOUNT k 4 6", ":1~", "2 rows +1 -0 (4, 0) (7, 1)"),
+    ("ZCOUNT k 7 +inf", ":2~", "3 rows +0 -0 (4, 0) (7, 1)"),
+    ("ZADD k CH 2 a", ":1~", "3 rows +1 -1 (4, 0) (7, 1)"),
+    ("ZCOUNT k -inf (4", ":1~", "4 rows +0 -1 (4, 1) (7, 2)"),
+    ("ZCOUNT k 7 +inf", ":1~", "3 rows +0 -0 (4, 1) (7, 2)"),
+];
 
 #[test]
 fn a_member_moves_between_pieces(rt: HostRuntime) -> Result<(), Fail> {
     let alloc = rt.alloc();
-    let mut set = ZSet::with_hasher(alloc, RandomState::new(&rt)?);
-    let rows = [
-        ("ZADD k 1 a 5 b 9 c", ":3~", "0 rows +3 -0"),
-        ("ZCOUNT k -inf +inf", ":3~", "3 rows +0 -0"),
-        ("ZCOUNT k 4 6", ":1~", "3 rows +0 -0 (4, 1) (7, 2)"),
-        ("ZADD k CH 8 a", ":1~", "3 rows +1 -1 (4, 1) (7, 2)"),
-        ("ZCOUNT k -inf (4", ":0~", "2 rows +1 -0 (4, 0) (7, 1)"),
-        ("ZCOUNT k 4 6", ":1~", "2 rows +1 -0 (4, 0) (7, 1)"),
-        ("ZCOUNT k 7 +inf", ":2~", "3 rows +0 -0 (4, 0) (7, 1)"),
-        ("ZADD k CH 2 a", ":1~", "3 rows +1 -1 (4, 0) (7, 1)"),
-        ("ZCOUNT k -inf (4", ":1~", "4 rows +0 -1 (4, 1) (7, 2)"),
-        ("ZCOUNT k 7 +inf", ":1~", "3 rows +0 -0 (4, 1) (7, 2)"),
-    ];
-    expect(&rt, alloc, &mut set, rows.as_slice())
+    let mut set = new_set(&rt)?;
+    expect(&rt, alloc, &mut set, &MOVED)
 }
+
+/// Commands with the column that each leaves, where the last member goes and another comes.
+const EMPTIED: [(&str, &str, &str); 7] = [
+    ("ZADD k 1 a", ":1~", "0 rows +1 -0"),
+    ("ZCOUNT k 0 2", ":1~", "1 rows +0 -0 (0, 0) (3, 1)"),
+    ("ZREM k a", ":1~", "1 rows +0 -1 (0, 0) (3, 1)"),
+    ("ZRANGEBYSCORE k 0 2", "*0~", "0 rows +0 -0 (0, 0) (3, 0)"),
+    ("ZCARD k", ":0~", "0 rows +0 -0 (0, 0) (3, 0)"),
+    ("ZADD k 1 b", ":1~", "0 rows +1 -0 (0, 0) (3, 0)"),
+    ("ZCOUNT k 0 2", ":1~", "1 rows +0 -0 (0, 0) (3, 1)"),
+];
 
 #[test]
 fn the_last_member_leaves_its_pivots(rt: HostRuntime) -> Result<(), Fail> {
     let alloc = rt.alloc();
-    let mut set = ZSet::with_hasher(alloc, RandomState::new(&rt)?);
-    let rows = [
-        ("ZADD k 1 a", ":1~", "0 rows +1 -0"),
-        ("ZCOUNT k 0 2", ":1~", "1 rows +0 -0 (0, 0) (3, 1)"),
-        ("ZREM k a", ":1~", "1 rows +0 -1 (0, 0) (3, 1)"),
-        ("ZRANGEBYSCORE k 0 2", "*0~", "0 rows +0 -0 (0, 0) (3, 0)"),
-        ("ZCARD k", ":0~", "0 rows +0 -0 (0, 0) (3, 0)"),
-        ("ZADD k 1 b", ":1~", "0 rows +1 -0 (0, 0) (3, 0)"),
-        ("ZCOUNT k 0 2", ":1~", "1 rows +0 -0 (0, 0) (3, 1)"),
-    ];
-    expect(&rt, alloc, &mut set, rows.as_slice())
+    let mut set = new_set(&rt)?;
+    expect(&rt, alloc, &mut set, &EMPTIED)
+}
+
+// Counts the scores from `low` on, in a range of its own.
+fn count_from(alloc: Global, set: &mut Set, low: u32) -> Result<(), Fail>
+    requires { set.old.next ≡ None }
+    ensures { set.new.next ≡ None }
+{
+    let text = format!(in alloc; "ZCOUNT k {} {}", low, low.saturating_add(4))?;
+    run(alloc, set, text.as_str())?;
+    Ok(())
+}
+
+// Counts 2,048 ranges, whose cuts are 4,096 pivots.
+fn count_all(alloc: Global, set: &mut Set) -> Result<(), Fail>
+    requires { set.old.next ≡ None }
+    ensures { set.new.next ≡ None }
+{
+    for i in 0..2048u32 {
+        count_from(alloc, set, 10 * i)?;
+    }
+    Ok(())
 }
 
 #[test]
 fn pivots_past_the_limit_go(rt: HostRuntime) -> Result<(), Fail> {
     let alloc = rt.alloc();
-    let mut set = ZSet::with_hasher(alloc, RandomState::new(&rt)?);
+    let mut set = new_set(&rt)?;
     run(alloc, &mut set, "ZADD k 5 a")?;
-    for i in 0..2048u32 {
-        let low = 10 * i;
-        let text = format!(in alloc; "ZCOUNT k {} {}", low, low + 4)?;
-        run(alloc, &mut set, text.as_str())?;
-    }
+    count_all(alloc, &mut set)?;
     assert_eq!(rt; set.column().pivot_list().len(), 4096);
-    run(alloc, &mut set, "ZCOUNT k 50001 50002")?;
+    count_from(alloc, &mut set, 50001)?;
     assert_eq!(rt; set.column().pivot_list().len(), 2);
     Ok(())
 }

@@ -24,6 +24,30 @@ fn rows_are_cracked(rt: HostRuntime) -> Result<(), AllocError> {
     Ok(())
 }
 
+// Each score stands in this piece among ten rows.
+const PIECES: [(i64, (usize, usize)); 4] = [(1, (0, 2)), (3, (2, 6)), (5, (2, 6)), (7, (6, 10))];
+
+// Two pivots are found by their values, and pieces by the scores in them.
+fn expect_two<R: Abort>(rt: &R, pivots: &Pivots<Global>) {
+    assert_eq!(rt; pivots.list(), [(3, 2), (7, 6)].as_slice());
+    for (value, piece) in PIECES {
+        assert_eq!(rt; pivots.piece_of(value, 10), piece, "at {value}");
+    }
+    assert_eq!(rt; (pivots.find(3), pivots.find(4)), (Some(2), None));
+}
+
+// The places of two pivots are moved, and close up.
+fn expect_moved<R: Abort>(rt: &R, pivots: &mut Pivots<Global>) {
+    shift_some(rt, pivots, 1, true);
+    assert_eq!(rt; pivots.list(), [(3, 2), (7, 7)].as_slice());
+    shift_some(rt, pivots, 0, false);
+    assert_eq!(rt; pivots.list(), [(3, 1), (7, 6)].as_slice());
+    pivots.close_up(2, 4);
+    assert_eq!(rt; pivots.list(), [(3, 1), (7, 4)].as_slice());
+    pivots.close_up(0, 3);
+    assert_eq!(rt; pivots.list(), [(3, 0), (7, 1)].as_slice());
+}
+
 #[test]
 fn pivots_are_kept(rt: HostRuntime) -> Result<(), AllocError> {
     let mut pivots = Pivots::new(rt.alloc());
@@ -32,20 +56,8 @@ fn pivots_are_kept(rt: HostRuntime) -> Result<(), AllocError> {
     pivots.add(3, 2);
     assert!(rt; pivots.find(7).is_none() && pivots.len() == 1);
     pivots.add(7, 6);
-    assert_eq!(rt; pivots.list(), [(3, 2), (7, 6)].as_slice());
-    for (value, piece) in [(1, (0, 2)), (3, (2, 6)), (5, (2, 6)), (7, (6, 10))] {
-        assert_eq!(rt; pivots.piece_of(value, 10), piece, "at {value}");
-    }
-    assert_eq!(rt; pivots.find(3), Some(2));
-    assert_eq!(rt; pivots.find(4), None);
-    shift_some(&rt, &mut pivots, 1, true);
-    assert_eq!(rt; pivots.list(), [(3, 2), (7, 7)].as_slice());
-    shift_some(&rt, &mut pivots, 0, false);
-    assert_eq!(rt; pivots.list(), [(3, 1), (7, 6)].as_slice());
-    pivots.close_up(2, 4);
-    assert_eq!(rt; pivots.list(), [(3, 1), (7, 4)].as_slice());
-    pivots.close_up(0, 3);
-    assert_eq!(rt; pivots.list(), [(3, 0), (7, 1)].as_slice());
+    expect_two(&rt, &pivots);
+    expect_moved(&rt, &mut pivots);
     pivots.clear();
     assert_eq!(rt; pivots.len(), 0);
     Ok(())

@@ -1,9 +1,11 @@
 ghost use Rattle.std.specs.Prelude.{◌≡◌, None, IsSome, OnOk, OnErr, option_map};
 ghost use Rattle.zset_core.specs.AbstractCommand.{key_of};
 
+use crack_kernel::Row;
 use resp_wire::{Bytes, BytesList, Reply, Request, write_reply};
 use std::alloc::Global;
 use std::hash::RandomState;
+use std::process::Abort;
 use std::test::*;
 use zset_core::{Command, OneOwner, Outline};
 
@@ -109,14 +111,27 @@ const EXAMPLES: [(&str, &str); 51] = [
     ("ZREMRANGEBYSCORE missing -inf +inf", ":0~"),
 ];
 
+// Commands in turn on one owner's sets, with their replies.
+fn expect_replies<R: Abort>(
+    rt: &R,
+    alloc: Global,
+    owner: &mut Owner,
+    rows: &[(&str, &str)],
+) -> Result<(), Fail>
+    requires { owner.old.next ≡ None }
+    ensures { owner.new.next ≡ None }
+{
+    for (text, want) in rows {
+        assert_eq!(rt; reply_to(alloc, owner, text)?.as_str(), *want, "{text}");
+    }
+    Ok(())
+}
+
 #[test]
 fn examples_are_answered(rt: HostRuntime) -> Result<(), Fail> {
     let alloc = rt.alloc();
     let mut owner = OneOwner::new(alloc, RandomState::new(&rt)?);
-    for (text, want) in EXAMPLES {
-        assert_eq!(rt; reply_to(alloc, &mut owner, text)?.as_str(), want, "{text}");
-    }
-    Ok(())
+    expect_replies(&rt, alloc, &mut owner, &EXAMPLES)
 }
 
 // Commands with GT and LT in turn, with their replies.
@@ -146,10 +161,7 @@ const GREATER_OR_LESS: [(&str, &str); 16] = [
 fn greater_and_less_are_asked_for(rt: HostRuntime) -> Result<(), Fail> {
     let alloc = rt.alloc();
     let mut owner = OneOwner::new(alloc, RandomState::new(&rt)?);
-    for (text, want) in GREATER_OR_LESS {
-        assert_eq!(rt; reply_to(alloc, &mut owner, text)?.as_str(), want, "{text}");
-    }
-    Ok(())
+    expect_replies(&rt, alloc, &mut owner, &GREATER_OR_LESS)
 }
 
 // What a command that changes sets is prepared to do in its set.
@@ -170,61 +182,91 @@ fn outline_of(alloc: Global, owner: &mut Owner, text: &str) -> Result<Outline, F
     }
 }
 
-#[test]
-fn outlines_tell_the_change(rt: HostRuntime) -> Result<(), Fail> {
-    let alloc = rt.alloc();
-    let mut owner = OneOwner::new(alloc, RandomState::new(&rt)?);
-    reply_to(alloc, &mut owner, "ZADD k 1 a 2 b")?;
-    let rows = [
-        ("ZADD k CH 1 c 2 c", (1, 0, true)),
-        ("ZADD k 5 a 1 a", (0, 0, false)),
-        ("ZADD k 5 a", (0, 0, true)),
-        ("ZADD other XX 5 a", (0, 0, false)),
-        ("ZREM k a a x", (0, 1, true)),
-        ("ZREM k x", (0, 0, false)),
-        ("ZREMRANGEBYSCORE k 1 2", (0, 2, true)),
-        ("ZREMRANGEBYSCORE k (1 +inf", (0, 1, true)),
-        ("ZREMRANGEBYSCORE k 3 9", (0, 0, false)),
-    ];
-    for (text, (added, removed, changed)) in rows {
-        let want = Outline {
-            added,
-            removed,
-            changed,
-        };
-        assert_eq!(rt; outline_of(alloc, &mut owner, text)?, want, "{text}");
-    }
-    assert_eq!(rt; reply_to(alloc, &mut owner, "ZCARD k")?.as_str(), ":2~");
+// Commands that change sets, in turn, each with how many members it adds and takes out, and whether it
+// changes its set. None is committed.
+const OUTLINES: [(&str, (usize, usize, bool)); 9] = [
+    ("ZADD k CH 1 c 2 c", (1, 0, true)),
+    ("ZADD k 5 a 1 a", (0, 0, false)),
+    ("ZADD k 5 a", (0, 0, true)),
+    ("ZADD other XX 5 a", (0, 0, false)),
+    ("ZREM k a a x", (0, 1, true)),
+    ("ZREM k x", (0, 0, false)),
+    ("ZREMRANGEBYSCORE k 1 2", (0, 2, true)),
+    ("ZREMRANGEBYSCORE k (1 +inf", (0, 1, true)),
+    ("ZREMRANGEBYSCORE k 3 9", (0, 0, false)),
+];
+
+// A command's outline is as wanted.
+fn expect_outline<R: Abort>(
+    rt: &R,
+    alloc: Global,
+    owner: &mut Owner,
+    text: &str,
+    counts: (usize, usize, bool),
+) -> Result<(), Fail>
+    requires { owner.old.next ≡ None }
+    ensures { owner.new.next ≡ None }
+{
+    let (added, removed, changed) = counts;
+    let want = Outline {
+        added,
+        removed,
+        changed,
+    };
+    assert_eq!(rt; outline_of(alloc, owner, text)?, want, "{text}");
     Ok(())
 }
 
 #[test]
-fn keys_and_pairs_are_listed(rt: HostRuntime) -> Result<(), Fail> {
+fn outlines_tell_the_change(rt: HostRuntime) -> Result<(), Fail> {
     let alloc = rt.alloc();
     let mut owner = OneOwner::new(alloc, RandomState::new(&rt)?);
-    for text in [
-        "ZADD k 1 b 1 a 1 B",
-        "ZADD j -3 x",
-        "ZADD empty 1 a",
-        "ZREM empty a",
-    ] {
-        reply_to(alloc, &mut owner, text)?;
+    expect_replies(&rt, alloc, &mut owner, &[("ZADD k 1 a 2 b", ":2~")])?;
+    for (text, counts) in OUTLINES {
+        expect_outline(&rt, alloc, &mut owner, text, counts)?;
     }
+    expect_replies(&rt, alloc, &mut owner, &[("ZCARD k", ":2~")])
+}
+
+// Sets at two keys, and one that is gone again.
+const TWO_KEYS: [(&str, &str); 4] = [
+    ("ZADD k 1 b 1 a 1 B", ":3~"),
+    ("ZADD j -3 x", ":1~"),
+    ("ZADD empty 1 a", ":1~"),
+    ("ZREM empty a", ":1~"),
+];
+
+// The keys are listed in the order of their bytes.
+fn expect_keys<R: Abort>(rt: &R, owner: &Owner)
+    requires { owner.now.next ≡ None }
+{
     assert_eq!(rt; owner.key_count(), 2);
     assert_eq!(rt; owner.key_at(0), Some(b"j".as_slice()));
     assert_eq!(rt; owner.key_at(1), Some(b"k".as_slice()));
     assert_eq!(rt; owner.key_at(2), None);
     assert_eq!(rt; owner.key_after(None), Some(b"j".as_slice()));
     assert!(rt; owner.set(b"empty".as_slice()).is_none());
-    let pairs = owner.pairs(b"k".as_slice())?;
-    let want = [
-        (1, b"B".as_slice()),
-        (1, b"a".as_slice()),
-        (1, b"b".as_slice()),
-    ];
-    assert_eq!(rt; pairs.len(), want.len());
-    for (row, pair) in pairs.iter().zip(want) {
-        assert_eq!(rt; (row.score(), row.member()), pair);
+}
+
+// Rows are these members, each with the score 1.
+fn expect_rows<R: Abort>(rt: &R, rows: &[Row<Global>], members: &[&[u8]]) {
+    assert_eq!(rt; rows.len(), members.len());
+    for (row, member) in rows.iter().zip(members) {
+        assert_eq!(rt; (row.score(), row.member()), (1, *member));
     }
+}
+
+#[test]
+fn keys_and_pairs_are_listed(rt: HostRuntime) -> Result<(), Fail> {
+    let alloc = rt.alloc();
+    let mut owner = OneOwner::new(alloc, RandomState::new(&rt)?);
+    expect_replies(&rt, alloc, &mut owner, &TWO_KEYS)?;
+    expect_keys(&rt, &owner);
+    let rows = owner.pairs(b"k".as_slice())?;
+    expect_rows(
+        &rt,
+        &rows,
+        &[b"B".as_slice(), b"a".as_slice(), b"b".as_slice()],
+    );
     Ok(())
 }

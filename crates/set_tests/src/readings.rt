@@ -1,5 +1,6 @@
 use resp_wire::{Bytes, BytesList, Request};
 use std::alloc::Global;
+use std::process::Abort;
 use std::test::*;
 use zset_core::{Command, Refusal};
 
@@ -130,35 +131,56 @@ const READ: [(&str, Option<&str>, bool, bool); 19] = [
     ),
 ];
 
+// Reads a request: its key, whether it writes and creates, and its words are as wanted.
+fn expect_read<R: Abort>(
+    rt: &R,
+    alloc: Global,
+    text: &str,
+    key: Option<&str>,
+    writes: bool,
+    creates: bool,
+) -> Result<(), Fail> {
+    let command = match Command::read(alloc, request(alloc, text)?) {
+        Ok(command) => command,
+        Err(_) => Err("it is refused")?,
+    };
+    assert_eq!(rt;
+        command.key(),
+        key.map(|k| k.as_bytes()),
+        "the key of {text}"
+    );
+    assert_eq!(rt;
+        (command.writes(), command.creates()),
+        (writes, creates),
+        "at {text}"
+    );
+    let words = request(alloc, text)?;
+    assert!(rt;
+        command.request().words() == words.words(),
+        "the words of {text}"
+    );
+    Ok(())
+}
+
 #[test]
 fn read_requests(rt: HostRuntime) -> Result<(), Fail> {
     for (text, key, writes, creates) in READ {
-        match Command::read(rt.alloc(), request(rt.alloc(), text)?) {
-            Ok(command) => {
-                assert_eq!(rt;
-                    command.key(),
-                    key.map(|k| k.as_bytes()),
-                    "the key of {text}"
-                );
-                assert_eq!(rt; command.writes(), writes, "at {text}");
-                assert_eq!(rt; command.creates(), creates, "at {text}");
-                let words = request(rt.alloc(), text)?;
-                assert!(rt;
-                    command.request().words() == words.words(),
-                    "the words of {text}"
-                );
-            }
-            Err(refusal) => assert!(rt; false, "{text} is refused: {refusal}"),
-        }
+        expect_read(&rt, rt.alloc(), text, key, writes, creates)?;
     }
+    Ok(())
+}
+
+// A refusal is shown by its text.
+fn expect_shown<R: Abort>(rt: &R, alloc: Global, refusal: Refusal) -> Result<(), Fail> {
+    let shown = refusal.to_string(alloc)?;
+    assert_eq!(rt; shown.as_str(), refusal.text());
     Ok(())
 }
 
 #[test]
 fn refusal_texts(rt: HostRuntime) -> Result<(), Fail> {
     for (_, refusal) in REFUSED {
-        let shown = refusal.to_string(rt.alloc())?;
-        assert_eq!(rt; shown.as_str(), refusal.text());
+        expect_shown(&rt, rt.alloc(), refusal)?;
     }
     assert_eq!(rt; Refusal::OutOfStep.number(), 17);
     assert_eq!(rt; Refusal::NoMemory.text(), "ERR 1 out of memory");

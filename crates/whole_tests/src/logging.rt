@@ -58,6 +58,25 @@ struct Played<S> {
     sink: S,
 }
 
+/// An owner over a log whose sink is of this type.
+type Logged<S, L> = LoggedOwner<RandomState, S, L, Global>;
+
+/// The bytes of the replies to commands in turn, without those that are refused.
+fn replies_to<L: Ledger, S: LogSink>(
+    alloc: Global,
+    logged: &mut Logged<S, L>,
+    commands: &[&str],
+) -> Result<Vec<u8>, Fail> {
+    let mut replies = Vec::new(alloc);
+    for words in commands {
+        let command = command(alloc, words)?;
+        if let Ok(reply) = logged.run(&command) {
+            write_reply(&reply, &mut replies)?;
+        }
+    }
+    Ok(replies)
+}
+
 /// Runs commands in turn over an empty owner whose changes go to the sink.
 fn play<L: Ledger, S: LogSink + Drop>(
     rt: &HostRuntime,
@@ -72,13 +91,7 @@ fn play<L: Ledger, S: LogSink + Drop>(
     let alloc = rt.alloc();
     let owner = OneOwner::new(alloc, RandomState::new(rt)?);
     let mut logged = LoggedOwner::new(alloc, owner, Log::<_, L>::new(blank, sink, 10));
-    let mut replies = Vec::new(alloc);
-    for words in commands {
-        let command = command(alloc, words)?;
-        if let Ok(reply) = logged.run(&command) {
-            write_reply(&reply, &mut replies)?;
-        }
-    }
+    let replies = replies_to(alloc, &mut logged, commands)?;
     let (_, log) = logged.into_parts();
     Ok(Played {
         replies,
@@ -131,16 +144,22 @@ fn prepared(rt: &HostRuntime, command: &Command<Global>) -> Result<ZSet<RandomSt
     }
 }
 
+/// The bytes of the record of a command that changes sets.
+fn record_text(rt: &HostRuntime, command: &Command<Global>) -> Result<Vec<u8>, Fail>
+    requires { IsTrue (is_writing command.now.meaning) }
+{
+    let set = prepared(rt, command)?;
+    let record = Record::of(rt.alloc(), command, &set)?;
+    Ok(Vec::from_slice(rt.alloc(), record.text())?)
+}
+
 #[test]
 fn a_record_is_the_request(rt: HostRuntime) -> Result<(), Fail> {
-    let alloc = rt.alloc();
-    let command = command(alloc, "ZADD k 1 a")?;
-    if command.writes() {
-        let set = prepared(&rt, &command)?;
-        let record = Record::of(alloc, &command, &set)?;
-        let wanted = bytes_of(alloc, "*4~$4~ZADD~$1~k~$1~1~$1~a~")?;
-        assert_eq!(rt; record.text(), wanted.as_slice());
-        return Ok(());
+    let command = command(rt.alloc(), "ZADD k 1 a")?;
+    if !command.writes() {
+        Err("no change")?;
     }
-    Err("no change")?
+    let wanted = bytes_of(rt.alloc(), "*4~$4~ZADD~$1~k~$1~1~$1~a~")?;
+    assert_eq!(rt; record_text(&rt, &command)?, wanted);
+    Ok(())
 }

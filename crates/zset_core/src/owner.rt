@@ -38,8 +38,9 @@ use std::marker::Model;
 use std::snapshot::Snapshot;
 
 /// Sorted sets by key, of one owner. A set that loses its last member is gone with its key. A
-/// contract sees the world of its sets and, while a command is prepared in one of them, its key
-/// with what the commit will leave.
+/// contract sees the world of its sets and, as `next`, the key of the set in which a command is prepared
+/// with what the commit will leave and reply, or None. What a command makes of a world is `act`, after
+/// Redis's command pages.
 #[derive(Drop)]
 pub struct OneOwner<H: BuildHasher, A: Allocator + Copy> {
     alloc: A,

@@ -51,8 +51,9 @@ struct Prepared<A: Allocator + Copy> {
     plan: Plan<A>,
 }
 
-/// A sorted set: members with scores. While a command is prepared in it, the members are those from
-/// before, and a contract sees beside them what the commit will leave and reply, and the column.
+/// A sorted set: members with scores. A command that changes it is `prepare` and then `commit` or
+/// `drop_prepared`. In contracts `next` is None until one is prepared, and then what its commit will leave
+/// and reply; the members are those from before, and the column is seen beside them.
 ///
 /// It keeps its pairs twice: in a map from members to scores, and in a column of rows that the
 /// ranges asked for crack. The content of the column is the bag of the members' pairs at every time
@@ -213,7 +214,7 @@ impl<H: BuildHasher, A: Allocator + Copy> ZSet<H, A> {
 
         // ZADD and ZREM, which name members (`changes_named`), merge what waits only where their own edits,
         // `edit_count` of them, would not fit beside the longer of the two lists that wait
-        // (`most_pending`).
+        // (`most_pending`). A merge moves the pivots' places, and not their `values`.
         ensures values { changes_named command.now.meaning ≡ true
             → values self.new.column.pivots ≡ values self.old.column.pivots }
         ensures still { changes_named command.now.meaning ≡ true → most_pending self.old.column

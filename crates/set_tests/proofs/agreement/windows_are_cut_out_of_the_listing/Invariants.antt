@@ -3,9 +3,3 @@ use Rattle.set_tests.proofs.agreement.windows_are_cut_out_of_the_listing.Given a
 
 abbrev pub invariant-loop-crack : goal.invariant-loop-crack
 invariant-loop-crack g l = l.set.next ≡ None
-
-abbrev pub invariant-loop-offset : goal.invariant-loop-offset
-invariant-loop-offset g l = l.set.next ≡ None
-
-abbrev pub invariant-loop-count : goal.invariant-loop-count
-invariant-loop-count g l = l.set.next ≡ None

@@ -1,5 +1,5 @@
 use Rattle.ripple_column.proofs.Removal.{ObeysPivots-closed_up}
-use Rattle.ripple_column.proofs.row_removal.close_up.Goals as goal
+use Rattle.ripple_column.proofs.range_removal.close_up.Goals as goal
 
 pub invariant_of-cracked : goal.invariant_of-cracked
 invariant_of-cracked g c =

@@ -1,5 +1,5 @@
 use Rattle.ripple_column.specs.InnerCrackEffects.{AreCracked}
-use Rattle.ripple_column.proofs.inner_pivots.break_up.Given as goal
+use Rattle.ripple_column.proofs.inner_cracks.break_up.Given as goal
 
 abbrev pub invariant-loop-i : goal.invariant-loop-i
 invariant-loop-i g l = AreCracked l.fn.pieces l.pieces

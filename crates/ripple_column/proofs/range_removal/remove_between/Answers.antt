@@ -1,5 +1,5 @@
 use Rattle.ripple_column.proofs.Removal.{found_closed_up}
-use Rattle.ripple_column.proofs.row_removal.remove_between.Goals as goal
+use Rattle.ripple_column.proofs.range_removal.remove_between.Goals as goal
 
 pub invariant_of-pieces : goal.invariant_of-pieces
 invariant_of-pieces g c =

@@ -1,5 +1,5 @@
 use Rattle.ripple_column.specs.InnerCrackEffects.{AreCracked}
-use Rattle.ripple_column.proofs.inner_pivots.narrow.Given as goal
+use Rattle.ripple_column.proofs.inner_cracks.narrow.Given as goal
 
 abbrev pub invariant-loop-turn : goal.invariant-loop-turn
 invariant-loop-turn g l = AreCracked l.fn.pieces l.pieces

@@ -6,7 +6,7 @@ use Rattle.ripple_column.specs.CutPivots.{IsApart}
 use Rattle.ripple_column.specs.ShownPivots.{IsAmong}
 use Rattle.ripple_column.proofs.InnerPivots.{found_more, shown_own}
 use Rattle.ripple_column.proofs.Values.{Contains-added}
-use Rattle.ripple_column.proofs.inner_pivots.crack_inside.Goals as goal
+use Rattle.ripple_column.proofs.inner_cracks.crack_inside.Goals as goal
 
 pub invariant_of-pieces-in-Ok : goal.invariant_of-pieces-in-Ok
 invariant_of-pieces-in-Ok g c =

@@ -1,5 +1,5 @@
 use Rattle.std.proofs.Common.{◌≡◌, None}
-use Rattle.set_tests.proofs.examples.greater_and_less_are_asked_for.Given as goal
+use Rattle.set_tests.proofs.examples.expect_replies.Given as goal
 
 abbrev pub invariant-loop-text : goal.invariant-loop-text
 invariant-loop-text g l = l.owner.next ≡ None
