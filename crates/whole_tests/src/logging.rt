@@ -144,13 +144,25 @@ fn prepared(rt: &HostRuntime, command: &Command<Global>) -> Result<ZSet<RandomSt
     }
 }
 
-/// The bytes of the record of a command that changes sets.
-fn record_text(rt: &HostRuntime, command: &Command<Global>) -> Result<Vec<u8>, Fail>
+/// The bytes of the record of a command that a set has prepared.
+fn record_text(
+    alloc: Global,
+    command: &Command<Global>,
+    set: &ZSet<RandomState, Global>,
+) -> Result<Vec<u8>, Fail>
+    requires writing { IsTrue (is_writing command.now.meaning) }
+    requires prepared { IsPreparedFor set.now.members command.now.meaning set.now.next }
+{
+    let record = Record::of(alloc, command, set)?;
+    Ok(Vec::from_slice(alloc, record.text())?)
+}
+
+/// The bytes of the record of a command that changes an empty set.
+fn first_record(rt: &HostRuntime, command: &Command<Global>) -> Result<Vec<u8>, Fail>
     requires { IsTrue (is_writing command.now.meaning) }
 {
     let set = prepared(rt, command)?;
-    let record = Record::of(rt.alloc(), command, &set)?;
-    Ok(Vec::from_slice(rt.alloc(), record.text())?)
+    record_text(rt.alloc(), command, &set)
 }
 
 #[test]
@@ -160,6 +172,6 @@ fn a_record_is_the_request(rt: HostRuntime) -> Result<(), Fail> {
         Err("no change")?;
     }
     let wanted = bytes_of(rt.alloc(), "*4~$4~ZADD~$1~k~$1~1~$1~a~")?;
-    assert_eq!(rt; record_text(&rt, &command)?, wanted);
+    assert_eq!(rt; first_record(&rt, &command)?, wanted);
     Ok(())
 }

@@ -9,9 +9,9 @@ use crate::server::settings::Settings;
 use crate::server::startup::{Stock, serve_stock};
 use crate::server::tcp_arrivals::TcpArrivals;
 use crate::stdio::stdio_run;
-use append_log::NoSink;
+use append_log::{FuseSink, LogSink, MemorySink, NoSink};
 use hand_over::{Arrival, Arrivals};
-use resp_wire::{ByteDrain, MemoryDrain, MemorySource, Writing};
+use resp_wire::{ByteDrain, FuseDrain, FuseSource, MemoryDrain, MemorySource, Writing};
 use std::alloc::{AllocError, AllocGlobal, Global};
 use std::fs::OpenOptions;
 use std::hash::RandomState;
@@ -32,36 +32,50 @@ const ADD_AND_LIST: &[u8] =
 /// ZADD j 1 a.
 const ANOTHER_KEY: &[u8] = b"*4\r\n$4\r\nZADD\r\n$1\r\nj\r\n$1\r\n1\r\n$1\r\na\r\n";
 
+/// ZADD k 1 z.
+const ADD_ANOTHER: &[u8] = b"*4\r\n$4\r\nZADD\r\n$1\r\nk\r\n$1\r\n1\r\n$1\r\nz\r\n";
+
 /// What begins no request.
 const WRONG: &[u8] = b"*01";
 
-/// Connections in memory, one for each input, and then the end, or a fault.
+type Connection<'i> = (FuseSource<MemorySource<'i>>, FuseDrain<MemoryDrain<Global>>);
+
+/// Connections in memory, one for each input, and then the end, or a fault. A read and a call of the drain of
+/// the first one may fail.
 #[derive(Drop)]
 struct Inputs<'i> {
     alloc: Global,
     inputs: &'i [&'i [u8]],
     faults: bool,
+    /// The number of that read and of that call, counted from 1; 0 for none.
+    fails_at: (u64, u64),
     came: u64,
     kind: u64,
 }
 
 impl<'i> Arrivals for Inputs<'i> {
-    type Conn = (MemorySource<'i>, MemoryDrain<Global>);
+    type Conn = Connection<'i>;
 
     ghost came = { λ s. s.came };
 
     ghost last = { λ s. s.kind };
 
-    fn arrive(&mut self) -> Arrival<(MemorySource<'i>, MemoryDrain<Global>)>
+    fn arrive(&mut self) -> Arrival<Connection<'i>>
         ensures came { self.new.came ≡ came_after result self.old.came }
         ensures last { self.new.kind ≡ kind_of result }
     {
         match self.inputs.get(self.came as usize) {
             Some(input) if self.came < u64::MAX => {
+                let (read, call) = if self.came == 0 {
+                    self.fails_at
+                } else {
+                    (0, 0)
+                };
                 self.came += 1;
                 self.kind = 1;
-                let drain = MemoryDrain::new(self.alloc, 3);
-                Arrival::Came((MemorySource::new(input, 7), drain))
+                let source = FuseSource::new(MemorySource::new(input, 7), read);
+                let drain = FuseDrain::new(MemoryDrain::new(self.alloc, 3), call);
+                Arrival::Came((source, drain))
             }
             _ if self.faults => {
                 self.kind = 3;
@@ -80,6 +94,7 @@ fn inputs_of<'i>(alloc: Global, inputs: &'i [&'i [u8]], faults: bool) -> Inputs<
         alloc,
         inputs,
         faults,
+        fails_at: (0, 0),
         came: 0,
         kind: 0,
     }
@@ -110,19 +125,17 @@ fn told(alloc: Global, finish: &Finish) -> Result<String, AllocError> {
     Ok(text)
 }
 
-/// How a server over connections in memory ends, and behind it what it prints.
-fn ended<R: Wait + Threads + AllocGlobal + Sync>(
+/// How a server over these connections ends, and behind it what it prints.
+fn ended_over<R: Wait + Threads + AllocGlobal + Sync, K: LogSink + Drop + Send>(
     rt: &R,
-    stock: Stock<NoSink>,
+    stock: Stock<K>,
     workers: usize,
-    inputs: &[&[u8]],
-    faults: bool,
+    mut arrivals: Inputs,
 ) -> Result<String, Fail>
     requires { stock.owner.next ≡ None }
 {
     let alloc = rt.alloc();
     let settings = Settings::new(workers, 1, 1000).ok_or("no settings")?;
-    let mut arrivals = inputs_of(alloc, inputs, faults);
     let mut drain = MemoryDrain::new(alloc, 3);
     let finish = serve_stock::<Brand, _, _, _, _, _, _>(
         rt,
@@ -135,6 +148,19 @@ fn ended<R: Wait + Threads + AllocGlobal + Sync>(
     let mut text = told(alloc, &finish)?;
     text.push_str(str::from_utf8(drain.flushed()).unwrap_or("?"))?;
     Ok(text)
+}
+
+/// How a server over connections in memory ends, none of which fails, and behind it what it prints.
+fn ended<R: Wait + Threads + AllocGlobal + Sync>(
+    rt: &R,
+    stock: Stock<NoSink>,
+    workers: usize,
+    inputs: &[&[u8]],
+    faults: bool,
+) -> Result<String, Fail>
+    requires { stock.owner.next ≡ None }
+{
+    ended_over(rt, stock, workers, inputs_of(rt.alloc(), inputs, faults))
 }
 
 #[test]
@@ -177,6 +203,70 @@ fn sets_at_the_start_count_as_members(rt: HostRuntime) -> Result<(), Fail> {
     two.extend_from_slice(ANOTHER_KEY)?;
     let refused = ended(&rt, stock_of(&rt, two.as_slice())?, 2, &[], false)?;
     assert_eq!(rt; refused.as_str(), "3\nzcrackd: more keys than places\n");
+    Ok(())
+}
+
+/// ZADD k 1 a, ZADD k 1 b and ZADD k 1 c: three records of 35 bytes.
+const THREE: &[u8] =
+    b"*4\r\n$4\r\nZADD\r\n$1\r\nk\r\n$1\r\n1\r\n$1\r\na\r\n*4\r\n$4\r\nZADD\r\n$1\r\nk\r\n$1\r\n1\r\n$1\r\nb\r\n*4\r\n$4\r\nZADD\r\n$1\r\nk\r\n$1\r\n1\r\n$1\r\nc\r\n";
+
+/// The lines of a server whose connections added so many members to one set.
+fn totals_of(alloc: Global, connections: u64, added: u64) -> Result<String, AllocError> {
+    let sets = added.min(1);
+    format!(in alloc;
+        "0\nconnections {connections} sets {sets} members {added} added {added} removed 0 records {added}\n"
+    )
+}
+
+/// How a server ends that takes three additions while a call of its append file fails.
+fn ended_over_sink<R: Wait + Threads + AllocGlobal + Sync>(
+    rt: &R,
+    hasher: RandomState,
+    fails_at: u64,
+) -> Result<String, Fail> {
+    let alloc = rt.alloc();
+    let stock = Stock {
+        owner: OneOwner::new(alloc, hasher),
+        sink: FuseSink::new(MemorySink::new(alloc, 7), fails_at),
+        max_records: 1000,
+    };
+    let inputs = [THREE];
+    ended_over(rt, stock, 1, inputs_of(alloc, inputs.as_slice(), false))
+}
+
+// Each record takes five writes of seven bytes, and a sync. Only those before the failure are counted.
+#[test]
+fn each_call_of_the_append_file_fails(rt: HostRuntime) -> Result<(), Fail> {
+    for fails_at in 1..20u64 {
+        let wanted = totals_of(rt.alloc(), 1, ((fails_at - 1) / 6).min(3))?;
+        let text = ended_over_sink(&rt, RandomState::new(&rt)?, fails_at)?;
+        assert_eq!(rt; text, wanted, "call {fails_at}");
+    }
+    Ok(())
+}
+
+/// How a server ends with a connection that makes three additions and fails, and another that makes one.
+fn ended_over_failing<R: Wait + Threads + AllocGlobal + Sync>(
+    rt: &R,
+    stock: Stock<NoSink>,
+    fails_at: (u64, u64),
+) -> Result<String, Fail>
+    requires { stock.owner.next ≡ None }
+{
+    let inputs = [THREE, ADD_ANOTHER];
+    let mut arrivals = inputs_of(rt.alloc(), inputs.as_slice(), false);
+    arrivals.fails_at = fails_at;
+    ended_over(rt, stock, 1, arrivals)
+}
+
+// Each request is read by five reads of seven bytes. A request is run once it is read whole.
+#[test]
+fn each_read_of_a_connection_fails(rt: HostRuntime) -> Result<(), Fail> {
+    for read in 1..18u64 {
+        let wanted = totals_of(rt.alloc(), 2, ((read - 1) / 5).min(3) + 1)?;
+        let text = ended_over_failing(&rt, stock_of(&rt, b"")?, (read, 0))?;
+        assert_eq!(rt; text, wanted, "read {read}");
+    }
     Ok(())
 }
 
