@@ -4,85 +4,12 @@ ghost use Rattle.std.specs.Prelude.{◌≡◌, None};
 
 use crate::columns::{Set, new_set, run};
 use crate::examples::{command, text_of};
+use crate::questions::{Question, listing_text, plain_reply, plain_rows, random_question};
 use crate::random_changes::{Extent, Plain, next, random_change};
 use std::alloc::Global;
 use std::collections::BTreeMap;
 use std::process::Abort;
 use std::test::*;
-
-// What is asked for: scores above `low` and up to `high`.
-#[derive(Clone, Copy)]
-struct Question {
-    low: i64,
-    high: i64,
-    with_scores: bool,
-    limit: Option<(i64, i64)>,
-}
-
-// The pairs of a plain set that are asked for, in their order, LIMIT aside.
-fn plain_rows(alloc: Global, plain: &Plain, asked: &Question) -> Result<Vec<(i64, String)>, Fail> {
-    let mut rows = Vec::new(alloc);
-    for (member, score) in plain {
-        if asked.low < *score && *score <= asked.high {
-            rows.push((*score, format!(in alloc; "m{member}")?))?;
-        }
-    }
-    rows.sort()?;
-    Ok(rows)
-}
-
-// Whether LIMIT wants the pair of a rank.
-fn is_wanted(rank: i64, limit: Option<(i64, i64)>) -> bool {
-    match limit {
-        None => true,
-        Some((offset, count)) => {
-            let behind = rank.wrapping_sub(offset);
-            offset >= 0 && behind >= 0 && (count < 0 || behind < count)
-        }
-    }
-}
-
-// The text of ZRANGEBYSCORE.
-fn listing_text(alloc: Global, asked: &Question) -> Result<String, Fail> {
-    let Question {
-        low,
-        high,
-        with_scores,
-        limit,
-    } = *asked;
-    let scores = if with_scores { " WITHSCORES" } else { "" };
-    Ok(match limit {
-        None => format!(in alloc; "ZRANGEBYSCORE k ({low} {high}{scores}")?,
-        Some((offset, count)) => {
-            format!(in alloc; "ZRANGEBYSCORE k ({low} {high}{scores} LIMIT {offset} {count}")?
-        }
-    })
-}
-
-// The reply to it, an end of line as `~`.
-fn listing_reply(alloc: Global, rows: &[(i64, String)], asked: &Question) -> Result<String, Fail> {
-    let mut elements = 0u64;
-    let mut text = String::new(alloc);
-    for (rank, (score, name)) in rows.iter().enumerate() {
-        if !is_wanted(rank as i64, asked.limit) {
-            continue;
-        }
-        elements = elements.wrapping_add(1);
-        text.push_str(format!(in alloc; "${}~{name}~", name.len())?.as_str())?;
-        if asked.with_scores {
-            elements = elements.wrapping_add(1);
-            let score = format!(in alloc; "{score}")?;
-            text.push_str(format!(in alloc; "${}~{score}~", score.len())?.as_str())?;
-        }
-    }
-    Ok(format!(in alloc; "*{elements}~{text}")?)
-}
-
-// The reply that a plain set gives.
-fn plain_reply(alloc: Global, plain: &Plain, asked: &Question) -> Result<String, Fail> {
-    let rows = plain_rows(alloc, plain, asked)?;
-    listing_reply(alloc, rows.as_slice(), asked)
-}
 
 // Runs a command on a set: the reply is as wanted.
 fn expect_run<R: Abort>(
@@ -195,23 +122,6 @@ fn windows_are_cut_out_of_the_listing(rt: HostRuntime) -> Result<(), Fail> {
         expect_windows(&rt, alloc, &mut set, &plain)?;
     }
     Ok(())
-}
-
-// What is asked for, by a number.
-fn random_question(number: u64) -> Question {
-    let low = (number / 65536 % 24) as i64;
-    let offset = (number / 64 % 9) as i64;
-    let count = (number / 1024 % 9) as i64;
-    Question {
-        low,
-        high: low + 6,
-        with_scores: number % 3 == 0,
-        limit: if number % 2 == 0 {
-            None
-        } else {
-            Some((offset - 1, count - 1))
-        },
-    }
 }
 
 // Counts a range of a set, as the plain set has it.

@@ -11,6 +11,8 @@ mod cracks;
 #[cfg(test)]
 mod examples;
 #[cfg(test)]
+mod questions;
+#[cfg(test)]
 mod random_changes;
 #[cfg(test)]
 mod readings;
