@@ -152,6 +152,17 @@ fn serve_before<S: LogSink, L: Ledger, R: Wait>(
     Ok(worker.into_pass())
 }
 
+/// The replies of two sessions, one behind the other, if both ended well.
+fn both_replies(
+    alloc: Global,
+    one: Option<Vec<u8>>,
+    other: Option<Vec<u8>>,
+) -> Result<String, Fail> {
+    let mut bytes = one.ok_or("a session failed")?;
+    bytes.extend_from_slice(&other.ok_or("a session failed")?)?;
+    text_of(alloc, &bytes)
+}
+
 fn held_beside<L: Ledger + Send + Sync, R: Threads + Wait + AllocGlobal + Sync>(
     rt: &R,
     blank: Blank,
@@ -181,9 +192,7 @@ fn held_beside<L: Ledger + Send + Sync, R: Threads + Wait + AllocGlobal + Sync>(
     if flags.ran_out.load(Ordering::SeqCst) {
         return Err("a wait ran out")?;
     }
-    let mut bytes = one.ok_or("a session failed")?;
-    bytes.extend_from_slice(&other.ok_or("a session failed")?)?;
-    let replies = text_of(alloc, &bytes)?;
+    let replies = both_replies(alloc, one, other)?;
     Ok(Held { replies, totals })
 }
 
