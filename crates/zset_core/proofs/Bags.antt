@@ -1,5 +1,5 @@
 -- The pairs of a set as a bag: what each change of a set does to it.
-use Rattle.std.proofs.Common.{◌≡◌, ℕ, ◌+◌, ◌-◌, ◌≤◌, ℤ, Bool, true, false, cond, ◌&&◌, List, [], ◌∷◌, ◌++◌, length, length-append, count_by, Option, None, Some, refl, sym, ap, subst, ◌∙◌, arith}
+use Rattle.std.proofs.Common.{◌≡◌, ℕ, ◌+◌, ◌≤◌, ℤ, Bool, true, false, cond, ◌&&◌, List, [], ◌∷◌, ◌++◌, length, length-append, count_by, Option, None, Some, refl, sym, ap, subst, ◌∙◌, arith}
 use Rattle.std.specs.Prelude.{T}
 use Rattle.std.specs.Ordering.{is_lt, is_eq, eq_by_cmp}
 use Rattle.std.specs.declared.cmp.Ordering.{Ordering}
@@ -15,7 +15,9 @@ use Rattle.crack_kernel.specs.RowBag.{Test}
 use Rattle.ripple_column.proofs.CallerLemmas.{count_all, count_push}
 use Rattle.zset_core.proofs.Tests.{first, second}
 use Rattle.zset_core.specs.SortedSet.{Members, Pair, bytes_cmp, pairs}
-use Rattle.zset_core.specs.RowEdits.{HasAtMost, IsFew, Notes, Turns, most_edits}
+use Rattle.zset_core.specs.Plan.{NeedsAtMost}
+use Rattle.zset_core.specs.RowEdits.{Notes, Turns}
+use Rattle.zset_core.specs.declared.set.plan.Plan.{Plan}
 use Rattle.zset_core.specs.declared.set.row_edits.Edits.{Edits}
 use Rattle.zset_core.proofs.Bridge.{total, exact}
 use Rattle.zset_core.proofs.Order.{swapped}
@@ -148,59 +150,25 @@ module _ {A : Type 0} where
     leaving = rw left (omega (arith, length-append e.leaving.items ((old, k) ∷ [])));
   }
 
-  -- edits to a set are edits to what is equal to it
-  pub Turns-to : (old new end : Members) (e : Edits A) → end ≡ new → Turns old new e.coming.items e.leaving.items → Turns old end e.coming.items e.leaving.items
-  Turns-to old new end e is turns = subst (λ (m : Members). Turns old m e.coming.items e.leaving.items) (sym is) turns
-
-  -- what was noted from nothing on
-  pub Turns-noted : (most : ℕ) (old new : Members) (e f : Edits A) → e.coming.items ≡ [] → e.leaving.items ≡ [] → Notes most old new e f → Turns old new f.coming.items f.leaving.items
-  Turns-noted most old new e f none nothing n p =
-      let a : count_by p e.coming.items ≡ 0 = ap (count_by p) none in
-      let b : count_by p e.leaving.items ≡ 0 = ap (count_by p) nothing in
-      omega (arith, n.bags p, a, b)
-
   pub Turns-between : (most : ℕ) (old old' new new' : Members) (e f : Edits A) → old ≡ old' → new ≡ new' → e.coming.items ≡ [] → e.leaving.items ≡ [] → Notes most old new e f
       → Turns old' new' f.coming.items f.leaving.items
   Turns-between most old old' new new' e f first last none nothing n p =
       let a = ap (λ (m : Members). count_by p (pairs m)) first in
       let b = ap (λ (m : Members). count_by p (pairs m)) last in
-      omega (arith, a, b, Turns-noted most old new e f none nothing n p)
+      let c : count_by p e.coming.items ≡ 0 = ap (count_by p) none in
+      let d : count_by p e.leaving.items ≡ 0 = ap (count_by p) nothing in
+      omega (arith, a, b, c, d, n.bags p)
 
-  pub HasAtMost-noted : (most : ℕ) (old new : Members) (e f : Edits A) → e.coming.items ≡ [] → e.leaving.items ≡ [] → Notes most old new e f → HasAtMost most f
-  HasAtMost-noted most old new e f none nothing n = record { coming = omega (arith, n.coming, ap length none); leaving = omega (arith, n.leaving, ap length nothing) }
+  pub NeedsAtMost-noted : (most more : ℕ) (old new : Members) (e : Edits A) (plan : Plan A) → e.coming.items ≡ [] → e.leaving.items ≡ [] → plan.removed.keys ≡ [] → most ≤ more
+      → Notes most old new e plan.draft.edits → NeedsAtMost more plan
+  NeedsAtMost-noted most more old new e plan none nothing stays up n = record {
+    coming = omega (arith, up, n.coming, ap length none);
+    leaving = omega (arith, up, n.leaving, ap length nothing, ap length stays);
+  }
 
-  pub HasAtMost-none : (e : Edits A) → e.coming.items ≡ [] → e.leaving.items ≡ [] → HasAtMost 0 e
-  HasAtMost-none e none nothing = record { coming = omega (arith, ap length none); leaving = omega (arith, ap length nothing) }
-
-  -- where no row comes in, as many leave as there are members less
-  pub HasAtMost-gone : (old new : Members) (e : Edits A) → e.coming.items ≡ [] → Turns old new e.coming.items e.leaving.items → HasAtMost (fin.len old - fin.len new) e
-  HasAtMost-gone old new e none turns =
-      let all = turns (λ r. true) in
-      let nothing : length e.coming.items ≡ 0 = ap length none in record {
-        coming = omega (arith, nothing);
-        leaving = omega (arith, nothing, all, count_pairs old, count_pairs new, count_all e.coming.items, count_all e.leaving.items);
-      }
-
-  pub IsFew-noted : (most : ℕ) (old new : Members) (e f : Edits A) → e.coming.items ≡ [] → e.leaving.items ≡ [] → most ≤ most_edits → Notes most old new e f → IsFew f
-  IsFew-noted most old new e f none nothing few n = record { coming = omega (arith, n.coming, ap length none); leaving = omega (arith, n.leaving, ap length nothing) }
+  pub NeedsAtMost-removed : (most : ℕ) (plan : Plan A) → plan.draft.edits.coming.items ≡ [] → plan.draft.edits.leaving.items ≡ [] → length plan.removed.keys ≤ most → NeedsAtMost most plan
+  NeedsAtMost-removed most plan none nothing few = record { coming = omega (arith, ap length none); leaving = omega (arith, few, ap length nothing) }
 
   -- nothing changes where nothing is noted
   pub Turns-none : (m : Members) (e : Edits A) → e.coming.items ≡ [] → e.leaving.items ≡ [] → Turns m m e.coming.items e.leaving.items
   Turns-none m e none nothing p = omega (arith, ap (count_by p) none, ap (count_by p) nothing)
-
-  pub IsFew-none : (e : Edits A) → e.coming.items ≡ [] → e.leaving.items ≡ [] → IsFew e
-  IsFew-none e none nothing = record { coming = omega (arith, ap length none); leaving = omega (arith, ap length nothing) }
-
-  -- a member less
-  pub Notes-gone : (m : Members) (k : List ℕ) (s : ℤ) (e f : Edits A) → fin.get m k ≡ Some s → f.leaving.items ≡ e.leaving.items ++ (s, k) ∷ [] → f.coming.items ≡ e.coming.items
-      → Notes 1 m (fin.remove m k) e f
-  Notes-gone m k s e f there left came = record {
-    bags = λ p.
-        let less = count_remove p m k in
-        let had : count_had p k (fin.get m k) ≡ one p (s, k) = ap (count_had p k) there in
-        let gone : count_by p f.leaving.items ≡ count_by p e.leaving.items + one p (s, k) = ap (count_by p) left ∙ count_push p e.leaving.items (s, k) in
-        let same : count_by p f.coming.items ≡ count_by p e.coming.items = ap (count_by p) came in
-        omega (arith, less, had, gone, same);
-    coming = rw came (omega arith);
-    leaving = rw left (omega (arith, length-append e.leaving.items ((s, k) ∷ [])));
-  }

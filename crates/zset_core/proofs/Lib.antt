@@ -4,6 +4,7 @@ pub mod Staging
 pub mod PairSteps
 pub mod Places
 pub mod Gathering
+pub mod MemberRemoval
 pub mod Order
 pub mod Bags
 pub mod Planning

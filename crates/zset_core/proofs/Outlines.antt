@@ -19,14 +19,13 @@ use Rattle.zset_core.specs.ChangeOutline.{missing}
 use Rattle.std.proofs.lemmas.Bool.Decides.{nat_tests}
 use Rattle.std.proofs.lemmas.Option.{slice_get-map}
 use Rattle.std.proofs.lemmas.Map.Entries.{lookup_from_place}
-use Rattle.zset_core.specs.MembersWithStagedScores.{Entry, current_score, staged_score, members_by, slot_at, same_bytes, rows_by, bytes_of, Stays, IsWaiting, Grows}
+use Rattle.zset_core.specs.MembersWithStagedScores.{Entry, current_score, staged_score, members_by, slot_at, same_bytes, rows_by, Stays, IsWaiting, Grows}
 use Rattle.zset_core.specs.declared.set.members_with_staged_scores.ScoreSlot.{ScoreSlot}
 use Rattle.std.specs.List.{position_or_len}
 use Rattle.std.proofs.Math.Seq.{take-length}
 use Rattle.indexmap.proofs.MapLemmas.{distinct-take}
 use Rattle.zset_core.specs.ChangeOutline.{IsOutline}
 use Rattle.zset_core.specs.Semantics.{remove_all}
-use Rattle.std.specs.declared.vec.Vec.{Vec}
 use Rattle.zset_core.specs.declared.set.change_outline.Outline.{Outline}
 use Rattle.zset_core.proofs.Staging.{rows_take}
 use Rattle.zset_core.proofs.Gathering.{get-remove_all}
@@ -196,6 +195,17 @@ within_removed m names q there = by (list_any (bytes_eq q) names) (sym (ap is_so
     by true h = cc
     by false h = h
 
+none_gone : (m : Members) (names : List (List ℕ)) → length names ≡ 0 → remove_all m names ≡ m
+none_gone m [] h = refl
+none_gone m (k ∷ ks) h = absurd (omega arith)
+
+-- the outline of a removal, by the names of those that leave, each once
+pub gathered_outline : (m n : Members) (names : List (List ℕ)) (count : ℕ) → count ≡ length names → remove_all m names ≡ n → length names + fin.len n ≡ fin.len m
+    → IsOutline (record { added = 0; removed = count; changed = nat_lt 0 count }) m n
+gathered_outline m n names count is gone rest =
+    removed_outline m n count (λ q there. within_removed m names q (ap (λ (x : Members). fin.contains_key x q) gone ∙ there)) (ap (λ k. k + fin.len n) is ∙ rest)
+    (λ zero'. sym gone ∙ none_gone m names (sym is ∙ zero'))
+
 module _ {A : Type 0} where
   -- a place fewer, where the entry there does not wait
   pub IsWaiting-skip : (ps : List ℕ) (i : ℕ) (es : List (Entry A)) → i < length ps → IfSome (slice_get es (get_or ps i 0)) Stays → IsWaiting (drop i ps) es → IsWaiting (drop (i + 1) ps) es
@@ -285,12 +295,3 @@ module _ {A : Type 0} where
   pub before_grown : (old new : List (Entry A)) (kept : ℕ) → kept ≡ length old → Grows old new → before new kept ≡ members_by current_score old
   before_grown old new kept is grows =
       ap (λ (rows : List (List ℕ × ℤ)). fin.from_entries rows) (rows_take current_score kept new ∙ ap (λ n. take n (rows_by current_score new)) is ∙ grows.front)
-
-  none_gone : (m : Members) (vs : List (Vec ℕ A)) → length vs ≡ 0 → remove_all m (bytes_of vs) ≡ m
-  none_gone m [] h = refl
-  none_gone m (v ∷ vs) h = absurd (omega arith)
-
-  pub gathered_outline : (m n : Members) (vs : List (Vec ℕ A)) (count : ℕ) → count ≡ length vs → remove_all m (bytes_of vs) ≡ n → length vs + fin.len n ≡ fin.len m → IsOutline (record { added = 0; removed = count; changed = nat_lt 0 count }) m n
-  gathered_outline m n vs count is gone rest =
-      removed_outline m n count (λ q there. within_removed m (bytes_of vs) q (ap (λ (x : Members). fin.contains_key x q) gone ∙ there)) (ap (λ k. k + fin.len n) is ∙ rest)
-      (λ zero'. sym gone ∙ none_gone m vs (sym is ∙ zero'))

@@ -4,9 +4,9 @@ use Rattle.std.specs.FinMap as fin
 use Rattle.resp_wire.specs.Response.{Response}
 use Rattle.ripple_column.specs.Content.{ColumnState, Holds, SameContent, IsUnchanged, most_pending}
 use Rattle.zset_core.specs.SortedSet.{Members, pairs}
-use Rattle.zset_core.specs.MembersWithStagedScores.{Entry, current_score, rows_by, members_by, IsSettled}
-use Rattle.zset_core.specs.RowEdits.{HasAtMost, most_edits}
-use Rattle.zset_core.specs.Plan.{Plans, Prepares, edited_by, left_by}
+use Rattle.zset_core.specs.MembersWithStagedScores.{Entry, current_score, staged_score, rows_by, members_by, names_at, IsSettled}
+use Rattle.zset_core.specs.RowEdits.{most_edits}
+use Rattle.zset_core.specs.Plan.{NeedsAtMost, Plans, Prepares, edited_by, left_by, rows_coming, rows_leaving}
 use Rattle.zset_core.specs.ChangeOutline.{IsOutline}
 use Rattle.zset_core.specs.CommandEffectsOnColumn.{edit_count}
 use Rattle.zset_core.specs.AbstractCommand.{Meaning, range_to_remove}
@@ -14,10 +14,9 @@ use Rattle.zset_core.specs.SetAndOwnerViews.{SetView, Next}
 use Rattle.zset_core.specs.SetViewAndInvariant.{view_of, next_of, IsIdle, IsPlanned, IsReadyForPlan, IsSound}
 use Rattle.zset_core.specs.declared.set.plan.Plan.{Plan}
 use Rattle.zset_core.specs.declared.set.Prepared.{Prepared}
-use Rattle.zset_core.specs.declared.set.row_edits.Edits.{Edits}
 use Rattle.ripple_column.proofs.CallerLemmas.{count_all}
 use Rattle.zset_core.proofs.Bags.{count_pairs}
-use Rattle.zset_core.proofs.RangeRemoval.{len_without_given}
+use Rattle.zset_core.proofs.RangeRemoval.{len_removed, len_without_given}
 
 not_none : (n : Next) → ◌≡◌ {A = Option Next} (Some n) None → ⊥
 not_none n e = cc
@@ -52,16 +51,17 @@ module _ {A : Type 0} where
       let p = s.1 in
       let bag = p.edits_are (λ r. true) in
       let a = count_pairs (members_by current_score old) in
-      let b = count_pairs (edited_by new plan) in
+      let b = count_pairs (members_by staged_score new) in
+      let less = len_removed (members_by staged_score new) (names_at new plan.removed.keys) in
       let fewer : fin.len s.0.0 ≤ fin.len (edited_by new plan) = subst (λ (m : Members). fin.len m ≤ fin.len (edited_by new plan)) p.members_are (len_without_given plan.range (edited_by new plan)) in
       elim p.outline_is.one_way [
         | inl none ↦ omega (arith, none)
-        | inr none ↦ omega (arith, none, p.outline_is.sums, bag, a, b, fewer, count_all plan.draft.edits.coming.items, count_all plan.draft.edits.leaving.items, p.few_edits.coming)
+        | inr none ↦ omega (arith, none, p.outline_is.sums, bag, a, b, less, fewer, count_all plan.draft.edits.coming.items, count_all plan.draft.edits.leaving.items, p.few_rows.coming)
       ]
 
-  -- a column with room for so many edits has room for these
-  pub room_fits : (old new : ColumnState) (edits : Edits A) (n room : ℕ) → HasAtMost n edits → (most_pending old + max (length edits.coming.items) (length edits.leaving.items) ≤ room → IsUnchanged old new) → most_pending old + n ≤ room → IsUnchanged old new
-  room_fits old new edits n room most still fits = still (omega (arith, most.coming, most.leaving, fits))
+  -- a column with room for so many rows has room for these
+  pub room_fits : (old new : ColumnState) (plan : Plan A) (n room : ℕ) → NeedsAtMost n plan → (most_pending old + max (rows_coming plan) (rows_leaving plan) ≤ room → IsUnchanged old new) → most_pending old + n ≤ room → IsUnchanged old new
+  room_fits old new plan n room most still fits = still (omega (arith, most.coming, most.leaving, fits))
 
   pub column_shown : (es : List (Entry A)) (c : ColumnState) (p : Option (Prepared A)) (v : SetView) → view_of es c p ≡ v → c ≡ v.column
   column_shown es c None v is = ap (λ (w : SetView). w.column) is
@@ -89,6 +89,7 @@ module _ {A : Type 0} where
         waiting = p.waiting;
         content = λ t. content t ∙ idle.content t ∙ ap (λ (rows : List (List ℕ × ℤ)). count_by t (pairs (fin.from_entries rows))) (sym front);
         turns = λ t. omega (arith, p.edits_are t, content t, idle.content t);
+        removed = p.removed_are;
         ready = ready;
         range = range;
       }

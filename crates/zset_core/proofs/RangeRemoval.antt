@@ -14,8 +14,6 @@ use Rattle.ripple_column.proofs.CallerLemmas.{count_all}
 use Rattle.zset_core.specs.SortedSet.{Members, Pair, bytes_cmp, names_of, pairs}
 use Rattle.zset_core.specs.Semantics.{remove_all, without_range}
 use Rattle.zset_core.specs.Plan.{without_given}
-use Rattle.zset_core.specs.RowEdits.{HasAtMost, TurnsInto}
-use Rattle.zset_core.specs.declared.set.row_edits.Edits.{Edits}
 use Rattle.zset_core.specs.ChangeOutline.{IsOutline}
 use Rattle.zset_core.proofs.Tests.{both, first, second}
 use Rattle.zset_core.proofs.Bridge.{exact, total}
@@ -85,6 +83,10 @@ Holds-left c c' m range holds gone p =
     gone p ∙ holds (λ r. p r && not (is_in range r.0)) ∙ count_filter p (λ r. not (is_in range r.0)) (pairs m) ∙ ap (count_by p) (sym (pairs_left range m))
 
 -- no more members are left than there were
+pub len_removed : (m : Members) (names : List (List ℕ)) → fin.len (remove_all m names) ≤ fin.len m
+len_removed m [] = omega arith
+len_removed m (k ∷ ks) = omega (arith, len_removed (fin.remove m k) ks, count_remove (λ r. true) m k, count_pairs m, count_pairs (fin.remove m k))
+
 pub len_without_given : (range : Option Range) (m : Members) → fin.len (without_given range m) ≤ fin.len m
 len_without_given None m = omega arith
 len_without_given (Some range) m = omega (arith, count_left range m (λ r. true), count_pairs m, count_pairs (without_range range m))
@@ -129,11 +131,6 @@ removed_inside range m = removed_rows range m (inside range m) (λ p. refl)
 nothing_counted : (rows : List Pair) → length rows ≡ 0 → (p : Test) → count_by p rows ≡ 0
 nothing_counted [] h p = refl
 nothing_counted (x ∷ rows) h p = absurd (omega (arith, h))
-
--- a column that no edits wait for holds the set that edits turn it into
-pub Holds-unedited : {A : Type 0} (c : ColumnState) (m : Members) (edits : Edits A) → HasAtMost 0 edits → TurnsInto c m edits → Holds c (pairs m)
-Holds-unedited c m edits most turns p =
-    omega (arith, turns p, nothing_counted edits.coming.items (omega (arith, most.coming)) p, nothing_counted edits.leaving.items (omega (arith, most.leaving)) p)
 
 -- the outline of a removal, by the rows of the range
 pub range_outline : (range : Range) (m : Members) (rows : List Pair) (count : ℕ) → SameBag rows (inside range m) → count ≡ length rows

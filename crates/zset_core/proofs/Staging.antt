@@ -8,14 +8,12 @@ use Rattle.std.specs.FinMap as fin
 use Rattle.std.specs.HashMap.{HashMap, UpdatesBy}
 use Rattle.std.specs.declared.vec.Vec.{Vec}
 use Rattle.std.proofs.lemmas.Map.Entries.{lookup_from_place}
-use Rattle.zset_core.specs.SortedSet.{Members}
-use Rattle.zset_core.specs.Semantics.{remove_all}
 use Rattle.std.proofs.lemmas.Map.Made.{lookup_key_passes}
 use Rattle.std.proofs.lemmas.Option.{slice_get-map}
 use Rattle.std.proofs.lemmas.Bool.Decides.{nat_tests}
 use Rattle.indexmap.specs.IndexMap.{set_value_at, with_value_at, IsUnique}
 use Rattle.indexmap.proofs.CallerLemmas.{updates-with_value_at}
-use Rattle.zset_core.specs.MembersWithStagedScores.{Entry, current_score, staged_score, rows_by, slots, members_by, slot_at, same_bytes, Stays, IsSettled, IsWithin, IsWaiting, Grows, bytes_of}
+use Rattle.zset_core.specs.MembersWithStagedScores.{Entry, current_score, staged_score, rows_by, slots, members_by, slot_at, same_bytes, Stays, IsSettled, IsWithin, IsWaiting, Grows}
 use Rattle.zset_core.specs.declared.set.members_with_staged_scores.ScoreSlot.{ScoreSlot}
 use Rattle.zset_core.proofs.Bridge.{same_equiv, updates_bytes, one_put, one_gone}
 
@@ -226,9 +224,6 @@ module _ {A : Type 0} where
 
   pub members_gone : {S : Type 0} (f : ScoreSlot → ℤ) (bs : List ℕ) (m n : HashMap (Vec ℕ A) ScoreSlot S) → UpdatesBy same_bytes (λ k. bytes_eq bs k.items) m n None → members_by f n.entries ≡ fin.remove (members_by f m.entries) bs
   members_gone f bs m n h = one_gone f m.entries n.entries bs (updates_bytes bs m n None h)
-
-  pub remove_step : (m : Members) (rs : List (Vec ℕ A)) (i : ℕ) (v : Vec ℕ A) → i < length rs → v ≡ get_or rs i v → remove_all m (bytes_of (drop i rs)) ≡ remove_all (fin.remove m v.items) (bytes_of (drop (i + 1) rs))
-  remove_step m rs i v within is = ap (λ (l : List (Vec ℕ A)). remove_all m (bytes_of l)) (drop-cons rs i v within) ∙ ap (λ (x : Vec ℕ A). remove_all (fin.remove m x.items) (bytes_of (drop (suc i) rs))) (sym is) ∙ ap (λ j. remove_all (fin.remove m v.items) (bytes_of (drop j rs))) (sym (add-one i))
 
   pub IsWaiting-none : (es : List (Entry A)) → IsSettled es → IsWaiting [] es
   IsWaiting-none es h = record { within = tt; settled = λ i none. h i }

@@ -7,7 +7,7 @@ pub mod MembersWithStagedScores
 pub mod ParsedArguments
 pub mod Plan
 pub mod SetViewAndInvariant
-pub mod RemovalSearch
+pub mod FoundPlaces
 pub mod BorrowedListingPairs
 pub mod WindowPieces
 pub mod OwnerViewAndInvariant

@@ -1,5 +1,5 @@
 -- How a set is kept: the entries of its map, new members last, each with the score that it has and the one that it gets.
-use Rattle.std.specs.Prelude.{◌≡◌, ℕ, ◌<◌, ◌≤◌, Bool, false, ℤ, List, map, length, take, nat_eq, slice_get, Option, IfSome}
+use Rattle.std.specs.Prelude.{◌≡◌, ℕ, ◌<◌, ◌≤◌, Bool, false, ℤ, List, [], map, length, take, nat_eq, slice_get, Option, IfSome, option_map, unwrap_or}
 use Rattle.std.specs.List.{AllByRecursion, list_any}
 use Rattle.std.specs.declared.vec.Vec.{Vec}
 use Rattle.std.specs.FinMap as fin
@@ -21,9 +21,13 @@ current_score slot = slot.current
 abbrev pub staged_score : ScoreSlot → ℤ
 staged_score slot = slot.staged
 
--- the bytes of members
-abbrev pub bytes_of : {A : Type 0} → List (Vec ℕ A) → List (List ℕ)
-bytes_of {A} names = map (λ (name : Vec ℕ A). name.items) names
+-- the bytes of the member at a place
+abbrev pub name_at : {A : Type 0} → List (Entry A) → ℕ → List ℕ
+name_at {A} entries place = unwrap_or (option_map (λ (e : Entry A). e.0.items) (slice_get entries place)) []
+
+-- the bytes of the members at places
+abbrev pub names_at : {A : Type 0} → List (Entry A) → List ℕ → List (List ℕ)
+names_at entries places = map (name_at entries) places
 
 -- members with one of their two scores
 abbrev pub rows_by : {A : Type 0} → (ScoreSlot → ℤ) → List (Entry A) → List (List ℕ × ℤ)

@@ -1,12 +1,12 @@
 -- What a set has prepared, and what callers see of it.
-use Rattle.std.specs.Prelude.{◌≡◌, List, length, Option, None, Some}
+use Rattle.std.specs.Prelude.{◌≡◌, ◌≤◌, ◌+◌, ℕ, List, length, Option, None, Some}
 use Rattle.resp_wire.specs.Response.{Response, response_of}
 use Rattle.zset_core.specs.SortedSet.{Members}
 use Rattle.score_bounds.specs.declared.bounds.Range.{Range}
 use Rattle.zset_core.specs.Semantics.{remove_all, without_range}
-use Rattle.zset_core.specs.MembersWithStagedScores.{Entry, current_score, staged_score, members_by, IsWaiting, Grows, bytes_of}
+use Rattle.zset_core.specs.MembersWithStagedScores.{Entry, current_score, staged_score, members_by, names_at, IsWaiting, IsWithin, Grows}
 use Rattle.zset_core.specs.ChangeOutline.{IsOutline}
-use Rattle.zset_core.specs.RowEdits.{Turns, IsFew}
+use Rattle.zset_core.specs.RowEdits.{Turns, most_edits}
 use Rattle.zset_core.specs.declared.set.plan.Plan.{Plan}
 
 -- the set without the members of a range, if one is given
@@ -16,11 +16,23 @@ without_given (Some range) members = without_range range members
 
 -- the set once the members that a plan names came, moved and left
 abbrev pub edited_by : {A : Type 0} → List (Entry A) → Plan A → Members
-edited_by entries plan = remove_all (members_by staged_score entries) (bytes_of plan.removed.items)
+edited_by entries plan = remove_all (members_by staged_score entries) (names_at entries plan.removed.keys)
 
 -- the set that a commit leaves
 abbrev pub left_by : {A : Type 0} → List (Entry A) → Plan A → Members
 left_by entries plan = without_given plan.range (edited_by entries plan)
+
+-- how many rows a plan's commit puts among the pending insertions at most, and among the pending deletions
+abbrev pub rows_coming : {A : Type 0} → Plan A → ℕ
+rows_coming plan = length plan.draft.edits.coming.items
+
+abbrev pub rows_leaving : {A : Type 0} → Plan A → ℕ
+rows_leaving plan = length plan.draft.edits.leaving.items + length plan.removed.keys
+
+-- at most this number of each
+pub record NeedsAtMost {A : Type 0} (most : ℕ) (plan : Plan A) : Type 0 where
+  pub coming : rows_coming plan ≤ most
+  pub leaving : rows_leaving plan ≤ most
 
 -- from the old entries a plan was made whose commit leaves a set and gives a reply
 pub record Prepares {A : Type 0} (old new : List (Entry A)) (plan : Plan A) (members : Members) (reply : Response) : Type 0 where
@@ -29,8 +41,9 @@ pub record Prepares {A : Type 0} (old new : List (Entry A)) (plan : Plan A) (mem
   pub waiting : IsWaiting plan.draft.touched.items new
   pub members_are : left_by new plan ≡ members
   pub reply_is : response_of plan.reply ≡ reply
-  pub edits_are : Turns (members_by current_score old) (edited_by new plan) plan.draft.edits.coming.items plan.draft.edits.leaving.items
-  pub few_edits : IsFew plan.draft.edits
+  pub edits_are : Turns (members_by current_score old) (members_by staged_score new) plan.draft.edits.coming.items plan.draft.edits.leaving.items
+  pub removed_are : IsWithin (length new) plan.removed.keys
+  pub few_rows : NeedsAtMost most_edits plan
   pub outline_is : IsOutline plan.outline (members_by current_score old) members
 
 -- the same of what a command makes of a set; no plan is made where it is refused

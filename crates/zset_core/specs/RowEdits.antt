@@ -16,23 +16,9 @@ pub record Notes {A : Type 0} (most : ℕ) (old new : Members) (before after : E
   pub coming : length after.coming.items ≤ length before.coming.items + most
   pub leaving : length after.leaving.items ≤ length before.leaving.items + most
 
--- at most this number of edits of each kind
-pub record HasAtMost {A : Type 0} (most : ℕ) (edits : Edits A) : Type 0 where
-  pub coming : length edits.coming.items ≤ most
-  pub leaving : length edits.leaving.items ≤ most
-
 -- no command makes more edits of one kind than a request has words
 abbrev pub most_edits : ℕ
 most_edits = 1027
-
-pub record IsFew {A : Type 0} (edits : Edits A) : Type 0 where
-  pub coming : length edits.coming.items ≤ most_edits
-  pub leaving : length edits.leaving.items ≤ most_edits
-
--- the pending lists of a column have room for the edits
-pub record HasRoom {A : Type 0} (c : ColumnState) (edits : Edits A) : Type 0 where
-  pub coming : length edits.coming.items ≤ c.insert_spare
-  pub leaving : length edits.leaving.items ≤ c.delete_spare
 
 -- the content of a column, with the rows that come and without those that leave, is the bag of a set's pairs
 abbrev pub TurnsInto : {A : Type 0} → ColumnState → Members → Edits A → Type 0

@@ -2,12 +2,12 @@
 use Rattle.std.specs.Prelude.{◌≡◌, ℕ, ◌≤◌, List, length, take, Option, None, Some, IfSome, OnSome}
 use Rattle.std.specs.FinMap as fin
 use Rattle.resp_wire.specs.Response.{response_of}
-use Rattle.zset_core.specs.MembersWithStagedScores.{Entry, current_score, rows_by, members_by, IsSettled, IsWaiting}
+use Rattle.zset_core.specs.MembersWithStagedScores.{Entry, current_score, rows_by, staged_score, members_by, IsSettled, IsWaiting, IsWithin}
 use Rattle.ripple_column.specs.Content.{ColumnState, Holds}
 use Rattle.ripple_column.specs.RangeAnswer.{HasAnswer}
 use Rattle.zset_core.specs.AbstractCommand.{Meaning, range_to_remove}
-use Rattle.zset_core.specs.RowEdits.{HasAtMost, HasRoom, TurnsInto}
-use Rattle.zset_core.specs.Plan.{edited_by, left_by}
+use Rattle.zset_core.specs.RowEdits.{TurnsInto}
+use Rattle.zset_core.specs.Plan.{NeedsAtMost, left_by, rows_coming, rows_leaving}
 use Rattle.zset_core.specs.SortedSet.{pairs}
 use Rattle.zset_core.specs.declared.set.plan.Plan.{Plan}
 use Rattle.zset_core.specs.SetAndOwnerViews.{SetView, Next}
@@ -25,19 +25,25 @@ pub record IsIdle {A : Type 0} (entries : List (Entry A)) (column : ColumnState)
   pub settled : IsSettled entries
   pub content : Holds column (pairs (members_by current_score entries))
 
--- a column is ready for a plan: it has room for the edits; where a range leaves it has its answer for that, and there are no edits
+-- the pending lists of a column have room for what a plan puts there
+pub record HasRoom {A : Type 0} (column : ColumnState) (plan : Plan A) : Type 0 where
+  pub coming : rows_coming plan ≤ column.insert_spare
+  pub leaving : rows_leaving plan ≤ column.delete_spare
+
+-- a column is ready for a plan: it has room for its rows; where a range leaves it has its answer for that, and nothing is named
 pub record IsReadyForPlan {A : Type 0} (column : ColumnState) (plan : Plan A) : Type 0 where
-  pub room : HasRoom column plan.draft.edits
+  pub room : HasRoom column plan
   pub answer : IfSome plan.range (HasAnswer column)
-  pub alone : OnSome plan.range (HasAtMost 0 plan.draft.edits)
+  pub alone : OnSome plan.range (NeedsAtMost 0 plan)
 
 -- a set with a plan for a command: the content is the bag of the pairs from before, and the edits turn it into the bag of those
--- that the commit leaves, but for a range that leaves
+-- with the staged scores; the members that leave are taken out of these
 pub record IsPlanned {A : Type 0} (entries : List (Entry A)) (column : ColumnState) (meaning : Meaning) (plan : Plan A) : Type 0 where
   pub kept : plan.draft.kept ≤ length entries
   pub waiting : IsWaiting plan.draft.touched.items entries
   pub content : Holds column (pairs (fin.from_entries (take plan.draft.kept (rows_by current_score entries))))
-  pub turns : TurnsInto column (edited_by entries plan) plan.draft.edits
+  pub turns : TurnsInto column (members_by staged_score entries) plan.draft.edits
+  pub removed : IsWithin (length entries) plan.removed.keys
   pub ready : IsReadyForPlan column plan
   pub range : plan.range ≡ range_to_remove meaning
 

@@ -20,11 +20,11 @@ ghost use Rattle.resp_wire.specs.Response.{response_of};
 pub mod change_outline;
 pub mod commit;
 pub mod draft;
+pub mod member_removal;
 pub mod members_with_staged_scores;
 pub mod pair_outcome;
 pub mod plan;
 pub mod range_removal;
-pub mod removal_search;
 pub mod row_edits;
 
 use crate::command::Command;

@@ -4,7 +4,7 @@
 ghost use Rattle.std.specs.Prelude.{◌≡◌, ◌<◌, ◌^◌, Some, slice_get, option_map, IfSome};
 ghost use Rattle.std.specs.FinMap as map;
 ghost use Rattle.indexmap.specs.IndexMap.{IsUnique};
-ghost use Rattle.zset_core.specs.MembersWithStagedScores.{current_score, staged_score, rows_by, members_by, slot_at, slots, same_bytes, IsSettled, IsWaiting, bytes_of};
+ghost use Rattle.zset_core.specs.MembersWithStagedScores.{current_score, staged_score, rows_by, members_by, slot_at, slots, same_bytes, IsSettled, IsWaiting};
 ghost use Rattle.zset_core.specs.SortedSet.{names_of};
 ghost use Rattle.zset_core.specs.Semantics.{remove_all};
 
@@ -96,21 +96,6 @@ pub fn discard_staged<H: BuildHasher, A: Allocator + Copy>(
             current,
             staged: current,
         };
-    }
-}
-
-/// Members are taken out.
-pub fn take_out<H: BuildHasher, A: Allocator + Copy>(
-    members: &mut MemberMap<H, A>,
-    removed: &[Vec<u8, A>],
-)
-    requires { IsSettled members.old.entries }
-    ensures members { members_by current_score members.new.entries
-        ≡ remove_all (members_by current_score members.old.entries) (bytes_of removed.now) }
-    ensures settled { IsSettled members.new.entries }
-{
-    for member in removed {
-        members.swap_remove(member.as_slice());
     }
 }
 

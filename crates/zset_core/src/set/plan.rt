@@ -8,41 +8,51 @@ ghost use Rattle.zset_core.specs.AbstractCommand.{is_writing, range_to_remove};
 ghost use Rattle.zset_core.specs.ParsedArguments.{given_pairs};
 ghost use Rattle.ripple_column.specs.Content.{Holds, IsUnchanged, SameContent, most_pending};
 ghost use Rattle.ripple_column.specs.CutPivots.{values};
-ghost use Rattle.zset_core.specs.RowEdits.{HasAtMost, HasRoom, IsFew, Notes, most_edits};
+ghost use Rattle.zset_core.specs.RowEdits.{most_edits};
 ghost use Rattle.zset_core.specs.MembersWithStagedScores.{current_score, staged_score, rows_by, members_by, IsSettled, IsBack, IsWaiting, Grows};
 ghost use Rattle.zset_core.specs.SortedSet.{pairs};
-ghost use Rattle.zset_core.specs.Plan.{Prepares, Plans};
-ghost use Rattle.zset_core.specs.SetViewAndInvariant.{IsReadyForPlan};
+ghost use Rattle.zset_core.specs.Plan.{NeedsAtMost, Prepares, Plans, rows_coming, rows_leaving};
+ghost use Rattle.zset_core.specs.SetViewAndInvariant.{HasRoom, IsReadyForPlan};
 ghost use Rattle.zset_core.specs.Refusal.{IsRefused};
 
 use crate::command::Command;
 use crate::command::given_pairs::GivenPairs;
 use crate::command::parsed_arguments::Form;
 use crate::refusal::Refusal;
-use crate::score_and_count_replies::count_reply;
 use crate::set::change_outline::{Outline, outline_staged};
 use crate::set::commit::discard;
 use crate::set::draft::Draft;
+use crate::set::member_removal::plan_remove;
 use crate::set::members_with_staged_scores::{MemberMap, score_of};
 use crate::set::pair_outcome::{Flags, sum};
 use crate::set::range_removal::plan_range;
-use crate::set::removal_search::collect_removed;
-use resp_wire::{Bytes, Reply};
+use resp_wire::Reply;
 use ripple_column::{Column, MAX_PENDING};
 use score_bounds::Range;
 use std::alloc::{AllocError, Allocator};
+use std::collections::BTreeSet;
 use std::hash::BuildHasher;
 
 /// What a commit does to the entries of a set.
 #[derive(Drop)]
 pub struct Plan<A: Allocator + Copy> {
     pub draft: Draft<A>,
-    /// The members that leave.
-    pub removed: Vec<Vec<u8, A>, A>,
+    /// The places of the members that leave by their names.
+    pub removed: BTreeSet<usize, A>,
     /// The range whose members leave, if it is one: the column's rows tell which these are.
     pub range: Option<Range>,
     pub reply: Reply<A>,
     pub outline: Outline,
+}
+
+impl<A: Allocator + Copy> Plan<A> {
+    /// For how many rows the longer of the pending lists must have room.
+    pub fn room(&self) -> usize
+        ensures { result ≡ max (rows_coming self.now) (rows_leaving self.now) }
+    {
+        let leaving = self.draft.edits.leaving.len() + self.removed.len();
+        self.draft.edits.coming.len().max(leaving)
+    }
 }
 
 /// The plan of a ZADD.
@@ -59,9 +69,9 @@ pub fn plan_add<H: BuildHasher, A: Allocator + Copy>(
         (put_all flags (members_by current_score members.old.entries) (given_pairs pairs.now))
         (Integer (pos (count_all flags changed (members_by current_score members.old.entries)
         (given_pairs pairs.now))))) }
-    ensures edits { IfOk result
-        (λ plan. HasAtMost (count_all flags true (members_by current_score members.old.entries)
-        (given_pairs pairs.now)) plan.draft.edits) }
+    ensures rows { IfOk result
+        (λ plan. NeedsAtMost (count_all flags true (members_by current_score members.old.entries)
+        (given_pairs pairs.now)) plan) }
     ensures named { IfOk result (λ plan. plan.range ≡ None) }
     ensures err { OnErr result (IsBack members.old.entries members.new.entries) }
 {
@@ -71,7 +81,7 @@ pub fn plan_add<H: BuildHasher, A: Allocator + Copy>(
             let outline = outline_staged(members, &draft);
             Ok(Plan {
                 draft,
-                removed: Vec::new(alloc),
+                removed: BTreeSet::new(alloc),
                 range: None,
                 reply: Reply::Int(count as i64),
                 outline,
@@ -97,9 +107,9 @@ fn plan_score<H: BuildHasher, A: Allocator + Copy>(
         (put_one flags (members_by current_score members.old.entries) member.now score)
         (increase_reply (outcome_of flags (map.get (members_by current_score members.old.entries) member.now) score)
         score)) }
-    ensures edits { IfOk result
-        (λ plan. HasAtMost (counted true (outcome_of flags
-        (map.get (members_by current_score members.old.entries) member.now) score)) plan.draft.edits) }
+    ensures rows { IfOk result
+        (λ plan. NeedsAtMost (counted true (outcome_of flags
+        (map.get (members_by current_score members.old.entries) member.now) score)) plan) }
     ensures named { IfOk result (λ plan. plan.range ≡ None) }
     ensures err { OnErr result (IsBack members.old.entries members.new.entries) }
 {
@@ -109,7 +119,7 @@ fn plan_score<H: BuildHasher, A: Allocator + Copy>(
             let outline = outline_staged(members, &draft);
             Ok(Plan {
                 draft,
-                removed: Vec::new(alloc),
+                removed: BTreeSet::new(alloc),
                 range: None,
                 reply,
                 outline,
@@ -131,12 +141,12 @@ fn plan_nothing<H: BuildHasher, A: Allocator + Copy>(
     requires { IsSettled members.now.entries }
     ensures plan { Prepares members.now.entries members.now.entries result
         (members_by current_score members.now.entries) (response_of reply) }
-    ensures edits { HasAtMost 0 result.draft.edits }
+    ensures rows { NeedsAtMost 0 result }
     ensures named { result.range ≡ None }
 {
     Plan {
         draft: Draft::new(alloc, members.len()),
-        removed: Vec::new(alloc),
+        removed: BTreeSet::new(alloc),
         range: None,
         reply,
         outline: Outline {
@@ -158,9 +168,9 @@ pub fn plan_increase<H: BuildHasher, A: Allocator + Copy>(
     requires { IsSettled members.old.entries }
     ensures ok { IfOk result (λ plan. Plans members.old.entries members.new.entries plan
         (increase flags (members_by current_score members.old.entries) member.now given)) }
-    ensures edits { IfOk result
-        (λ plan. HasAtMost (increase_edits flags (members_by current_score members.old.entries) member.now
-        given) plan.draft.edits) }
+    ensures rows { IfOk result
+        (λ plan. NeedsAtMost (increase_edits flags (members_by current_score members.old.entries) member.now
+        given) plan) }
     ensures named { IfOk result (λ plan. plan.range ≡ None) }
     ensures err { OnErr result (IsBack members.old.entries members.new.entries) }
     ensures refused { IfErr result
@@ -177,38 +187,6 @@ pub fn plan_increase<H: BuildHasher, A: Allocator + Copy>(
     }
 }
 
-/// The plan of a ZREM.
-pub fn plan_remove<H: BuildHasher, A: Allocator + Copy>(
-    alloc: A,
-    members: &MemberMap<H, A>,
-    names: &[Bytes<A>],
-) -> Result<Plan<A>, AllocError>
-    requires settled { IsSettled members.now.entries }
-    requires few { length names.now ≤ most_edits }
-    ensures ok { IfOk result (λ plan. Prepares members.now.entries members.now.entries plan
-        (remove_all (members_by current_score members.now.entries) names.now)
-        (Integer (pos (map.len (members_by current_score members.now.entries)
-        - map.len (remove_all (members_by current_score members.now.entries) names.now))))) }
-    ensures edits { IfOk result (λ plan. HasAtMost (map.len (members_by current_score members.now.entries)
-        - map.len (remove_all (members_by current_score members.now.entries) names.now)) plan.draft.edits) }
-    ensures named { IfOk result (λ plan. plan.range ≡ None) }
-{
-    let mut draft = Draft::new(alloc, members.len());
-    let removed = collect_removed(alloc, members, &mut draft.edits, names)?;
-    let count = removed.len();
-    Ok(Plan {
-        draft,
-        removed,
-        range: None,
-        reply: count_reply(count),
-        outline: Outline {
-            added: 0,
-            removed: count,
-            changed: count > 0,
-        },
-    })
-}
-
 /// The plan of ZADD or ZREM. Where it is refused the entries are what they were.
 fn plan_for<H: BuildHasher, A: Allocator + Copy>(
     alloc: A,
@@ -219,9 +197,9 @@ fn plan_for<H: BuildHasher, A: Allocator + Copy>(
     requires named { IsTrue (changes_named command.now.meaning) }
     ensures ok { IfOk result (λ plan. Plans members.old.entries members.new.entries plan
         (step (members_by current_score members.old.entries) command.now.meaning)) }
-    ensures edits { IfOk result
-        (λ plan. HasAtMost (edit_count (members_by current_score members.old.entries) command.now.meaning)
-        plan.draft.edits) }
+    ensures rows { IfOk result
+        (λ plan. NeedsAtMost (edit_count (members_by current_score members.old.entries) command.now.meaning)
+        plan) }
     ensures named { IfOk result (λ plan. plan.range ≡ None) }
     ensures err { OnErr result (IsBack members.old.entries members.new.entries) }
     ensures refused { IfErr result
@@ -260,19 +238,19 @@ fn make_room<H: BuildHasher, A: Allocator + Copy>(
     plan: Plan<A>,
 ) -> Result<Plan<A>, AllocError>
     requires waiting { IsWaiting plan.draft.touched.items members.old.entries }
-    requires few { IsFew plan.draft.edits }
+    requires few { NeedsAtMost most_edits plan }
     ensures content { SameContent column.old column.new }
     ensures ok { IfOk result (λ kept. (kept ≡ plan) × (members.new ≡ members.old)) }
-    ensures room { OnOk result (HasRoom column.new plan.draft.edits) }
+    ensures room { OnOk result (HasRoom column.new plan) }
     ensures values { values column.new.pivots ≡ values column.old.pivots }
     ensures still { most_pending column.old
-        + max (length plan.draft.edits.coming.items) (length plan.draft.edits.leaving.items) ≤ MAX_PENDING
+        + max (rows_coming plan) (rows_leaving plan) ≤ MAX_PENDING
         → IsUnchanged column.old column.new }
     ensures current { OnErr result (rows_by current_score members.new.entries
         ≡ take plan.draft.kept (rows_by current_score members.old.entries)) }
     ensures settled { OnErr result (IsSettled members.new.entries) }
 {
-    match column.reserve_write(plan.draft.edits.room()) {
+    match column.reserve_write(plan.room()) {
         Ok(()) => Ok(plan),
         Err(refused) => {
             discard(members, plan);
@@ -293,7 +271,7 @@ fn plan_named<H: BuildHasher, A: Allocator + Copy>(
     requires named { IsTrue (changes_named command.now.meaning) }
     ensures ok { IfOk result (λ plan. Plans members.old.entries members.new.entries plan
         (step (members_by current_score members.old.entries) command.now.meaning)) }
-    ensures room { IfOk result (λ plan. HasRoom column.new plan.draft.edits) }
+    ensures room { IfOk result (λ plan. HasRoom column.new plan) }
     ensures named { IfOk result (λ plan. plan.range ≡ None) }
     ensures content { SameContent column.old column.new }
     ensures values { values column.new.pivots ≡ values column.old.pivots }

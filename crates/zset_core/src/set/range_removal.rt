@@ -7,8 +7,7 @@ ghost use Rattle.ripple_column.specs.Content.{Holds, IsUnchanged, SameContent};
 ghost use Rattle.ripple_column.specs.RangeAnswer.{HasAnswer};
 ghost use Rattle.zset_core.specs.CommandEffectsOnColumn.{Selects, TakesOut};
 ghost use Rattle.zset_core.specs.MembersWithStagedScores.{current_score, members_by, IsSettled};
-ghost use Rattle.zset_core.specs.Plan.{Prepares};
-ghost use Rattle.zset_core.specs.RowEdits.{HasAtMost};
+ghost use Rattle.zset_core.specs.Plan.{NeedsAtMost, Prepares};
 ghost use Rattle.zset_core.specs.Semantics.{without_range};
 ghost use Rattle.zset_core.specs.SortedSet.{listing, pairs};
 
@@ -20,6 +19,7 @@ use crate::set::plan::Plan;
 use ripple_column::Column;
 use score_bounds::Range;
 use std::alloc::{AllocError, Allocator};
+use std::collections::BTreeSet;
 use std::hash::BuildHasher;
 
 /// The plan of a ZREMRANGEBYSCORE, and the column made ready for its range. Where it is refused the
@@ -36,7 +36,7 @@ pub fn plan_range<H: BuildHasher, A: Allocator + Copy>(
         (without_range range.now (members_by current_score members.now.entries))
         (Integer (pos (length (listing (is_in range.now) (members_by current_score members.now.entries)))))) }
     ensures range { IfOk result (λ plan. plan.range ≡ Some range.now) }
-    ensures alone { IfOk result (λ plan. HasAtMost 0 plan.draft.edits) }
+    ensures alone { IfOk result (λ plan. NeedsAtMost 0 plan) }
     ensures answer { OnOk result (HasAnswer column.new range.now) }
     ensures content { SameContent column.old column.new }
     ensures selected { OnOk result (Selects range.now column.old column.new) }
@@ -46,7 +46,7 @@ pub fn plan_range<H: BuildHasher, A: Allocator + Copy>(
     let count = column.rows(from, to).len();
     Ok(Plan {
         draft: Draft::new(alloc, members.len()),
-        removed: Vec::new(alloc),
+        removed: BTreeSet::new(alloc),
         range: Some(*range),
         reply: count_reply(count),
         outline: Outline {

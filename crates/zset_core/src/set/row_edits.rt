@@ -1,5 +1,5 @@
 //! What a commit does to the rows of a set's column.
-ghost use Rattle.std.specs.Prelude.{◌≡◌, ◌++◌, ◌∷◌, [], ◌+◌, ◌≤◌, max, length, count_by, OnOk};
+ghost use Rattle.std.specs.Prelude.{◌≡◌, ◌++◌, ◌∷◌, [], ◌+◌, ◌≤◌, length, count_by, OnOk};
 ghost use Rattle.crack_kernel.specs.RowBag.{Test};
 ghost use Rattle.ripple_column.specs.Content.{content_count};
 
@@ -24,13 +24,6 @@ impl<A: Allocator + Copy> Edits<A> {
             coming: Vec::new(alloc),
             leaving: Vec::new(alloc),
         }
-    }
-
-    /// For how many rows the longer of the pending lists must have room.
-    pub fn room(&self) -> usize
-        ensures { result ≡ max (length self.now.coming.items) (length self.now.leaving.items) }
-    {
-        self.coming.len().max(self.leaving.len())
     }
 
     /// A row comes in.
@@ -78,6 +71,7 @@ fn delete_all<A: Allocator + Copy>(column: &mut Column<A>, mut rows: Vec<Row<A>,
         + count_by p rows.items }
     ensures rows { column.new.rows ≡ column.old.rows }
     ensures pivots { column.new.pivots ≡ column.old.pivots }
+    ensures spare { column.old.delete_spare ≤ column.new.delete_spare + length rows.items }
 {
     while let Some(row) = rows.pop() {
         column.delete(row);
@@ -95,6 +89,7 @@ pub fn make_edits<A: Allocator + Copy>(column: &mut Column<A>, edits: Edits<A>)
         ≡ content_count p column.old + count_by p edits.coming.items }
     ensures rows { column.new.rows ≡ column.old.rows }
     ensures pivots { column.new.pivots ≡ column.old.pivots }
+    ensures spare { column.old.delete_spare ≤ column.new.delete_spare + length edits.leaving.items }
 {
     insert_all(column, edits.coming);
     delete_all(column, edits.leaving);

@@ -2,7 +2,7 @@ use Rattle.std.proofs.Common.{◌≡◌, ◌∙◌, ◌-◌, ℕ, List, arith, a
 use Rattle.std.specs.FinMap as map
 use Rattle.std.proofs.lemmas.List.{take_all}
 use Rattle.zset_core.specs.CommandEffectsOnColumn.{edit_count}
-use Rattle.zset_core.specs.RowEdits.{HasAtMost}
+use Rattle.zset_core.specs.Plan.{NeedsAtMost}
 use Rattle.zset_core.specs.ParsedArguments.{meaning_of}
 use Rattle.zset_core.specs.MembersWithStagedScores.{current_score, members_by}
 use Rattle.zset_core.specs.AbstractCommand.{Meaning}
@@ -15,12 +15,12 @@ gone : (m : Members) (words shown : List (List ℕ)) → shown ≡ words → map
 gone m words shown same =
     ap (λ names. map.len m - map.len (remove_all m names)) (take_all (length shown - 2) (drop 2 shown) (omega (arith, length-drop 2 shown)) ∙ ap (drop 2) same)
 
-pub returns-in_ok-plan_remove-in-Remove-clause-edits : goal.returns-in_ok-plan_remove-in-Remove-clause-edits
-returns-in_ok-plan_remove-in-Remove-clause-edits g c =
+pub returns-in_ok-plan_remove-in-Remove-clause-rows : goal.returns-in_ok-plan_remove-in-Remove-clause-rows
+returns-in_ok-plan_remove-in-Remove-clause-rows g c =
     let m = members_by current_score c.args.members.now.entries in
     let asked = c.args.command.now.words in
-    let edits = c.in_ok-plan_remove-in-Remove.field-0.draft.edits in
+    let plan = c.in_ok-plan_remove-in-Remove.field-0 in
     let is = c.form.ensures.meaning ∙ ap (meaning_of asked) c.in-Remove.is in
     let same : c.words-words.result.now ≡ asked = search rules in
-    let most = subst (λ (n : ℕ). HasAtMost n edits) (gone m asked c.words-words.result.now same) c.in_ok-plan_remove-in-Remove.ensures.edits in
-    subst (λ (meaning : Meaning). HasAtMost (edit_count m meaning) edits) (sym is) most
+    let most = subst (λ (n : ℕ). NeedsAtMost n plan) (gone m asked c.words-words.result.now same) c.in_ok-plan_remove-in-Remove.ensures.rows in
+    subst (λ (meaning : Meaning). NeedsAtMost (edit_count m meaning) plan) (sym is) most

@@ -9,7 +9,7 @@ make_room-requires-clause-waiting g c =
 
 pub make_room-requires-clause-few : goal.make_room-requires-clause-few
 make_room-requires-clause-few g c =
-    (Prepares-some c.args.members.now.entries c.plan_for.new.members.entries c.in_ok-plan.plan (step (members_by current_score c.args.members.now.entries) c.args.command.now.meaning) c.in_ok-plan.ensures.ok).1.few_edits
+    (Prepares-some c.args.members.now.entries c.plan_for.new.members.entries c.in_ok-plan.plan (step (members_by current_score c.args.members.now.entries) c.args.command.now.meaning) c.in_ok-plan.ensures.ok).1.few_rows
 
 pub returns-clause-still : goal.returns-clause-still
-returns-clause-still g c = room_fits c.args.column.now c.make_room.new.column c.in_ok-plan.plan.draft.edits _ _ c.in_ok-plan.ensures.edits c.make_room.ensures.still
+returns-clause-still g c = room_fits c.args.column.now c.make_room.new.column c.in_ok-plan.plan _ _ c.in_ok-plan.ensures.rows c.make_room.ensures.still

@@ -1,12 +1,12 @@
-use Rattle.std.proofs.Common.{◌≡◌, ◌∙◌, ap, arith, true, ℕ, ℤ, subst, w64, to_z, of_z, to_z-of_z}
+use Rattle.std.proofs.Common.{◌≡◌, ◌∙◌, List, length, refl, sym, ap, arith, true, ℕ, ℤ, subst, w64, to_z, of_z, to_z-of_z}
 use Rattle.std.specs.FinMap as map
 use Rattle.zset_core.specs.SortedSet.{Members}
-use Rattle.zset_core.specs.RowEdits.{HasAtMost}
+use Rattle.zset_core.specs.RowEdits.{most_edits}
 use Rattle.zset_core.specs.Semantics.{counted, put_one, remove_all, increase_reply, outcome_of}
-use Rattle.zset_core.specs.MembersWithStagedScores.{current_score, staged_score, members_by, bytes_of}
+use Rattle.zset_core.specs.MembersWithStagedScores.{current_score, staged_score, members_by, names_at, IsWithin}
 use Rattle.zset_core.proofs.Outlines.{outline_same, before, before_grown}
 use Rattle.zset_core.proofs.Staging.{members_same}
-use Rattle.zset_core.proofs.Bags.{HasAtMost-noted, Turns-between, Turns-to, IsFew-noted}
+use Rattle.zset_core.proofs.Bags.{NeedsAtMost-noted, Turns-between}
 use Rattle.zset_core.proofs.PairSteps.{counted_one}
 use Rattle.zset_core.proofs.set.plan.plan_score.Goals as goal
 
@@ -19,29 +19,30 @@ returns-in-Ok-clause-ok g c =
     ∙ ap (put_one c.args.flags (members_by current_score old) c.args.member.now) (to_z-of_z c.ranges.score) in
     let new = c.stage_increase.new.members.entries in
     let written = counted true (outcome_of c.args.flags (map.get (members_by staged_score old) c.args.member.now) z) in
-    let is = ap (λ gone. remove_all (members_by staged_score new) (bytes_of gone)) c.new.ensures.items ∙ left in
+    let is = ap (λ (gone : List ℕ). remove_all (members_by staged_score new) (names_at new gone)) c.new.ensures.empty ∙ left in
     record {
       kept = c.stage_increase.ensures.kept ∙ c.new-draft.ensures.kept ∙ c.len.ensures.len;
       grows = c.stage_increase.ensures.grows;
       waiting = c.stage_increase.ensures.waiting;
       members_are = is;
-      edits_are = Turns-to (members_by current_score old) (put_one c.args.flags (members_by current_score old) c.args.member.now c.args.score) (remove_all (members_by staged_score new) (bytes_of c.new.result.items)) c.stage_increase.new.self.edits is
-          (Turns-between written (members_by staged_score old) (members_by current_score old) (members_by staged_score new) (put_one c.args.flags (members_by current_score old) c.args.member.now c.args.score) c.new-draft.result.edits c.stage_increase.new.self.edits same left c.new-draft.ensures.coming c.new-draft.ensures.leaving c.in-Ok.ensures.edits);
-      few_edits = IsFew-noted written (members_by staged_score old) (members_by staged_score new) c.new-draft.result.edits c.stage_increase.new.self.edits c.new-draft.ensures.coming c.new-draft.ensures.leaving (omega (arith, counted_one true (outcome_of c.args.flags (map.get (members_by staged_score old) c.args.member.now) z))) c.in-Ok.ensures.edits;
+      edits_are = Turns-between written (members_by staged_score old) (members_by current_score old) (members_by staged_score new) (members_by staged_score new) c.new-draft.result.edits c.stage_increase.new.self.edits same refl c.new-draft.ensures.coming c.new-draft.ensures.leaving c.in-Ok.ensures.edits;
+      removed_are = subst (IsWithin (length new)) (sym c.new.ensures.empty) tt;
+      few_rows = NeedsAtMost-noted written most_edits (members_by staged_score old) (members_by staged_score new) c.new-draft.result.edits _ c.new-draft.ensures.coming c.new-draft.ensures.leaving c.new.ensures.empty
+          (omega (arith, counted_one true (outcome_of c.args.flags (map.get (members_by staged_score old) c.args.member.now) z))) c.in-Ok.ensures.edits;
       outline_is = outline_same c.outline_staged-outline.result (before new c.stage_increase.new.self.kept) (members_by current_score old) (members_by staged_score new) (put_one c.args.flags (members_by current_score old) c.args.member.now c.args.score)
           (before_grown old new c.stage_increase.new.self.kept (c.stage_increase.ensures.kept ∙ c.new-draft.ensures.kept ∙ c.len.ensures.len) c.stage_increase.ensures.grows) left c.outline_staged-outline.ensures;
       reply_is = c.in-Ok.ensures.reply ∙ ap (λ (m : Members). increase_reply (outcome_of c.args.flags (map.get m c.args.member.now) z) z) same
           ∙ ap (λ s. increase_reply (outcome_of c.args.flags (map.get (members_by current_score old) c.args.member.now) s) s) (to_z-of_z c.ranges.score);
     }
 
-pub returns-in-Ok-clause-edits : goal.returns-in-Ok-clause-edits
-returns-in-Ok-clause-edits g c =
+pub returns-in-Ok-clause-rows : goal.returns-in-Ok-clause-rows
+returns-in-Ok-clause-rows g c =
     let old = c.args.members.now.entries in
     let new = c.stage_increase.new.members.entries in
     let z : ℤ = to_z w64 (of_z w64 c.args.score) in
     let written = counted true (outcome_of c.args.flags (map.get (members_by staged_score old) c.args.member.now) z) in
-    let most = HasAtMost-noted written (members_by staged_score old) (members_by staged_score new) c.new-draft.result.edits c.stage_increase.new.self.edits c.new-draft.ensures.coming c.new-draft.ensures.leaving c.in-Ok.ensures.edits in
     let same : written ≡ counted true (outcome_of c.args.flags (map.get (members_by current_score old) c.args.member.now) c.args.score) =
     ap (λ (m : Members). counted true (outcome_of c.args.flags (map.get m c.args.member.now) z)) (members_same old c.requires)
     ∙ ap (λ s. counted true (outcome_of c.args.flags (map.get (members_by current_score old) c.args.member.now) s)) (to_z-of_z c.ranges.score) in
-    subst (λ (n : ℕ). HasAtMost n c.stage_increase.new.self.edits) same most
+    NeedsAtMost-noted written _ (members_by staged_score old) (members_by staged_score new) c.new-draft.result.edits _ c.new-draft.ensures.coming c.new-draft.ensures.leaving c.new.ensures.empty
+    (omega (arith, same)) c.in-Ok.ensures.edits

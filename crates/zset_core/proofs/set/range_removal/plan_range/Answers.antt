@@ -1,11 +1,13 @@
-use Rattle.std.proofs.Common.{◌≡◌, ◌∙◌, sym, ap, subst, List, ℕ, pos, length}
+use Rattle.std.proofs.Common.{◌≡◌, ◌∙◌, sym, ap, arith, subst, List, ℕ, pos, length}
 use Rattle.std.specs.Prelude.{slice_range}
 use Rattle.score_bounds.specs.Bounds.{is_in}
 use Rattle.resp_wire.specs.Response.{Integer}
+use Rattle.zset_core.specs.RowEdits.{Turns, most_edits}
 use Rattle.zset_core.specs.Semantics.{remove_all, without_range}
-use Rattle.zset_core.specs.MembersWithStagedScores.{current_score, staged_score, members_by, bytes_of, IsWaiting}
+use Rattle.zset_core.specs.SortedSet.{Members}
+use Rattle.zset_core.specs.MembersWithStagedScores.{current_score, staged_score, members_by, names_at, IsWaiting, IsWithin}
 use Rattle.zset_core.proofs.Staging.{members_same, Grows-self, IsWaiting-none}
-use Rattle.zset_core.proofs.Bags.{HasAtMost-none, Turns-none, Turns-to, IsFew-none}
+use Rattle.zset_core.proofs.Bags.{NeedsAtMost-removed, Turns-none}
 use Rattle.zset_core.proofs.RangeRows.{Holds-same, SameBag-range, length_listing}
 use Rattle.zset_core.proofs.RangeRemoval.{range_outline}
 use Rattle.zset_core.proofs.set.range_removal.plan_range.Goals as goal
@@ -22,20 +24,21 @@ returns-clause-ok g c =
     let bag = SameBag-range column m range places (Holds-same c.args.column.now column m selected.content c.requires.content) selected.rows in
     let counted : length c.rows-count.result.now ≡ length rows = ap length c.rows-count.ensures in
     let edits = c.new.result.edits in
-    let is = ap (λ gone. remove_all (members_by staged_score es) (bytes_of gone)) c.new-2.ensures.items ∙ members_same es c.requires.settled in
+    let is = ap (λ (gone : List ℕ). remove_all (members_by staged_score es) (names_at es gone)) c.new-2.ensures.empty ∙ members_same es c.requires.settled in
     record {
       kept = c.new.ensures.kept ∙ c.len.ensures.len;
       grows = Grows-self es;
       waiting = subst (λ (ps : List ℕ). IsWaiting ps es) (sym c.new.ensures.touched) (IsWaiting-none es c.requires.settled);
       members_are = ap (without_range range) is;
       reply_is = c.count_reply.ensures ∙ ap Integer (ap pos (counted ∙ sym (length_listing (is_in range) m rows bag)));
-      edits_are = Turns-to m m (remove_all (members_by staged_score es) (bytes_of c.new-2.result.items)) edits is (Turns-none m edits c.new.ensures.coming c.new.ensures.leaving);
-      few_edits = IsFew-none edits c.new.ensures.coming c.new.ensures.leaving;
+      edits_are = subst (λ (n : Members). Turns m n edits.coming.items edits.leaving.items) (sym (members_same es c.requires.settled)) (Turns-none m edits c.new.ensures.coming c.new.ensures.leaving);
+      removed_are = subst (IsWithin (length es)) (sym c.new-2.ensures.empty) tt;
+      few_rows = NeedsAtMost-removed most_edits _ c.new.ensures.coming c.new.ensures.leaving (omega (arith, ap length c.new-2.ensures.empty));
       outline_is = range_outline range m rows (length c.rows-count.result.now) bag counted;
     }
 
 pub returns-clause-alone : goal.returns-clause-alone
-returns-clause-alone g c = HasAtMost-none c.new.result.edits c.new.ensures.coming c.new.ensures.leaving
+returns-clause-alone g c = NeedsAtMost-removed 0 _ c.new.ensures.coming c.new.ensures.leaving (omega (arith, ap length c.new-2.ensures.empty))
 
 pub returns-clause-answer : goal.returns-clause-answer
 returns-clause-answer g c = ((c.in_ok-from.from, c.in_ok-from.to), c.in_ok-from.ensures.answer)

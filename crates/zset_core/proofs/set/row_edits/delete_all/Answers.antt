@@ -16,4 +16,5 @@ loop-row-preserved g c =
       pivots = c.delete.ensures.pivots ∙ v.pivots;
       there = λ p. omega (arith, v.there p, out p, c.delete.ensures.content p);
       room = omega (arith, ap length c.in-Some.ensures.items, length-append rest (row ∷ []));
+      spare = omega (arith, v.spare, ap length c.in-Some.ensures.items, length-append rest (row ∷ []), c.delete.ensures.spare);
     }

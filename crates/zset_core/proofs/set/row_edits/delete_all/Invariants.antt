@@ -10,6 +10,7 @@ invariant-loop-row g l = record {
   pivots : l.column.pivots ≡ l.initial.column.pivots;
   there : (p : Test) → count_by p l.rows.items ≤ content_count p l.column;
   room : length l.rows.items ≤ l.column.delete_spare;
+  spare : l.initial.column.delete_spare + length l.rows.items ≤ l.column.delete_spare + length l.initial.rows.items;
 }
 
 abbrev pub decreases-loop-row : goal.decreases-loop-row

@@ -1,0 +1,148 @@
+//! The removal of members that a ZREM names: planned by their places, and made once it is committed. No
+//! member is copied on the way: its name goes from the entries into the row that leaves the column.
+ghost use Rattle.std.specs.Prelude.{◌≡◌, ◌+◌, ◌-◌, ◌<◌, ◌≤◌, ℕ, pos, length, IfOk, OnOk, None};
+ghost use Rattle.std.specs.FinMap as map;
+ghost use Rattle.resp_wire.specs.Response.{Integer};
+ghost use Rattle.ripple_column.specs.Content.{Holds};
+ghost use Rattle.zset_core.specs.Semantics.{remove_all};
+ghost use Rattle.zset_core.specs.MembersWithStagedScores.{current_score, members_by, name_at, names_at, IsSettled, IsWithin};
+ghost use Rattle.zset_core.specs.FoundPlaces.{AreFound};
+ghost use Rattle.zset_core.specs.Plan.{NeedsAtMost, Prepares};
+ghost use Rattle.zset_core.specs.RowEdits.{most_edits};
+ghost use Rattle.zset_core.specs.SortedSet.{pairs};
+
+use crate::score_and_count_replies::count_reply;
+use crate::set::change_outline::Outline;
+use crate::set::draft::Draft;
+use crate::set::members_with_staged_scores::{MemberMap, find_slot};
+use crate::set::plan::Plan;
+use crack_kernel::Row;
+use resp_wire::Bytes;
+use ripple_column::Column;
+use std::alloc::{AllocError, Allocator};
+use std::collections::BTreeSet;
+use std::hash::BuildHasher;
+
+/// One name: if it is a member, its place is among those found.
+fn find_one<H: BuildHasher, A: Allocator + Copy>(
+    members: &MemberMap<H, A>,
+    places: &mut BTreeSet<usize, A>,
+    name: &[u8],
+) -> Result<(), AllocError>
+    requires { AreFound members.now.entries places.old }
+    ensures found { OnOk result (AreFound members.now.entries places.new) }
+    ensures gone { OnOk result (remove_all (members_by current_score members.now.entries)
+        (names_at members.now.entries places.new.keys)
+        ≡ map.remove (remove_all (members_by current_score members.now.entries)
+        (names_at members.now.entries places.old.keys)) name.now) }
+    ensures few { OnOk result (length places.new.keys ≤ length places.old.keys + 1) }
+{
+    if let Some((place, _)) = find_slot(members, name) {
+        places.insert(place)?;
+    }
+    Ok(())
+}
+
+/// The places of the members among some names.
+fn find_places<H: BuildHasher, A: Allocator + Copy>(
+    alloc: A,
+    members: &MemberMap<H, A>,
+    names: &[Bytes<A>],
+) -> Result<BTreeSet<usize, A>, AllocError>
+    ensures gone { IfOk result (λ places. remove_all (members_by current_score members.now.entries)
+        (names_at members.now.entries places.keys)
+        ≡ remove_all (members_by current_score members.now.entries) names.now) }
+    ensures count { IfOk result (λ places. length places.keys
+        + map.len (remove_all (members_by current_score members.now.entries) names.now)
+        ≡ map.len (members_by current_score members.now.entries)) }
+    ensures within { IfOk result (λ places. IsWithin (length members.now.entries) places.keys) }
+    ensures few { IfOk result (λ places. length places.keys ≤ length names.now) }
+{
+    let mut places = BTreeSet::new(alloc);
+    for name in names {
+        find_one(members, &mut places, name.as_slice())?;
+    }
+    Ok(places)
+}
+
+/// The plan of a ZREM.
+pub fn plan_remove<H: BuildHasher, A: Allocator + Copy>(
+    alloc: A,
+    members: &MemberMap<H, A>,
+    names: &[Bytes<A>],
+) -> Result<Plan<A>, AllocError>
+    requires settled { IsSettled members.now.entries }
+    requires few { length names.now ≤ most_edits }
+    ensures ok { IfOk result (λ plan. Prepares members.now.entries members.now.entries plan
+        (remove_all (members_by current_score members.now.entries) names.now)
+        (Integer (pos (map.len (members_by current_score members.now.entries)
+        - map.len (remove_all (members_by current_score members.now.entries) names.now))))) }
+    ensures rows { IfOk result (λ plan. NeedsAtMost (map.len (members_by current_score members.now.entries)
+        - map.len (remove_all (members_by current_score members.now.entries) names.now)) plan) }
+    ensures named { IfOk result (λ plan. plan.range ≡ None) }
+{
+    let removed = find_places(alloc, members, names)?;
+    let count = removed.len();
+    Ok(Plan {
+        draft: Draft::new(alloc, members.len()),
+        removed,
+        range: None,
+        reply: count_reply(count),
+        outline: Outline {
+            added: 0,
+            removed: count,
+            changed: count > 0,
+        },
+    })
+}
+
+/// The member at a place leaves the entries, and its row the column. The entries before that place
+/// stay where they are. It takes no memory.
+fn remove_member<H: BuildHasher, A: Allocator + Copy>(
+    members: &mut MemberMap<H, A>,
+    column: &mut Column<A>,
+    place: usize,
+)
+    requires settled { IsSettled members.old.entries }
+    requires within { place < length members.old.entries }
+    requires content { Holds column.old (pairs (members_by current_score members.old.entries)) }
+    requires room { 0 < column.old.delete_spare }
+    ensures members { members_by current_score members.new.entries
+        ≡ map.remove (members_by current_score members.old.entries) (name_at members.old.entries place) }
+    ensures settled { IsSettled members.new.entries }
+    ensures before { (p : ℕ) → p < place → name_at members.new.entries p ≡ name_at members.old.entries p }
+    ensures len { length members.new.entries + 1 ≡ length members.old.entries }
+    ensures content { Holds column.new (pairs (members_by current_score members.new.entries)) }
+    ensures rows { column.new.rows ≡ column.old.rows }
+    ensures pivots { column.new.pivots ≡ column.old.pivots }
+    ensures spare { column.old.delete_spare ≤ column.new.delete_spare + 1 }
+{
+    let _count = members.len();
+    match members.swap_remove_index(place) {
+        None => unreachable!(),
+        Some((name, slot)) => column.delete(Row::new(slot.current, name)),
+    }
+}
+
+/// The members at places leave the entries, and their rows the column. It takes no memory.
+pub fn remove_members<H: BuildHasher, A: Allocator + Copy>(
+    members: &mut MemberMap<H, A>,
+    column: &mut Column<A>,
+    mut places: BTreeSet<usize, A>,
+)
+    requires settled { IsSettled members.old.entries }
+    requires within { IsWithin (length members.old.entries) places.keys }
+    requires content { Holds column.old (pairs (members_by current_score members.old.entries)) }
+    requires room { length places.keys ≤ column.old.delete_spare }
+    ensures members { members_by current_score members.new.entries
+        ≡ remove_all (members_by current_score members.old.entries) (names_at members.old.entries places.keys) }
+    ensures settled { IsSettled members.new.entries }
+    ensures content { Holds column.new (pairs (members_by current_score members.new.entries)) }
+    ensures rows { column.new.rows ≡ column.old.rows }
+    ensures pivots { column.new.pivots ≡ column.old.pivots }
+{
+    // Each place is behind those that are left, so what moves into it stands at none of them.
+    while let Some(place) = places.pop_last() {
+        remove_member(members, column, place);
+    }
+}
