@@ -9,4 +9,6 @@ mod merges;
 #[cfg(test)]
 mod removals;
 #[cfg(test)]
+mod want_of_memory;
+#[cfg(test)]
 mod windows;

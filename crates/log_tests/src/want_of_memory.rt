@@ -60,8 +60,14 @@ fn reload_refused<A: Allocator + Copy>(
     })
 }
 
+/// Whether all records were replayed.
+fn is_made(after: &AfterReload) -> bool {
+    after.found == loaded(3, 98, 0) && after.members == 1
+}
+
 /// Each allocation of a reload is refused, one in each run, until a run has no more. Each run leaves the sets
-/// that the first so many records replay to: of k these have 0, 1, 2 and 1 members.
+/// that the first so many records replay to: of k these have 0, 1, 2 and 1 members. The last record is a removal, which
+/// takes what is kept back where it finds no memory.
 #[test]
 fn a_reload_meets_each_refused_allocation(rt: HostRuntime) -> Result<(), Fail> {
     let alloc = rt.alloc();
@@ -70,12 +76,14 @@ fn a_reload_meets_each_refused_allocation(rt: HostRuntime) -> Result<(), Fail> {
         let fuse = Fuse::new(alloc, allocation);
         let after = reload_refused(&fuse, &fuse, hasher)?;
         if after.is_whole {
-            assert!(rt; after.found == loaded(3, 98, 0) && after.members == 1);
-            assert!(rt; allocation > 20);
+            assert!(rt; is_made(&after) && allocation > 20);
             return Ok(());
         }
-        assert!(rt; after.found == Err(ReloadFault::NoMemory), "{allocation}");
-        assert!(rt; (0..3).contains(&after.members), "{allocation}");
+        let is_refused = after.found == Err(ReloadFault::NoMemory);
+        assert!(rt;
+            is_refused && (0..3).contains(&after.members) || is_made(&after),
+            "{allocation}"
+        );
     }
     Err("no end")?
 }

@@ -79,7 +79,10 @@ impl<A: Allocator> Rows<A> {
             return Ok(());
         }
         let missing = self.rows.places().saturating_sub(self.fingerprints.len());
-        self.fingerprints.reserve(missing)
+        if self.fingerprints.reserve(missing).is_ok() {
+            return Ok(());
+        }
+        self.fingerprints.reserve_exact(missing)
     }
 
     /// Puts a row behind the last one. It takes no memory.

@@ -232,7 +232,8 @@ fn blank_out<A: Allocator + Copy>(rows: &mut [Row<A>], from: usize, to: usize, a
     }
 }
 
-/// Makes room for `additional` more rows. A short list gets little more than that.
+/// Makes room for `additional` more rows. A short list gets little more than that, and so does a long one where
+/// there is no memory to double it.
 pub fn reserve_rows<A: Allocator>(
     rows: &mut Vec<Row<A>, A>,
     additional: usize,
@@ -242,8 +243,11 @@ pub fn reserve_rows<A: Allocator>(
     ensures ok { OnOk result (vec_len rows.new + additional ≤ vec_capacity rows.new) }
 {
     let len = rows.len();
-    if len >= DOUBLED_FROM || additional <= rows.capacity() - len {
-        return rows.reserve(additional);
+    if len < DOUBLED_FROM && additional > rows.capacity() - len {
+        return rows.reserve_exact(additional.max(len / GROWTH));
     }
-    rows.reserve_exact(additional.max(len / GROWTH))
+    if rows.reserve(additional).is_ok() {
+        return Ok(());
+    }
+    rows.reserve_exact(additional)
 }

@@ -12,6 +12,7 @@ use crate::shares::Shares;
 use once_cell::race::Note;
 use std::alloc::Allocator;
 use std::marker::Model;
+use zset_core::Spare;
 
 /// What one worker knows of the places' names, and was answered at each place. A table's passes are
 /// made when it is opened.
@@ -20,6 +21,8 @@ pub struct Pass<A: Allocator> {
     pub(crate) number: usize,
     pub(crate) knowledge: Knowledge,
     pub(crate) shares: Vec<Shares, A>,
+    /// What the worker keeps back for removals.
+    pub(crate) spare: Spare<A>,
 }
 
 impl<A: Allocator> Model for Pass<A> {

@@ -185,7 +185,7 @@ impl<H: BuildHasher, S: LogSink, L: Ledger, A: Allocator + Copy> Table<H, S, L, 
         ensures refused { IfErr result IsSetRefusal }
     {
         if command.writes() {
-            return self.run_at(rt, pass, place, command, gate);
+            return self.change_at(rt, pass, place, command, gate);
         }
         if let Some(answer) = self.read_few_at(rt, pass, place, command, gate) {
             return answer;
@@ -198,6 +198,36 @@ impl<H: BuildHasher, S: LogSink, L: Ledger, A: Allocator + Copy> Table<H, S, L, 
             },
             ran => ran,
         }
+    }
+
+    /// Runs a command that changes sets. An addition keeps memory back, which a removal that finds none lets go and is
+    /// tried again.
+    fn change_at<'c, R: Wait, G: Gate>(
+        &self,
+        rt: &R,
+        pass: &mut Pass<A>,
+        place: usize,
+        command: &'c Command<A>,
+        gate: &G,
+    ) -> Result<Answer<'c, A>, Refusal>
+        requires own { IsPassOf self.now pass.old }
+        requires within { place < length self.now.opened }
+        requires keyed { IsSome (key_of command.now.meaning) }
+        ensures own { IsPassOf self.now pass.new }
+        ensures rest { (pass.new.number ≡ pass.old.number) × (pass.new.notes ≡ pass.old.notes) }
+        ensures ok { IfOk result (λ answer. WasAnswered self.now.opened pass.old.shares
+            pass.new.shares place command.now answer) }
+        ensures err { OnErr result (pass.new ≡ pass.old) }
+        ensures refused { IfErr result IsSetRefusal }
+    {
+        if command.creates() && !pass.spare.keep() {
+            return Err(Refusal::NoMemory);
+        }
+        let ran = self.run_at(rt, pass, place, command, gate);
+        if matches!(ran, Err(Refusal::NoMemory)) && command.removes() && pass.spare.let_go() {
+            return self.run_at(rt, pass, place, command, gate);
+        }
+        ran
     }
 
     /// Asks a place's cell under its shared lock, unless it had better be run.

@@ -41,7 +41,7 @@ fn bytes_of<A: Allocator + Copy>(alloc: A, reply: &Reply<A>) -> Result<Vec<u8, A
 }
 
 /// The bytes of the reply to a command that is not refused.
-fn reply<A: Allocator + Copy>(
+pub fn reply<A: Allocator + Copy>(
     alloc: A,
     owner: &mut Owner<A>,
     words: &str,
@@ -97,8 +97,10 @@ fn with_memory(rt: &HostRuntime, setup: &[&str], words: &str) -> Result<Ample, F
 enum Outcome {
     /// There were fewer allocations.
     Whole,
-    /// It was refused, the set stayed, and asked again it gave its reply; or its reply came all the same.
-    Kept,
+    /// It was refused, the set stayed, and asked again it gave its reply.
+    Refused,
+    /// Its reply came all the same.
+    Made,
     Wrong,
 }
 
@@ -125,14 +127,14 @@ fn refuse(
             Ok(if is_whole {
                 Outcome::Whole
             } else {
-                Outcome::Kept
+                Outcome::Made
             })
         }
         Err(Refusal::NoMemory) if !is_whole => {
             let stayed = reply(heap, &mut owner, LISTING)?.as_slice() == ample.before.as_slice();
             let again = reply(heap, &mut owner, words)?.as_slice() == ample.reply.as_slice();
             Ok(if stayed && again {
-                Outcome::Kept
+                Outcome::Refused
             } else {
                 Outcome::Wrong
             })
@@ -141,13 +143,16 @@ fn refuse(
     }
 }
 
-/// How many allocations of the command were refused, one in each run, until a run had no more.
-fn refused(rt: &HostRuntime, setup: &[&str], words: &str) -> Result<u64, Fail> {
+/// How many allocations of the command were refused, one in each run, until a run had no more, and whether the
+/// command was refused for want of one.
+fn refused(rt: &HostRuntime, setup: &[&str], words: &str) -> Result<(u64, bool), Fail> {
     let ample = with_memory(rt, setup, words)?;
+    let mut was_refused = false;
     for allocation in 1..1000u64 {
         match refuse(rt, setup, words, &ample, allocation)? {
-            Outcome::Whole => return Ok(allocation - 1),
-            Outcome::Kept => {}
+            Outcome::Whole => return Ok((allocation - 1, was_refused)),
+            Outcome::Refused => was_refused = true,
+            Outcome::Made => {}
             Outcome::Wrong => return Err("neither refused nor answered as with memory")?,
         }
     }
@@ -162,6 +167,47 @@ const SETUP: [&str; 5] = [
     "ZREM k d",
     "ZADD j 1 x",
 ];
+
+/// Commands behind those that set up their sets, of the worked examples.
+const EXAMPLES: [(&[&str], &str); 12] = [
+    (&["ZADD k 1 b 1 a 1 B"], LISTING),
+    (&[], "ZADD k CH 1 a 2 a"),
+    (
+        &["ZADD k 9223372036854775807 a"],
+        "ZCOUNT k (9223372036854775806 +inf",
+    ),
+    (&["ZADD k 5 a"], "ZCOUNT k -inf inf"),
+    (&["ZADD k 1 a"], "ZADD k INCR 1.0 a"),
+    (&["ZADD k 2 a"], "ZADD k XX CH 7 a 8 b"),
+    (
+        &[
+            "ZADD k 1 m1 2 m2 3 m3 4 m4 5 m5 6 m6 7 m7 8 m8 9 m9 10 m10",
+            "ZCOUNT k 3 6",
+            "ZADD k 1 x 5 y 9 z",
+            "ZREM k y",
+        ],
+        "ZRANGEBYSCORE k 0 10",
+    ),
+    (
+        &["ZADD k 1 a 5 b 9 c", "ZCOUNT k 4 6", "ZADD k CH 8 a"],
+        "ZCOUNT k -inf (4",
+    ),
+    (&["ZADD k 1 a", "ZCOUNT k 0 2", "ZREM k a"], "ZADD k 1 b"),
+    (
+        &["ZADD k 1 a 2 b 3 c 4 d"],
+        "ZRANGEBYSCORE k -inf +inf LIMIT 1 2",
+    ),
+    (&["ZADD k 1 a 2 b"], "ZREM k a a x"),
+    (&["ZADD k 1 a 2 b 3 c"], "ZREMRANGEBYSCORE k (1 2"),
+];
+
+#[test]
+fn each_example_is_refused_or_answered(rt: HostRuntime) -> Result<(), Fail> {
+    for (setup, words) in EXAMPLES {
+        refused(&rt, setup, words)?;
+    }
+    Ok(())
+}
 
 #[test]
 fn each_command_is_refused_or_answered(rt: HostRuntime) -> Result<(), Fail> {
@@ -180,8 +226,18 @@ fn each_command_is_refused_or_answered(rt: HostRuntime) -> Result<(), Fail> {
         "ZRANGEBYSCORE k 0 +inf LIMIT 1 3",
     ];
     for words in commands {
-        assert!(rt; refused(&rt, &SETUP, words)? >= 1, "{words}");
+        assert!(rt; refused(&rt, &SETUP, words)?.0 >= 1, "{words}");
     }
-    assert_eq!(rt; refused(&rt, &SETUP, "ZCARD k")?, 0);
+    assert_eq!(rt; refused(&rt, &SETUP, "ZCARD k")?, (0, false));
+    Ok(())
+}
+
+// A removal takes what was kept back.
+#[test]
+fn a_removal_is_made_whichever_allocation_is_refused(rt: HostRuntime) -> Result<(), Fail> {
+    for words in ["ZREM k a b nobody", "ZREMRANGEBYSCORE k (6 8"] {
+        let (allocations, was_refused) = refused(&rt, &SETUP, words)?;
+        assert!(rt; allocations >= 1 && !was_refused, "{words}");
+    }
     Ok(())
 }

@@ -104,6 +104,11 @@ impl<A: Allocator> Command<A> {
         }
     }
 
+    /// Whether the command only takes members out: ZREM and ZREMRANGEBYSCORE.
+    pub fn removes(&self) -> bool {
+        matches!(self.form, Form::Remove | Form::RemoveRange { .. })
+    }
+
     /// Whether the command makes a set where its key has none: ZADD without XX.
     pub fn creates(&self) -> bool
         ensures { result ≡ is_creating self.now.meaning }

@@ -2,7 +2,7 @@
 //!
 //! Four folders: `command` reads a request as a command, `set` is one sorted set and how a command
 //! changes it, `query` answers the commands that change nothing, and `owner` keeps sets by key. Beside
-//! them stand replies, refusals, and laws of the definitions.
+//! them stand replies, refusals, the memory that is kept back for removals, and laws of the definitions.
 #![tactic(auto)]
 
 mod command;
@@ -12,6 +12,7 @@ mod query;
 mod refusal;
 mod score_and_count_replies;
 mod set;
+mod spare;
 
 pub use command::Command;
 pub use command::limit::Limit;
@@ -20,3 +21,4 @@ pub use refusal::Refusal;
 pub use set::ZSet;
 pub use set::change_outline::Outline;
 pub use set::pair_outcome::{Flags, Outcome};
+pub use spare::{KEPT_BACK, Spare};

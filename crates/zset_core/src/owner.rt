@@ -29,6 +29,7 @@ use crate::query::ping::pong;
 use crate::refusal::Refusal;
 use crate::set::ZSet;
 use crate::set::change_outline::Outline;
+use crate::spare::Spare;
 use crack_kernel::Row;
 use resp_wire::Reply;
 use std::alloc::{AllocError, Allocator};
@@ -47,6 +48,7 @@ pub struct OneOwner<H: BuildHasher, A: Allocator + Copy> {
     hasher: H,
     sets: SetTree<H, A>,
     asked: Option<Snapshot<Command<A>>>,
+    spare: Spare<A>,
 }
 
 impl<H: BuildHasher, A: Allocator + Copy> Model for OneOwner<H, A> {
@@ -78,13 +80,14 @@ impl<H: BuildHasher, A: Allocator + Copy> OneOwner<H, A> {
             hasher,
             sets: BTreeMap::new(alloc),
             asked: None,
+            spare: Spare::new(alloc),
         }
     }
 }
 
 impl<H: BuildHasher + Clone + Drop, A: Allocator + Copy> OneOwner<H, A> {
     /// Runs a command. Refused when out of memory, or where a sum of INCR is no score; all sets are
-    /// then as they were.
+    /// then as they were. An addition keeps memory back, which a removal that finds none may use.
     pub fn run(&mut self, command: &Command<A>) -> Result<Reply<A>, Refusal>
         requires { self.old.next ≡ None }
         ensures ok { IfOk result (λ reply. act self.old.world command.now.meaning
@@ -96,7 +99,17 @@ impl<H: BuildHasher + Clone + Drop, A: Allocator + Copy> OneOwner<H, A> {
     {
         match command.key() {
             None => Ok(pong(self.alloc, command)?),
-            Some(key) => run_at(self.alloc, &self.hasher, &mut self.sets, key, command),
+            Some(key) => {
+                let sets = &mut self.sets;
+                run_at(
+                    self.alloc,
+                    &self.hasher,
+                    sets,
+                    &mut self.spare,
+                    key,
+                    command,
+                )
+            }
         }
     }
 
@@ -120,11 +133,21 @@ impl<H: BuildHasher + Clone + Drop, A: Allocator + Copy> OneOwner<H, A> {
         match command.key() {
             None => unreachable!(),
             Some(key) => {
-                let outline = prepare_at(self.alloc, &self.hasher, &mut self.sets, key, command)?;
+                let sets = &mut self.sets;
+                let spare = &mut self.spare;
+                let outline = prepare_at(self.alloc, &self.hasher, sets, spare, key, command)?;
                 self.asked = Some(Snapshot::of(command));
                 Ok(outline)
             }
         }
+    }
+
+    /// Lets go the memory that is kept back for removals, if the command is one, and answers whether there was any.
+    /// Nothing that a contract tells of changes.
+    pub fn lets_go(&mut self, command: &Command<A>) -> bool
+        ensures { self.new ≡ self.old }
+    {
+        command.removes() && self.spare.let_go()
     }
 
     /// Makes the change that is prepared in the set of the command's key, and gives its reply. It

@@ -7,6 +7,7 @@ use crate::naming::knowledge::Knowledge;
 use crate::pass::Pass;
 use crate::shares::Shares;
 use std::alloc::{AllocError, Global};
+use zset_core::Spare;
 
 /// The passes, each with the same knowledge of the names.
 pub(crate) fn new_passes(
@@ -25,6 +26,7 @@ pub(crate) fn new_passes(
             number,
             knowledge: knowledge.again(alloc)?,
             shares: new_shares(alloc, number, opened)?,
+            spare: Spare::new(alloc),
         })?;
     }
     Ok(passes)

@@ -14,6 +14,7 @@ use crate::owner::set_tree::{SetTree, insert_set};
 use crate::refusal::Refusal;
 use crate::set::ZSet;
 use crate::set::change_outline::Outline;
+use crate::spare::Spare;
 use resp_wire::Reply;
 use std::alloc::Allocator;
 use std::hash::BuildHasher;
@@ -47,8 +48,8 @@ fn prepare_absent<H: BuildHasher + Clone + Drop, A: Allocator + Copy>(
     Ok(outline)
 }
 
-/// Prepares a command in the set of its key.
-pub fn prepare_at<H: BuildHasher + Clone + Drop, A: Allocator + Copy>(
+/// Prepares a command in the set of its key once.
+fn prepare_once_at<H: BuildHasher + Clone + Drop, A: Allocator + Copy>(
     alloc: A,
     hasher: &H,
     sets: &mut SetTree<H, A>,
@@ -73,6 +74,40 @@ pub fn prepare_at<H: BuildHasher + Clone + Drop, A: Allocator + Copy>(
         None => prepare_absent(alloc, hasher, sets, key, command),
         Some(set) => set.prepare(command),
     }
+}
+
+/// Prepares a command in the set of its key. An addition keeps memory back first, which a removal that finds none lets
+/// go and is prepared again.
+pub fn prepare_at<H: BuildHasher + Clone + Drop, A: Allocator + Copy>(
+    alloc: A,
+    hasher: &H,
+    sets: &mut SetTree<H, A>,
+    spare: &mut Spare<A>,
+    key: &[u8],
+    command: &Command<A>,
+) -> Result<Outline, Refusal>
+    requires writing { IsTrue (is_writing command.now.meaning) }
+    requires rest { AllRest sets.old.entries }
+    ensures world { world_of sets.new.entries ≡ world_of sets.old.entries }
+    ensures ready { OnOk result (IsPreparedAt (world_of sets.old.entries) (Some key.now)
+        command.now.meaning (next_at sets.new.entries (Some key.now))) }
+    ensures outline { IfOk result
+        (λ outline. IfSome (next_at sets.new.entries (Some key.now))
+        (λ next. IsOutline outline (set_at (world_of sets.old.entries) next.0) next.1.members)) }
+    ensures others { OthersRest key.now sets.new.entries }
+    ensures refused { IfErr result
+        (λ refusal. IsRefused refusal
+        (act_at (world_of sets.old.entries) (Some key.now) command.now.meaning)) }
+    ensures err { OnErr result (AllRest sets.new.entries) }
+{
+    if command.creates() && !spare.keep() {
+        return Err(Refusal::NoMemory);
+    }
+    let outline = prepare_once_at(alloc, hasher, sets, key, command);
+    if matches!(outline, Err(Refusal::NoMemory)) && command.removes() && spare.let_go() {
+        return prepare_once_at(alloc, hasher, sets, key, command);
+    }
+    outline
 }
 
 /// Commits what is prepared in the set at a key.

@@ -10,6 +10,7 @@ use crate::command::Command;
 use crate::owner::set_tree::{SetTree, insert_set};
 use crate::refusal::Refusal;
 use crate::set::ZSet;
+use crate::spare::Spare;
 use resp_wire::Reply;
 use std::alloc::Allocator;
 use std::hash::BuildHasher;
@@ -64,8 +65,8 @@ fn run_absent<H: BuildHasher + Clone + Drop, A: Allocator + Copy>(
     Ok(reply)
 }
 
-/// Runs a command on the set of its key.
-pub fn run_at<H: BuildHasher + Clone + Drop, A: Allocator + Copy>(
+/// Runs a command on the set of its key once.
+fn run_once_at<H: BuildHasher + Clone + Drop, A: Allocator + Copy>(
     alloc: A,
     hasher: &H,
     sets: &mut SetTree<H, A>,
@@ -92,4 +93,34 @@ pub fn run_at<H: BuildHasher + Clone + Drop, A: Allocator + Copy>(
             ran
         }
     }
+}
+
+/// Runs a command on the set of its key. An addition keeps memory back first, which a removal that finds none lets go
+/// and is run again.
+pub fn run_at<H: BuildHasher + Clone + Drop, A: Allocator + Copy>(
+    alloc: A,
+    hasher: &H,
+    sets: &mut SetTree<H, A>,
+    spare: &mut Spare<A>,
+    key: &[u8],
+    command: &Command<A>,
+) -> Result<Reply<A>, Refusal>
+    requires keyed { key_of command.now.meaning ≡ Some key.now }
+    requires rest { AllRest sets.old.entries }
+    ensures ok { IfOk result (λ reply. act_at (world_of sets.old.entries) (Some key.now)
+        command.now.meaning ≡ Some (world_of sets.new.entries, response_of reply)) }
+    ensures err { OnErr result (world_of sets.new.entries ≡ world_of sets.old.entries) }
+    ensures refused { IfErr result
+        (λ refusal. IsRefused refusal
+        (act_at (world_of sets.old.entries) (Some key.now) command.now.meaning)) }
+    ensures rest { AllRest sets.new.entries }
+{
+    if command.creates() && !spare.keep() {
+        return Err(Refusal::NoMemory);
+    }
+    let ran = run_once_at(alloc, hasher, sets, key, command);
+    if matches!(ran, Err(Refusal::NoMemory)) && command.removes() && spare.let_go() {
+        return run_once_at(alloc, hasher, sets, key, command);
+    }
+    ran
 }

@@ -2,7 +2,7 @@ use Rattle.std.proofs.Common.{◌≡◌, sym, subst, Some, None, IsSome, refl}
 use Rattle.zset_core.specs.OwnerViewAndInvariant.{world_of, next_at, AllRest, IsResting}
 use Rattle.zset_core.specs.SetAndOwnerViews.{IsPreparedFor, IsPreparedAt}
 use Rattle.zset_core.proofs.Worlds.{updates_key, refused_at, rest_at, world_kept, set_after, set_at_entry, ready_at, outline_at, others_changed, others_of, rest_kept, on_ok, on_err, if_ok_map, if_err_map}
-use Rattle.zset_core.proofs.owner.prepare_and_commit.prepare_at.Goals as goal
+use Rattle.zset_core.proofs.owner.prepare_and_commit.prepare_once_at.Goals as goal
 
 pub prepare-requires-clause-idle : goal.prepare-requires-clause-idle
 prepare-requires-clause-idle g c = (rest_at c.args.sets.now.entries c.args.key.now c.in-Some.set.now c.in-Some.ensures.value c.requires.rest).idle

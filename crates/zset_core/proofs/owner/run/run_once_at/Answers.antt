@@ -1,7 +1,7 @@
 use Rattle.std.proofs.Common.{◌≡◌, ◌∙◌, sym, subst, Some, None, IsSome, refl}
 use Rattle.zset_core.specs.OwnerViewAndInvariant.{world_of}
 use Rattle.zset_core.proofs.Worlds.{updates_key, others_of, world_put, world_kept, world_emptied, rest_emptied, rest_changed, set_at_entry, on_err, if_ok_map, if_err_map, act_of_step, refused_at, rest_at}
-use Rattle.zset_core.proofs.owner.run.run_at.Goals as goal
+use Rattle.zset_core.proofs.owner.run.run_once_at.Goals as goal
 
 pub run-ran-requires-clause-idle : goal.run-ran-requires-clause-idle
 run-ran-requires-clause-idle g c = (rest_at c.args.sets.now.entries c.args.key.now c.in-Some.set.now c.in-Some.ensures.value c.requires.rest).idle

@@ -4,8 +4,8 @@ use Rattle.zset_core.specs.World.{set_at}
 use Rattle.resp_wire.specs.Response.{response_of}
 use Rattle.append_log.proofs.SameWorlds.{act-ready}
 use Rattle.append_log.proofs.LoggedOwnerLemmas.{committed, changes-ready, not_run, Replays-push, Replays-stay}
-use Rattle.append_log.proofs.logged.run_writing.Goals as goal
-use Rattle.append_log.proofs.logged.run_writing.Goals.{then-outline+in_default, else-outline}
+use Rattle.append_log.proofs.logged.run_writing_once.Goals as goal
+use Rattle.append_log.proofs.logged.run_writing_once.Goals.{then-outline+in_default, else-outline}
 
 pub returns-in-Err-clause-err : goal.returns-in-Err-clause-err
 returns-in-Err-clause-err g c =
