@@ -34,6 +34,20 @@ fn answer_of<S: LogSink, L: Ledger, R: Wait>(
 }
 
 // What the cell of place 0 answers to a command with the shares of place 1, and with its own then.
+fn answers_of_both<S: LogSink, L: Ledger, R: Wait>(
+    rt: &R,
+    alloc: Global,
+    cell: &mut OneCell<L>,
+    log: &Mutex<Log<S, L>>,
+) -> Result<(String, String), Fail> {
+    let mut other = Shares::new(1, 0, 0);
+    let mut own = Shares::new(0, 0, 0);
+    let refused = answer_of(rt, alloc, cell, &mut other, log, "ZADD k 1 a")?;
+    let card = answer_of(rt, alloc, cell, &mut own, log, "ZCARD k")?;
+    Ok((refused, card))
+}
+
+// The answers of a cell without members to commands with the shares of another place and with its own.
 fn by_the_wrong_shares<L: Ledger, R: Wait + AllocGlobal>(
     rt: &R,
     blank: Blank,
@@ -49,11 +63,7 @@ fn by_the_wrong_shares<L: Ledger, R: Wait + AllocGlobal>(
     let share = log.split();
     let mut cell = Cell::new(alloc, 0, owner.empty_set()?, 1000, 2, share)?;
     let log = Mutex::new(log);
-    let mut other = Shares::new(1, 0, 0);
-    let mut own = Shares::new(0, 0, 0);
-    let refused = answer_of(rt, alloc, &mut cell, &mut other, &log, "ZADD k 1 a")?;
-    let card = answer_of(rt, alloc, &mut cell, &mut own, &log, "ZCARD k")?;
-    Ok((refused, card))
+    answers_of_both(rt, alloc, &mut cell, &log)
 }
 
 // The shares of another place are refused, and the set stays empty.

@@ -36,6 +36,28 @@ pub fn closed<L: Ledger>(
     }
 }
 
+// Two passes run commands on sets that they share.
+fn run_on_both<L: Ledger, R: Wait>(
+    rt: &R,
+    alloc: Global,
+    table: &Sets<L>,
+    first: &mut Pass<Global>,
+    second: &mut Pass<Global>,
+) -> Result<(), Fail>
+    requires first { IsPassOf table.now first.old }
+    requires second { IsPassOf table.now second.old }
+    ensures first { IsPassOf table.now first.new }
+    ensures second { IsPassOf table.now second.new }
+{
+    answers(rt, alloc, table, first, &FIRST_OF_A_DAY)?;
+    answers(rt, alloc, table, second, &SECOND_OF_A_DAY)?;
+    Ok(())
+}
+
+const FIRST_OF_A_DAY: [&str; 2] = ["ZADD a 1 x 2 z", "ZADD c 1 m 2 n"];
+
+const SECOND_OF_A_DAY: [&str; 3] = ["ZREM b y", "ZADD a 2 z", "ZCARD d"];
+
 // What two passes come to together: two sets at opening, of which one is emptied, and a third.
 fn a_day<L: Ledger, R: Wait + AllocGlobal>(
     rt: &R,
@@ -51,20 +73,7 @@ fn a_day<L: Ledger, R: Wait + AllocGlobal>(
     let (table, first, second) = opened::<L>(alloc, blank, owner, FOUR_PLACES)?;
     let mut first = first;
     let mut second = second;
-    answers(
-        rt,
-        alloc,
-        &table,
-        &mut first,
-        &["ZADD a 1 x 2 z", "ZADD c 1 m 2 n"],
-    )?;
-    answers(
-        rt,
-        alloc,
-        &table,
-        &mut second,
-        &["ZREM b y", "ZADD a 2 z", "ZCARD d"],
-    )?;
+    run_on_both(rt, alloc, &table, &mut first, &mut second)?;
     let (totals, _sink) = closed(alloc, table, first, second)?;
     Ok(totals)
 }
