@@ -13,6 +13,7 @@ works=${*:-"first_update_and_top_ten first_update_and_rank update_and_top_ten up
 two_scores ten_scores hundred_scores 1000_counts_at_new_bounds mix ranges_of_100_at_new_bounds ranges_of_100_again \
 updates updates_after_ranges zscore load rate_limiter removals_of_10 removals_of_1000 removals_of_100000 \
 bytes_in_sets_of_50 bytes_of_13 bytes_of_200"}
+if [ "$members" -lt 100000 ]; then works=${works/removals_of_100000/}; fi
 for round in $(seq "${ROUNDS:-5}"); do
     for work_name in $works; do
         "$work/drive" "$work_name" "$members" "$round" pair "$server" stdio >> "$work/ours"
