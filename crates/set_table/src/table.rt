@@ -220,8 +220,8 @@ impl<H: BuildHasher, S: LogSink, L: Ledger, A: Allocator + Copy> Table<H, S, L, 
         ensures err { OnErr result (pass.new ≡ pass.old) }
         ensures refused { IfErr result IsSetRefusal }
     {
-        if command.creates() && !pass.spare.keep() {
-            return Err(Refusal::NoMemory);
+        if command.creates() {
+            pass.spare.keep()?;
         }
         let ran = self.run_at(rt, pass, place, command, gate);
         if matches!(ran, Err(Refusal::NoMemory)) && command.removes() && pass.spare.let_go() {

@@ -75,5 +75,5 @@ module _ (H A T : RattleType) (b : builder.Ghosts H.Denot T.Denot) (w : hasher.G
       let order = before.ghosts u8 A ByteOrd.ghosts no ByteEq.ghosts no BytePartialEq.ghosts no BytePartialOrd.ghosts no g no no in
       let equal = same.ghosts u8 A BytePartialEq.ghosts same.no_dict g same.no_dict same.no_dict in
       let partial = maybe_before.ghosts u8 A BytePartialOrd.ghosts maybe_before.no_dict BytePartialEq.ghosts maybe_before.no_dict g maybe_before.no_dict maybe_before.no_dict in
-      let all : AllSend (fields O) = (sa, (sh, (tree.the_send _ _ A order equal partial g key (kept_send sh sa f) sa f, (search (note_send (Command.the_row A g), sendable) depth 20, (spare.the_field_send A g sa f, tt))))) in
+      let all : AllSend (fields O) = (sa, (sh, (tree.the_send _ _ A order equal partial g key (kept_send sh sa f) sa f, (search (note_send (Command.the_row A g), sendable) depth 20, (spare.the_send A g sa f, tt))))) in
       view_send _ _ _ _ _ (recorded_send _ O.D O.to O.to_one (struct_send (shape O) all))

@@ -51,6 +51,12 @@ is_creating (Add key flags changed pairs) = not flags.xx
 is_creating (Increase key flags given member) = not flags.xx
 is_creating _ = false
 
+-- whether a command takes members out and adds none: ZREM and ZREMRANGEBYSCORE
+abbrev pub is_removing : Meaning → Bool
+is_removing (Remove key members) = true
+is_removing (RemoveRange key range) = true
+is_removing _ = false
+
 -- the range whose members a command removes, if it removes those of a range
 abbrev pub range_to_remove : Meaning → Option Range
 range_to_remove (Ping text) = None

@@ -5,7 +5,7 @@ ghost use Rattle.std.specs.Option.{option_copied};
 ghost use Rattle.zset_core.specs.CommandGrammar.{asked};
 ghost use Rattle.zset_core.specs.ExpressibleWorld.{IsBoundedMeaning};
 ghost use Rattle.zset_core.specs.ParsedArguments.{meaning_of, IsWhole};
-ghost use Rattle.zset_core.specs.AbstractCommand.{key_of, is_writing, is_creating};
+ghost use Rattle.zset_core.specs.AbstractCommand.{key_of, is_writing, is_creating, is_removing};
 ghost use Rattle.zset_core.specs.declared.refusal.Refusal.TheVariants as refusals;
 
 pub mod add;
@@ -105,7 +105,9 @@ impl<A: Allocator> Command<A> {
     }
 
     /// Whether the command only takes members out: ZREM and ZREMRANGEBYSCORE.
-    pub fn removes(&self) -> bool {
+    pub fn removes(&self) -> bool
+        ensures { result ≡ is_removing self.now.meaning }
+    {
         matches!(self.form, Form::Remove | Form::RemoveRange { .. })
     }
 

@@ -1,33 +1,59 @@
 //! Memory that is kept back for removals.
 
-use std::alloc::Allocator;
+ghost use Rattle.std.specs.Prelude.{◌≡◌, ◌<◌, ◌≤◌, ◌↔◌, IsOk, OnErr, OnOk, IsTrue};
+
+use std::alloc::{AllocError, Allocator};
+use std::marker::Model;
 
 /// How many bytes are kept back: the list of pending deletions can grow to its longest, and as much is there for
 /// places, a record and what the allocator adds.
 pub const KEPT_BACK: usize = 131_072;
 
 /// A block of memory that is kept back while sets grow, and let go where a removal finds none and is tried again. So
-/// clients whose additions are refused can take members out. No contract tells of it.
+/// clients whose additions are refused can take members out. A contract sees how many bytes are kept back.
 #[derive(Drop)]
 pub struct Spare<A: Allocator> {
     block: Vec<u8, A>,
 }
 
+impl<A: Allocator> Model for Spare<A> {
+    ghost use Rattle.std.specs.Prelude.{◌≡◌, ℕ, vec_capacity, vec_len};
+
+    ghost Value = { ℕ };
+
+    ghost view = { λ s. vec_capacity s.block };
+
+    ghost invariant = { λ s. vec_len s.block ≡ 0 };
+}
+
 impl<A: Allocator> Spare<A> {
-    /// No block is kept back yet. It takes no memory.
-    pub fn new(alloc: A) -> Self {
+    /// Nothing is kept back yet. It takes no memory.
+    pub fn new(alloc: A) -> Self
+        ensures { result ≡ 0 }
+    {
         Spare {
             block: Vec::new(alloc),
         }
     }
 
-    /// Keeps a block back, where none is, and answers whether there is one now.
-    pub fn keep(&mut self) -> bool {
-        self.block.reserve_exact(KEPT_BACK).is_ok()
+    /// Keeps [`KEPT_BACK`] bytes back, if they are not kept already.
+    ///
+    /// # Errors
+    ///
+    /// [`AllocError`] where there is no such memory. What is kept back stays.
+    pub fn keep(&mut self) -> Result<(), AllocError>
+        ensures ok { OnOk result (KEPT_BACK ≤ self.new) }
+        ensures err { OnErr result (self.new ≡ self.old) }
+        ensures succeeds { KEPT_BACK ≤ self.old → IsOk result }
+    {
+        self.block.reserve_exact(KEPT_BACK)
     }
 
-    /// Lets the block go, and answers whether there was one.
-    pub fn let_go(&mut self) -> bool {
+    /// Lets go what is kept back, and answers whether there was any.
+    pub fn let_go(&mut self) -> bool
+        ensures told { IsTrue result ↔ (0 < self.old) }
+        ensures gone { self.new ≡ 0 }
+    {
         let was_kept = self.block.capacity() > 0;
         self.block.shrink_to_fit();
         was_kept

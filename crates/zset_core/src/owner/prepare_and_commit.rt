@@ -100,8 +100,8 @@ pub fn prepare_at<H: BuildHasher + Clone + Drop, A: Allocator + Copy>(
         (act_at (world_of sets.old.entries) (Some key.now) command.now.meaning)) }
     ensures err { OnErr result (AllRest sets.new.entries) }
 {
-    if command.creates() && !spare.keep() {
-        return Err(Refusal::NoMemory);
+    if command.creates() {
+        spare.keep()?;
     }
     let outline = prepare_once_at(alloc, hasher, sets, key, command);
     if matches!(outline, Err(Refusal::NoMemory)) && command.removes() && spare.let_go() {

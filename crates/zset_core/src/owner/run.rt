@@ -115,8 +115,8 @@ pub fn run_at<H: BuildHasher + Clone + Drop, A: Allocator + Copy>(
         (act_at (world_of sets.old.entries) (Some key.now) command.now.meaning)) }
     ensures rest { AllRest sets.new.entries }
 {
-    if command.creates() && !spare.keep() {
-        return Err(Refusal::NoMemory);
+    if command.creates() {
+        spare.keep()?;
     }
     let ran = run_once_at(alloc, hasher, sets, key, command);
     if matches!(ran, Err(Refusal::NoMemory)) && command.removes() && spare.let_go() {
