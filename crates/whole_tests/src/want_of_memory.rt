@@ -12,7 +12,7 @@ use zset_core::{Command, OneOwner, Refusal};
 type Owner<A> = OneOwner<RandomState, A>;
 
 /// The request whose words stand between single blanks, in memory of the owner's kind.
-fn request<A: Allocator + Copy>(alloc: A, words: &str) -> Result<Request<A>, Fail> {
+pub fn request<A: Allocator + Copy>(alloc: A, words: &str) -> Result<Request<A>, Fail> {
     let mut list = Vec::new(alloc);
     for word in words.split(' ') {
         list.push(Bytes::new(Vec::from_slice(alloc, word.as_bytes())?))?;
@@ -34,7 +34,7 @@ fn answer<A: Allocator + Copy>(
 }
 
 /// The bytes of a reply.
-fn bytes_of<A: Allocator + Copy>(alloc: A, reply: &Reply<A>) -> Result<Vec<u8, A>, Fail> {
+pub fn bytes_of<A: Allocator + Copy>(alloc: A, reply: &Reply<A>) -> Result<Vec<u8, A>, Fail> {
     let mut bytes = Vec::new(alloc);
     write_reply(reply, &mut bytes)?;
     Ok(bytes)
@@ -70,16 +70,16 @@ fn run_all<A: Allocator + Copy>(
     Ok(())
 }
 
-const LISTING: &str = "ZRANGEBYSCORE k -inf +inf WITHSCORES";
+pub const LISTING: &str = "ZRANGEBYSCORE k -inf +inf WITHSCORES";
 
 /// What ample memory gives: the listing of the set before a command, and the reply to the command.
 #[derive(Drop)]
-struct Ample {
-    before: Vec<u8>,
-    reply: Vec<u8>,
+pub struct Ample {
+    pub before: Vec<u8>,
+    pub reply: Vec<u8>,
 }
 
-fn with_memory(rt: &HostRuntime, setup: &[&str], words: &str) -> Result<Ample, Fail> {
+pub fn with_memory(rt: &HostRuntime, setup: &[&str], words: &str) -> Result<Ample, Fail> {
     let alloc = rt.alloc();
     let hasher = RandomState::new(rt)?;
     let mut listed = OneOwner::new(alloc, hasher);
@@ -94,7 +94,7 @@ fn with_memory(rt: &HostRuntime, setup: &[&str], words: &str) -> Result<Ample, F
 
 /// What came of one refused allocation of a command.
 #[derive(Clone, Copy, PartialEq, Eq)]
-enum Outcome {
+pub enum Outcome {
     /// There were fewer allocations.
     Whole,
     /// It was refused, the set stayed, and asked again it gave its reply.
@@ -102,6 +102,17 @@ enum Outcome {
     /// Its reply came all the same.
     Made,
     Wrong,
+}
+
+impl Outcome {
+    /// That of a reply: it is to be the one with memory.
+    pub fn of_reply(is_whole: bool, reply: &[u8], ample: &Ample) -> Self {
+        match reply == ample.reply.as_slice() {
+            true if is_whole => Outcome::Whole,
+            true => Outcome::Made,
+            false => Outcome::Wrong,
+        }
+    }
 }
 
 /// Refuses one allocation of the command behind those that set up its set.
@@ -123,12 +134,9 @@ fn refuse(
     let is_whole = fuse.is_armed();
     fuse.arm(0);
     match found {
-        Ok(reply) if bytes_of(heap, &reply)?.as_slice() == ample.reply.as_slice() => {
-            Ok(if is_whole {
-                Outcome::Whole
-            } else {
-                Outcome::Made
-            })
+        Ok(reply) => {
+            let bytes = bytes_of(heap, &reply)?;
+            Ok(Outcome::of_reply(is_whole, bytes.as_slice(), ample))
         }
         Err(Refusal::NoMemory) if !is_whole => {
             let stayed = reply(heap, &mut owner, LISTING)?.as_slice() == ample.before.as_slice();
