@@ -1,6 +1,6 @@
-// The work of crates/bench in Rust, for crack.sh: the same rows, loops and numbers.
+// The work of crates/bench in Rust, for crack.sh: the same rows and numbers.
 //
-// `crack ROWS SEED` cracks a `Vec<(i64, Vec<u8>)>` by the same loops. `plain` and `pivots` change
+// `crack ROWS SEED` cracks a `Vec<(i64, Vec<u8>)>` by a loop that swaps each row. `plain` and `pivots` change
 // rows of a `BTreeSet<(i64, Vec<u8>)>`, and so does `merge ROWS SEED RANGES UPDATES TIMES`, so many updates so
 // many times. `settled` sorts all rows anew in each round.
 

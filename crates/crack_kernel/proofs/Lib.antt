@@ -1,3 +1,4 @@
+pub mod Blocks
 pub mod PartMoves
 pub mod PartChanges
 pub mod PivotOrder

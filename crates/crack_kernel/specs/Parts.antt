@@ -1,6 +1,6 @@
 -- How a list of rows is parted by a score (Database Cracking, Idreos, Kersten and Manegold, CIDR 2007).
-use Rattle.std.specs.Prelude.{◌≡◌, ◌≤◌, ◌<ℤ◌, ◌≤ℤ◌, ℕ, ℤ, List, length, take, drop, slice_range, IsPermutation}
-use Rattle.std.specs.List.{AllWithin}
+use Rattle.std.specs.Prelude.{◌≡◌, ◌≤◌, ◌<◌, ◌+◌, ◌<ℤ◌, ◌≤ℤ◌, ℕ, ℤ, List, [], ◌∷◌, length, take, drop, slice_range, IsPermutation}
+use Rattle.std.specs.List.{AllWithin, HoldsAt}
 
 -- the row's score is below v
 abbrev pub IsBelow : ℤ → ℤ × List ℕ → Type 0
@@ -9,6 +9,11 @@ IsBelow v r = r.0 <ℤ v
 -- the row's score is v or above
 abbrev pub IsFrom : ℤ → ℤ × List ℕ → Type 0
 IsFrom v r = v ≤ℤ r.0
+
+-- the rows below v among those from one place on and before another are the rows at these places, which rise
+abbrev pub ListsBelow : ℤ → List (ℤ × List ℕ) → List ℕ → ℕ → ℕ → Type 0
+ListsBelow v rows [] from to = AllWithin (IsFrom v) rows from to
+ListsBelow v rows (p ∷ places) from to = (from ≤ p) × (p < to) × AllWithin (IsFrom v) rows from p × HoldsAt (IsBelow v) rows p × ListsBelow v rows places (p + 1) to
 
 -- each element before the place has P, and each from the place on has Q
 pub record IsParted {X : Type 0} (P Q : X → Type 0) (xs : List X) (place : ℕ) : Type 0 where
