@@ -9,6 +9,7 @@ use crate::run::Run;
 use crack_kernel::Row;
 use ripple_column::Column;
 use score_bounds::{Bound, Range};
+use short_bytes::ShortBytes;
 use std::alloc::{AllocError, Allocator, Global};
 use std::rt::Runtime;
 use std::time::Instant;
@@ -23,7 +24,7 @@ const WIDTH: i64 = 21474836;
 fn with_score<A: Allocator + Copy>(alloc: A, row: &Row<A>, score: i64) -> Result<Row<A>, AllocError>
     ensures { IfOk result (λ r. r ≡ (score, row.now.1)) }
 {
-    Ok(Row::new(score, Vec::from_slice(alloc, row.member())?))
+    Ok(Row::new(score, ShortBytes::from_slice(alloc, row.member())?))
 }
 
 /// Adds `count` rows to the column and to the list of the rows that it holds.

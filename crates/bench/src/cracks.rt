@@ -3,6 +3,7 @@
 use crate::numbers::Numbers;
 use crate::run::Run;
 use crack_kernel::{Row, crack_three, crack_two};
+use short_bytes::ShortBytes;
 use std::alloc::{AllocError, Allocator, Global};
 use std::rt::Runtime;
 use std::time::Instant;
@@ -13,9 +14,9 @@ pub fn row_of<A: Allocator + Copy>(
     number: u32,
     score: i64,
 ) -> Result<Row<A>, AllocError> {
-    let mut member = Vec::from_slice(alloc, b"member-00000")?;
-    member.extend_from_slice(&number.to_be_bytes())?;
-    Ok(Row::new(score, member))
+    let mut member = *b"member-000000000";
+    member[12..].copy_from_slice(&number.to_be_bytes());
+    Ok(Row::new(score, ShortBytes::from_slice(alloc, &member)?))
 }
 
 /// Rows with scores of 31 bits.

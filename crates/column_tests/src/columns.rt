@@ -5,6 +5,7 @@ ghost use Rattle.ripple_column.specs.Content.{HasRow, SameContent, content_count
 use crack_kernel::Row;
 use ripple_column::Column;
 use score_bounds::{Bound, Range};
+use short_bytes::ShortBytes;
 use std::alloc::{AllocError, Global};
 use std::process::Abort;
 
@@ -18,7 +19,7 @@ pub fn add(
     ensures { OnOk result ((p : Test) → content_count p column.new
         ≡ content_count p column.old + count_by p ((score, member.now) ∷ [])) }
 {
-    let row = Row::new(score, Vec::from_slice(alloc, member)?);
+    let row = Row::new(score, ShortBytes::from_slice(alloc, member)?);
     column.reserve_write(1)?;
     column.insert(row);
     Ok(())
@@ -35,7 +36,7 @@ pub fn take(
     ensures { OnOk result ((p : Test) → content_count p column.old
         ≡ content_count p column.new + count_by p ((score, member.now) ∷ [])) }
 {
-    let row = Row::new(score, Vec::from_slice(alloc, member)?);
+    let row = Row::new(score, ShortBytes::from_slice(alloc, member)?);
     column.reserve_write(1)?;
     column.delete(row);
     Ok(())

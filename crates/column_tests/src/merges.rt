@@ -4,6 +4,7 @@ ghost use Rattle.ripple_column.specs.Content.{Holds, SameContent};
 use crack_kernel::Row;
 use ripple_column::Column;
 use score_bounds::{Bound, Range};
+use short_bytes::ShortBytes;
 use std::alloc::{AllocError, Global};
 use std::process::Abort;
 
@@ -43,7 +44,7 @@ impl Numbers {
 fn with_score(alloc: Global, row: &Row<Global>, score: i64) -> Result<Row<Global>, AllocError>
     ensures { IfOk result (λ r. r ≡ (score, row.now.1)) }
 {
-    Ok(Row::new(score, Vec::from_slice(alloc, row.member())?))
+    Ok(Row::new(score, ShortBytes::from_slice(alloc, row.member())?))
 }
 
 // Adds a row to the column and to the list of the rows that it holds.
@@ -56,14 +57,14 @@ fn add(
     requires { Holds column.old held.old.items }
     ensures { OnOk result (Holds column.new held.new.items) }
 {
-    // Some rows are there twice, and some members are empty.
+    // Some rows are there twice, some members are empty, and some take memory of their own.
     let number = numbers.next() % 1000;
-    let member = if number == 0 {
-        Vec::new(alloc)
-    } else {
-        Vec::from_slice(alloc, &number.to_be_bytes())?
-    };
-    let row = Row::new(numbers.score(), member);
+    let bytes = [(number % 251) as u8; 40];
+    let len = (number % 41) as usize;
+    let row = Row::new(
+        numbers.score(),
+        ShortBytes::from_slice(alloc, &bytes[..len])?,
+    );
     let copy = with_score(alloc, &row, row.score())?;
     column.reserve_write(1)?;
     column.insert(row);

@@ -5,6 +5,7 @@ use crack_kernel::Row;
 use fuse_alloc::Fuse;
 use ripple_column::Column;
 use score_bounds::{Bound, Range};
+use short_bytes::ShortBytes;
 use std::alloc::{AllocError, Allocator, Global};
 use std::test::*;
 
@@ -48,7 +49,10 @@ fn fill<A: Allocator + Copy>(
     count: u16,
 ) -> Result<(), AllocError> {
     for i in 0..count {
-        let row = Row::new(i64::from(i), Vec::from_slice(alloc, &i.to_be_bytes())?);
+        let row = Row::new(
+            i64::from(i),
+            ShortBytes::from_slice(alloc, &i.to_be_bytes())?,
+        );
         column.reserve_write(1)?;
         column.insert(row);
     }

@@ -7,6 +7,7 @@ ghost use Rattle.ripple_column.specs.ClosedUp.{closed_up_rows};
 ghost use Rattle.ripple_column.specs.MergeGap.{blank};
 
 use crack_kernel::{Row, crack_piece};
+use short_bytes::ShortBytes;
 use std::alloc::{AllocError, Allocator};
 use std::marker::Model;
 use std::mem;
@@ -178,11 +179,6 @@ impl<A: Allocator + Copy> FrontRoomRows<A> {
         }
     }
 
-    /// What the rows take their memory from.
-    pub fn allocator(&self) -> A {
-        *self.rows.allocator()
-    }
-
     /// Drops the rows from the place `from` on and before the place `to`. Where none stands before
     /// them, those behind them keep their places in the vector; else they close up.
     pub fn remove_between(&mut self, from: usize, to: usize)
@@ -208,27 +204,26 @@ impl<A: Allocator + Copy> FrontRoomRows<A> {
             self.left = 0;
             return;
         }
-        let alloc = *self.rows.allocator();
-        blank_out(&mut self.rows, self.left, end, alloc);
+        blank_out(&mut self.rows, self.left, end);
         self.left = end;
     }
 }
 
 /// A row that stands where none does, in a gap or at the front. It takes no memory.
-pub fn blank_row<A: Allocator>(alloc: A) -> Row<A>
+pub fn blank_row<A: Allocator>() -> Row<A>
     ensures { result ≡ blank }
 {
-    Row::new(0, Vec::new(alloc))
+    Row::new(0, ShortBytes::new())
 }
 
 /// Puts blank rows in the places from `from` on and before `to`, and drops those that stood there.
-fn blank_out<A: Allocator + Copy>(rows: &mut [Row<A>], from: usize, to: usize, alloc: A)
+fn blank_out<A: Allocator>(rows: &mut [Row<A>], from: usize, to: usize)
     requires order { from ≤ to }
     requires within { to ≤ length rows.old }
     ensures { drop to rows.new ≡ drop to rows.old }
 {
     for at in from..to {
-        rows[at] = blank_row(alloc);
+        rows[at] = blank_row();
     }
 }
 

@@ -50,9 +50,8 @@ fn push_blanks<A: Allocator + Copy>(rows: &mut Rows<A>, count: usize)
     ensures items { rows.new.items ≡ rows.old.items ++ replicate count blank }
     ensures capacity { vec_capacity rows.new ≡ vec_capacity rows.old }
 {
-    let alloc = rows.allocator();
     for _pushed in 0..count {
-        rows.push_reserved(blank_row(alloc));
+        rows.push_reserved(blank_row());
     }
 }
 
@@ -238,7 +237,7 @@ fn take_out_at<A: Allocator + Copy>(
     match find_waiting(deletions, tail, &rows.list()[at]) {
         Some(found) => {
             let _gone = deletions.remove(found);
-            let blank = blank_row(rows.allocator());
+            let blank = blank_row();
             rows.set(at, blank);
             rows.swap(high, at);
             high + 1

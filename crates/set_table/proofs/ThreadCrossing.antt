@@ -45,23 +45,23 @@ index_sync : IsSync usize
 index_sync = search sendable
 
 module _ (H L A T : RattleType) (b : builder.Ghosts H.Denot T.Denot) (w : hasher.Ghosts T.Denot) (l : ledger.Ghosts L.Denot) (g : alloc.Ghosts A.Denot) where
-  pub cell_send : IsSend H → IsSend A → Frees g g.dealloc_token → IsSend (Cell.the_row H L A T b w l g)
-  cell_send sh sa f =
+  pub cell_send : IsSend H → IsSend A → IsSync A → Frees g g.dealloc_token → IsSend (Cell.the_row H L A T b w l g)
+  cell_send sh sa ya f =
       let O = CellFields.the_type H L A T b w l g in
-      let all : AllSend (fields O) = (index_send, (set_send H A T b w g sh sa f, (word_send, (word_send, (vec.the_send _ A g tally.the_send sa f, (tally.the_field_send, (share.the_send L l, (sa, tt)))))))) in
+      let all : AllSend (fields O) = (index_send, (set_send H A T b w g sh sa ya f, (word_send, (word_send, (vec.the_send _ A g tally.the_send sa f, (tally.the_field_send, (share.the_send L l, (sa, tt)))))))) in
       view_send _ _ _ _ _ (recorded_send _ O.D O.to O.to_one (struct_send (shape O) all))
 
-  pub cell_sync : IsSync H → IsSync A → IsSync (Cell.the_row H L A T b w l g)
-  cell_sync yh ya =
+  pub cell_sync : IsSync H → IsSend A → IsSync A → Frees g g.dealloc_token → IsSync (Cell.the_row H L A T b w l g)
+  cell_sync yh sa ya f =
       let O = CellFields.the_type H L A T b w l g in
-      let all : AllSync (fields O) = (index_sync, (set_sync H A T b w g yh ya, (word_sync, (word_sync, (vec.the_sync _ A g tally.the_sync ya, (tally.the_field_sync, (share.the_sync L l, (ya, tt)))))))) in
+      let all : AllSync (fields O) = (index_sync, (set_sync H A T b w g yh sa ya f, (word_sync, (word_sync, (vec.the_sync _ A g tally.the_sync ya, (tally.the_field_sync, (share.the_sync L l, (ya, tt)))))))) in
       view_sync _ _ _ _ _ (recorded_sync _ O.D O.to O.to_one (struct_sync (shape O) all))
 
 module _ (H S L A T : RattleType) (b : builder.Ghosts H.Denot T.Denot) (w : hasher.Ghosts T.Denot) (s : sink.Ghosts S.Denot) (l : ledger.Ghosts L.Denot) (g : alloc.Ghosts A.Denot) where
   pub table_sync : IsSend H → IsSync H → IsSend S → IsSend A → IsSync A → Frees g g.dealloc_token → IsSync (Table.the_row H S L A T b w s l g)
   table_sync sh yh ss sa ya f =
       let O = TableFields.the_type H S L A T b w s l g in
-      let place = lock.the_sync (Cell.the_row H L A T b w l g) (cell_send H L A T b w l g sh sa f) (cell_sync H L A T b w l g yh ya) in
+      let place = lock.the_sync (Cell.the_row H L A T b w l g) (cell_send H L A T b w l g sh sa ya f) (cell_sync H L A T b w l g yh sa ya f) in
       let all : AllSync (fields O) = (names.the_sync, (vec.the_sync _ A g place ya, (vec.the_sync _ A g word_sync ya, (mutex.the_sync _ (log.the_send S L s l ss), (index_sync, (word_sync, (word_sync, (ya, tt)))))))) in
       view_sync _ _ _ _ _ (recorded_sync _ O.D O.to O.to_one (struct_sync (shape O) all))
 

@@ -1,4 +1,5 @@
 use crack_kernel::{Pivots, Row, crack_three, crack_two};
+use short_bytes::ShortBytes;
 use std::alloc::{AllocError, Global};
 use std::process::Abort;
 
@@ -6,7 +7,7 @@ use std::process::Abort;
 fn rows_of(alloc: Global, scores: &[i64]) -> Result<Vec<Row<Global>>, AllocError> {
     let mut rows = Vec::new(alloc);
     for score in scores {
-        rows.push(Row::new(*score, vec![in alloc; b'm']?))?;
+        rows.push(Row::new(*score, ShortBytes::from_slice(alloc, b"m")?))?;
     }
     Ok(rows)
 }

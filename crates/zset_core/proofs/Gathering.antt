@@ -14,7 +14,6 @@ use Rattle.std.specs.Cmp.Lexicographic.{nat_list_eq_equiv, bytes_decides}
 use Rattle.std.specs.FinMap as fin
 use Rattle.std.specs.BTreeMap.Range.{IsLtBy}
 use Rattle.std.specs.BTreeSet.{BTreeSet, contains, insert_key}
-use Rattle.std.specs.declared.vec.Vec.{Vec}
 use Rattle.std.proofs.lemmas.Map.Text.{is_eq-slice_cmp}
 use Rattle.std.proofs.lemmas.Map.Entries.{lookup_from_place}
 use Rattle.std.proofs.lemmas.Bool.Decides.{nat_tests}
@@ -94,187 +93,186 @@ one_less m q there = ap (λ n. 1 + n) (fin.len-remove total m q ∙ ap (λ b. co
     back zero h = absurd (h refl)
     back (suc n) h = omega arith
 
-module _ {A : Type 0} where
-  -- a name that is no member, or was gathered, changes nothing
-  pub gone_absent : (es : List (Entry A)) (ks : List (List ℕ)) (q : List ℕ) → slot_at es q ≡ None → remove_all (members_by current_score es) ks ≡ fin.remove (remove_all (members_by current_score es) ks) q
-  gone_absent es ks q absent = sym (remove_absent (remove_all (members_by current_score es) ks) q
-      (get-remove_all (members_by current_score es) ks q ∙ ap (cond (list_any (bytes_eq q) ks) None) (get_members current_score es q ∙ ap (option_map current_score) absent) ∙ by (list_any (bytes_eq q) ks)))
-    where
-      by : (b : Bool) → ◌≡◌ {A = Option ℤ} (cond b None None) None
-      by true = refl
-      by false = refl
+-- a name that is no member, or was gathered, changes nothing
+pub gone_absent : (es : List Entry) (ks : List (List ℕ)) (q : List ℕ) → slot_at es q ≡ None → remove_all (members_by current_score es) ks ≡ fin.remove (remove_all (members_by current_score es) ks) q
+gone_absent es ks q absent = sym (remove_absent (remove_all (members_by current_score es) ks) q
+    (get-remove_all (members_by current_score es) ks q ∙ ap (cond (list_any (bytes_eq q) ks) None) (get_members current_score es q ∙ ap (option_map current_score) absent) ∙ by (list_any (bytes_eq q) ks)))
+  where
+    by : (b : Bool) → ◌≡◌ {A = Option ℤ} (cond b None None) None
+    by true = refl
+    by false = refl
 
-  abbrev pub slot_of : Entry A → List ℕ × ScoreSlot
-  slot_of e = (e.0.items, e.1)
+abbrev pub slot_of : Entry → List ℕ × ScoreSlot
+slot_of e = (e.0, e.1)
 
-  -- entries at two places have different members
-  none_there : (x : Vec ℕ A) (es : List (Entry A)) (j : ℕ) (q : List ℕ) (t : ScoreSlot) → AllByRecursion (λ y. same_bytes x y ≡ false) (keys_of es) → slice_get (slots es) j ≡ Some (q, t) → bytes_eq x.items q ≡ false
-  none_there x [] j q t h at = cc
-  none_there x (e ∷ es) zero q t h at = let is : slot_of e ≡ (q, t) = cc in ap (bytes_eq x.items) (sym (ap (λ (p : List ℕ × ScoreSlot). p.0) is)) ∙ h.0
-  none_there x (e ∷ es) (suc j) q t h at = none_there x es j q t h.1 at
+-- entries at two places have different members
+none_there : (x : List ℕ) (es : List Entry) (j : ℕ) (q : List ℕ) (t : ScoreSlot) → AllByRecursion (λ y. same_bytes x y ≡ false) (keys_of es) → slice_get (slots es) j ≡ Some (q, t) → bytes_eq x q ≡ false
+none_there x [] j q t h at = cc
+none_there x (e ∷ es) zero q t h at = let is : slot_of e ≡ (q, t) = cc in ap (bytes_eq x) (sym (ap (λ (p : List ℕ × ScoreSlot). p.0) is)) ∙ h.0
+none_there x (e ∷ es) (suc j) q t h at = none_there x es j q t h.1 at
 
-  one_place : (es : List (Entry A)) (i j : ℕ) (q : List ℕ) (s t : ScoreSlot) → IsDistinct same_bytes (keys_of es) → slice_get (slots es) i ≡ Some (q, s) → slice_get (slots es) j ≡ Some (q, t) → i ≡ j
-  unfolding IsDistinct
-  one_place [] i j q s t d a b = cc
-  one_place (e ∷ es) zero zero q s t d a b = refl
-  one_place (e ∷ es) zero (suc j) q s t d a b =
-      let is : slot_of e ≡ (q, s) = cc in
-      absurd (true≢false (sym (nat_list_eq_equiv.refl q) ∙ ap (λ k. bytes_eq k q) (sym (ap (λ (p : List ℕ × ScoreSlot). p.0) is)) ∙ none_there e.0 es j q t d.0 b))
-  one_place (e ∷ es) (suc i) zero q s t d a b =
-      let is : slot_of e ≡ (q, t) = cc in
-      absurd (true≢false (sym (nat_list_eq_equiv.refl q) ∙ ap (λ k. bytes_eq k q) (sym (ap (λ (p : List ℕ × ScoreSlot). p.0) is)) ∙ none_there e.0 es i q s d.0 a))
-  one_place (e ∷ es) (suc i) (suc j) q s t d a b = ap suc (one_place es i j q s t d.1 a b)
+one_place : (es : List Entry) (i j : ℕ) (q : List ℕ) (s t : ScoreSlot) → IsDistinct same_bytes (keys_of es) → slice_get (slots es) i ≡ Some (q, s) → slice_get (slots es) j ≡ Some (q, t) → i ≡ j
+unfolding IsDistinct
+one_place [] i j q s t d a b = cc
+one_place (e ∷ es) zero zero q s t d a b = refl
+one_place (e ∷ es) zero (suc j) q s t d a b =
+    let is : slot_of e ≡ (q, s) = cc in
+    absurd (true≢false (sym (nat_list_eq_equiv.refl q) ∙ ap (λ k. bytes_eq k q) (sym (ap (λ (p : List ℕ × ScoreSlot). p.0) is)) ∙ none_there e.0 es j q t d.0 b))
+one_place (e ∷ es) (suc i) zero q s t d a b =
+    let is : slot_of e ≡ (q, t) = cc in
+    absurd (true≢false (sym (nat_list_eq_equiv.refl q) ∙ ap (λ k. bytes_eq k q) (sym (ap (λ (p : List ℕ × ScoreSlot). p.0) is)) ∙ none_there e.0 es i q s d.0 a))
+one_place (e ∷ es) (suc i) (suc j) q s t d a b = ap suc (one_place es i j q s t d.1 a b)
 
-  slot_here : (es : List (Entry A)) (p : ℕ) (q : List ℕ) (s : ScoreSlot) → IsDistinct same_bytes (keys_of es) → slice_get (slots es) p ≡ Some (q, s) → slot_at es q ≡ Some s
-  slot_here es p q s apart at = by (slice_get es p) refl (sym (slice_get-map slot_of es p) ∙ at)
-    where
-      by : (o : Option (Entry A)) → slice_get es p ≡ o → option_map slot_of o ≡ Some (q, s) → slot_at es q ≡ Some s
-      by None is h = cc
-      by (Some e) is h =
-          let same : slot_of e ≡ (q, s) = cc in
-          ap (slot_at es) (sym (ap (λ (p : List ℕ × ScoreSlot). p.0) same)) ∙ lookup_from_place same_equiv es p e.0 e.1 apart is ∙ ap (λ (p : List ℕ × ScoreSlot). Some p.1) same
+slot_here : (es : List Entry) (p : ℕ) (q : List ℕ) (s : ScoreSlot) → IsDistinct same_bytes (keys_of es) → slice_get (slots es) p ≡ Some (q, s) → slot_at es q ≡ Some s
+slot_here es p q s apart at = by (slice_get es p) refl (sym (slice_get-map slot_of es p) ∙ at)
+  where
+    by : (o : Option Entry) → slice_get es p ≡ o → option_map slot_of o ≡ Some (q, s) → slot_at es q ≡ Some s
+    by None is h = cc
+    by (Some e) is h =
+        let same : slot_of e ≡ (q, s) = cc in
+        ap (slot_at es) (sym (ap (λ (p : List ℕ × ScoreSlot). p.0) same)) ∙ lookup_from_place same_equiv es p e.0 e.1 apart is ∙ ap (λ (p : List ℕ × ScoreSlot). Some p.1) same
 
-  -- the member at a place
-  pub name_here : (es : List (Entry A)) (p : ℕ) (q : List ℕ) (s : ScoreSlot) → slice_get (slots es) p ≡ Some (q, s) → name_at es p ≡ q
-  name_here es p q s at = by (slice_get es p) (sym (slice_get-map slot_of es p) ∙ at)
-    where
-      by : (o : Option (Entry A)) → option_map slot_of o ≡ Some (q, s) → unwrap_or (option_map (λ (e : Entry A). e.0.items) o) [] ≡ q
-      by None h = cc
-      by (Some e) h = let is : slot_of e ≡ (q, s) = cc in ap (λ (x : List ℕ × ScoreSlot). x.0) is
+-- the member at a place
+pub name_here : (es : List Entry) (p : ℕ) (q : List ℕ) (s : ScoreSlot) → slice_get (slots es) p ≡ Some (q, s) → name_at es p ≡ q
+name_here es p q s at = by (slice_get es p) (sym (slice_get-map slot_of es p) ∙ at)
+  where
+    by : (o : Option Entry) → option_map slot_of o ≡ Some (q, s) → unwrap_or (option_map (λ (e : Entry). e.0) o) [] ≡ q
+    by None h = cc
+    by (Some e) h = let is : slot_of e ≡ (q, s) = cc in ap (λ (x : List ℕ × ScoreSlot). x.0) is
 
-  -- a place more among those found is a name more
-  any_put : (es : List (Entry A)) (t : List ℕ → Bool) (ks : List ℕ) (p : ℕ) → list_any t (names_at es (insert_key nat_cmp ks p)) ≡ (list_any t (names_at es ks) || t (name_at es p))
-  any_put es t [] p = by (t (name_at es p))
-    where
-      by : (b : Bool) → (b || false) ≡ b
-      by true = refl
-      by false = refl
-  any_put es t (x ∷ xs) p = by (nat_cmp p x) refl (any_put es t xs p)
-    where
-      turned : (a b c : Bool) → (a || (b || c)) ≡ ((b || c) || a)
-      turned true true c = refl
-      turned true false true = refl
-      turned true false false = refl
-      turned false true c = refl
-      turned false false true = refl
-      turned false false false = refl
+-- a place more among those found is a name more
+any_put : (es : List Entry) (t : List ℕ → Bool) (ks : List ℕ) (p : ℕ) → list_any t (names_at es (insert_key nat_cmp ks p)) ≡ (list_any t (names_at es ks) || t (name_at es p))
+any_put es t [] p = by (t (name_at es p))
+  where
+    by : (b : Bool) → (b || false) ≡ b
+    by true = refl
+    by false = refl
+any_put es t (x ∷ xs) p = by (nat_cmp p x) refl (any_put es t xs p)
+  where
+    turned : (a b c : Bool) → (a || (b || c)) ≡ ((b || c) || a)
+    turned true true c = refl
+    turned true false true = refl
+    turned true false false = refl
+    turned false true c = refl
+    turned false false true = refl
+    turned false false false = refl
 
-      grouped : (a b c : Bool) → (a || (b || c)) ≡ ((a || b) || c)
-      grouped true b c = refl
-      grouped false b c = refl
+    grouped : (a b c : Bool) → (a || (b || c)) ≡ ((a || b) || c)
+    grouped true b c = refl
+    grouped false b c = refl
 
-      twice : (a b : Bool) → (a || b) ≡ ((a || b) || a)
-      twice true b = refl
-      twice false true = refl
-      twice false false = refl
+    twice : (a b : Bool) → (a || b) ≡ ((a || b) || a)
+    twice true b = refl
+    twice false true = refl
+    twice false false = refl
 
-      by : (o : Ordering) → nat_cmp p x ≡ o → list_any t (names_at es (insert_key nat_cmp xs p)) ≡ (list_any t (names_at es xs) || t (name_at es p))
-          → list_any t (names_at es (match_ordering o (p ∷ x ∷ xs) (x ∷ xs) (x ∷ insert_key nat_cmp xs p))) ≡ (list_any t (names_at es (x ∷ xs)) || t (name_at es p))
-      by Less e rest = turned (t (name_at es p)) (t (name_at es x)) (list_any t (names_at es xs))
-      by Equal e rest =
-          twice (t (name_at es x)) (list_any t (names_at es xs)) ∙ ap (λ (k : ℕ). (t (name_at es x) || list_any t (names_at es xs)) || t (name_at es k)) (sym (nat_cmp-IsAntisymmetric p x e))
-      by Greater e rest = ap (λ (b : Bool). t (name_at es x) || b) rest ∙ grouped (t (name_at es x)) (list_any t (names_at es xs)) (t (name_at es p))
+    by : (o : Ordering) → nat_cmp p x ≡ o → list_any t (names_at es (insert_key nat_cmp xs p)) ≡ (list_any t (names_at es xs) || t (name_at es p))
+        → list_any t (names_at es (match_ordering o (p ∷ x ∷ xs) (x ∷ xs) (x ∷ insert_key nat_cmp xs p))) ≡ (list_any t (names_at es (x ∷ xs)) || t (name_at es p))
+    by Less e rest = turned (t (name_at es p)) (t (name_at es x)) (list_any t (names_at es xs))
+    by Equal e rest =
+        twice (t (name_at es x)) (list_any t (names_at es xs)) ∙ ap (λ (k : ℕ). (t (name_at es x) || list_any t (names_at es xs)) || t (name_at es k)) (sym (nat_cmp-IsAntisymmetric p x e))
+    by Greater e rest = ap (λ (b : Bool). t (name_at es x) || b) rest ∙ grouped (t (name_at es x)) (list_any t (names_at es xs)) (t (name_at es p))
 
-  pub gone_put : (es : List (Entry A)) (m : Members) (ks ks' : List ℕ) (p : ℕ) (q : List ℕ) → name_at es p ≡ q → ks' ≡ insert_key nat_cmp ks p → remove_all m (names_at es ks') ≡ fin.remove (remove_all m (names_at es ks)) q
-  gone_put es m ks ks' p q is keys = remove_all-more m (names_at es ks) (names_at es ks') q (λ r.
-      ap (λ (l : List ℕ). list_any (bytes_eq r) (names_at es l)) keys ∙ any_put es (bytes_eq r) ks p ∙ ap (λ (k : List ℕ). list_any (bytes_eq r) (names_at es ks) || bytes_eq r k) is)
+pub gone_put : (es : List Entry) (m : Members) (ks ks' : List ℕ) (p : ℕ) (q : List ℕ) → name_at es p ≡ q → ks' ≡ insert_key nat_cmp ks p → remove_all m (names_at es ks') ≡ fin.remove (remove_all m (names_at es ks)) q
+gone_put es m ks ks' p q is keys = remove_all-more m (names_at es ks) (names_at es ks') q (λ r.
+    ap (λ (l : List ℕ). list_any (bytes_eq r) (names_at es l)) keys ∙ any_put es (bytes_eq r) ks p ∙ ap (λ (k : List ℕ). list_any (bytes_eq r) (names_at es ks) || bytes_eq r k) is)
 
-  -- the set without those found
-  abbrev pub left : List (Entry A) → List ℕ → Members
-  left es ks = remove_all (members_by current_score es) (names_at es ks)
+-- the set without those found
+abbrev pub left : List Entry → List ℕ → Members
+left es ks = remove_all (members_by current_score es) (names_at es ks)
 
-  pub AreFound-put : (es : List (Entry A)) (seen seen' : BTreeSet ℕ) (p : ℕ) (q : List ℕ) (s : ScoreSlot)
-      → IsDistinct same_bytes (keys_of es) → slice_get (slots es) p ≡ Some (q, s) → contains nat_cmp seen p ≡ false
-      → ((j : ℕ) → contains nat_cmp seen' j ≡ cond (is_eq (nat_cmp p j)) true (contains nat_cmp seen j)) → seen'.keys ≡ insert_key nat_cmp seen.keys p → length seen'.keys ≡ length seen.keys + 1
-      → AreFound es seen → AreFound es seen'
-  AreFound-put es seen seen' p q s apart at new after keys len old = record {
-    same = λ j r t there. after j ∙ here j r t there (is_eq (nat_cmp p j)) refl
-        ∙ sym (ap (λ (l : List ℕ). list_any (bytes_eq r) (names_at es l)) keys ∙ any_put es (bytes_eq r) seen.keys p ∙ ap (λ k. list_any (bytes_eq r) (names_at es seen.keys) || bytes_eq r k) (name_here es p q s at));
-    count = one_more (length seen.keys) (length seen'.keys) (fin.len (fin.remove (left es seen.keys) q)) (fin.len (left es seen.keys)) (fin.len (left es seen'.keys)) (fin.len (members_by current_score es))
-        len (one_less (left es seen.keys) q in_before) (ap fin.len (gone_put es (members_by current_score es) seen.keys seen'.keys p q (name_here es p q s at) keys)) old.count;
-    within = subst (IsWithin (length es)) (sym keys) (IsWithin-put (length es) p seen.keys inside old.within);
-  }
-    where
-      inside : p < length es
-      inside = subst (λ (n : ℕ). p < n) (length-map es slot_of) (slice_get_within (slots es) p (q, s) at)
+pub AreFound-put : (es : List Entry) (seen seen' : BTreeSet ℕ) (p : ℕ) (q : List ℕ) (s : ScoreSlot)
+    → IsDistinct same_bytes (keys_of es) → slice_get (slots es) p ≡ Some (q, s) → contains nat_cmp seen p ≡ false
+    → ((j : ℕ) → contains nat_cmp seen' j ≡ cond (is_eq (nat_cmp p j)) true (contains nat_cmp seen j)) → seen'.keys ≡ insert_key nat_cmp seen.keys p → length seen'.keys ≡ length seen.keys + 1
+    → AreFound es seen → AreFound es seen'
+AreFound-put es seen seen' p q s apart at new after keys len old = record {
+  same = λ j r t there. after j ∙ here j r t there (is_eq (nat_cmp p j)) refl
+      ∙ sym (ap (λ (l : List ℕ). list_any (bytes_eq r) (names_at es l)) keys ∙ any_put es (bytes_eq r) seen.keys p ∙ ap (λ k. list_any (bytes_eq r) (names_at es seen.keys) || bytes_eq r k) (name_here es p q s at));
+  count = one_more (length seen.keys) (length seen'.keys) (fin.len (fin.remove (left es seen.keys) q)) (fin.len (left es seen.keys)) (fin.len (left es seen'.keys)) (fin.len (members_by current_score es))
+      len (one_less (left es seen.keys) q in_before) (ap fin.len (gone_put es (members_by current_score es) seen.keys seen'.keys p q (name_here es p q s at) keys)) old.count;
+  within = subst (IsWithin (length es)) (sym keys) (IsWithin-put (length es) p seen.keys inside old.within);
+}
+  where
+    inside : p < length es
+    inside = subst (λ (n : ℕ). p < n) (length-map es slot_of) (slice_get_within (slots es) p (q, s) at)
 
-      in_before : is_some (fin.get (left es seen.keys) q) ≡ true
-      in_before = ap is_some (get-remove_all (members_by current_score es) (names_at es seen.keys) q ∙ ap (λ b. cond b None (fin.get (members_by current_score es) q)) (sym (old.same p q s at) ∙ new)
-          ∙ get_members current_score es q ∙ ap (option_map current_score) (slot_here es p q s apart at))
+    in_before : is_some (fin.get (left es seen.keys) q) ≡ true
+    in_before = ap is_some (get-remove_all (members_by current_score es) (names_at es seen.keys) q ∙ ap (λ b. cond b None (fin.get (members_by current_score es) q)) (sym (old.same p q s at) ∙ new)
+        ∙ get_members current_score es q ∙ ap (option_map current_score) (slot_here es p q s apart at))
 
-      one_more : (a a' b n m end : ℕ) → a' ≡ a + 1 → 1 + b ≡ n → m ≡ b → a + n ≡ end → a' + m ≡ end
-      one_more a a' b n m end e f g h = omega arith
+    one_more : (a a' b n m end : ℕ) → a' ≡ a + 1 → 1 + b ≡ n → m ≡ b → a + n ≡ end → a' + m ≡ end
+    one_more a a' b n m end e f g h = omega arith
 
-      or_true : (b : Bool) → true ≡ (b || true)
-      or_true true = refl
-      or_true false = refl
+    or_true : (b : Bool) → true ≡ (b || true)
+    or_true true = refl
+    or_true false = refl
 
-      or_false : (b : Bool) → b ≡ (b || false)
-      or_false true = refl
-      or_false false = refl
+    or_false : (b : Bool) → b ≡ (b || false)
+    or_false true = refl
+    or_false false = refl
 
-      here : (j : ℕ) (r : List ℕ) (t : ScoreSlot) → slice_get (slots es) j ≡ Some (r, t) → (b : Bool) → is_eq (nat_cmp p j) ≡ b → cond b true (contains nat_cmp seen j) ≡ (list_any (bytes_eq r) (names_at es seen.keys) || bytes_eq r q)
-      here j r t there true e =
-          let same : p ≡ j = nat_cmp-IsAntisymmetric p j (tie (nat_cmp p j) e) in
-          let both : ◌≡◌ {A = Option (List ℕ × ScoreSlot)} (Some (q, s)) (Some (r, t)) = sym at ∙ ap (slice_get (slots es)) same ∙ there in
-          let pair : ◌≡◌ {A = List ℕ × ScoreSlot} (q, s) (r, t) = cc in
-          or_true (list_any (bytes_eq r) (names_at es seen.keys))
-          ∙ ap (λ b. list_any (bytes_eq r) (names_at es seen.keys) || b) (sym (ap (λ k. bytes_eq r k) (ap (λ (x : List ℕ × ScoreSlot). x.0) pair) ∙ nat_list_eq_equiv.refl r))
-        where
-          tie : (o : Ordering) → is_eq o ≡ true → o ≡ Equal
-          tie Less h = cc
-          tie Equal h = refl
-          tie Greater h = cc
-      here j r t there false e =
-          old.same j r t there ∙ or_false (list_any (bytes_eq r) (names_at es seen.keys)) ∙ ap (λ b. list_any (bytes_eq r) (names_at es seen.keys) || b) (sym (other (bytes_eq r q) refl))
-        where
-          other : (b : Bool) → bytes_eq r q ≡ b → bytes_eq r q ≡ false
-          other false h = h
-          other true h =
-              let key : r ≡ q = (bytes_decides r q).0 h in
-              let place : j ≡ p = one_place es j p q t s apart (there ∙ ap (λ k. Some (k, t)) key) at in
-              absurd (true≢false (sym (ap (λ k. is_eq (nat_cmp p k)) place ∙ self p) ∙ e))
-            where
-              self : (n : ℕ) → is_eq (nat_cmp n n) ≡ true
-              self n = (eq_by_cmp_equiv nat_cmp_total).refl n
+    here : (j : ℕ) (r : List ℕ) (t : ScoreSlot) → slice_get (slots es) j ≡ Some (r, t) → (b : Bool) → is_eq (nat_cmp p j) ≡ b → cond b true (contains nat_cmp seen j) ≡ (list_any (bytes_eq r) (names_at es seen.keys) || bytes_eq r q)
+    here j r t there true e =
+        let same : p ≡ j = nat_cmp-IsAntisymmetric p j (tie (nat_cmp p j) e) in
+        let both : ◌≡◌ {A = Option (List ℕ × ScoreSlot)} (Some (q, s)) (Some (r, t)) = sym at ∙ ap (slice_get (slots es)) same ∙ there in
+        let pair : ◌≡◌ {A = List ℕ × ScoreSlot} (q, s) (r, t) = cc in
+        or_true (list_any (bytes_eq r) (names_at es seen.keys))
+        ∙ ap (λ b. list_any (bytes_eq r) (names_at es seen.keys) || b) (sym (ap (λ k. bytes_eq r k) (ap (λ (x : List ℕ × ScoreSlot). x.0) pair) ∙ nat_list_eq_equiv.refl r))
+      where
+        tie : (o : Ordering) → is_eq o ≡ true → o ≡ Equal
+        tie Less h = cc
+        tie Equal h = refl
+        tie Greater h = cc
+    here j r t there false e =
+        old.same j r t there ∙ or_false (list_any (bytes_eq r) (names_at es seen.keys)) ∙ ap (λ b. list_any (bytes_eq r) (names_at es seen.keys) || b) (sym (other (bytes_eq r q) refl))
+      where
+        other : (b : Bool) → bytes_eq r q ≡ b → bytes_eq r q ≡ false
+        other false h = h
+        other true h =
+            let key : r ≡ q = (bytes_decides r q).0 h in
+            let place : j ≡ p = one_place es j p q t s apart (there ∙ ap (λ k. Some (k, t)) key) at in
+            absurd (true≢false (sym (ap (λ k. is_eq (nat_cmp p k)) place ∙ self p) ∙ e))
+          where
+            self : (n : ℕ) → is_eq (nat_cmp n n) ≡ true
+            self n = (eq_by_cmp_equiv nat_cmp_total).refl n
 
-  AreFound-kept : (es : List (Entry A)) (seen seen' : BTreeSet ℕ) → seen'.keys ≡ seen.keys → AreFound es seen → AreFound es seen'
-  AreFound-kept es seen seen' keys old = record {
-    same = λ j r t there. ap (λ (l : List ℕ). list_any (λ k. is_eq (nat_cmp j k)) l) keys ∙ old.same j r t there ∙ ap (λ (l : List ℕ). list_any (bytes_eq r) (names_at es l)) (sym keys);
-    count = ap (λ (l : List ℕ). length l + fin.len (left es l)) keys ∙ old.count;
-    within = subst (IsWithin (length es)) (sym keys) old.within;
-  }
+AreFound-kept : (es : List Entry) (seen seen' : BTreeSet ℕ) → seen'.keys ≡ seen.keys → AreFound es seen → AreFound es seen'
+AreFound-kept es seen seen' keys old = record {
+  same = λ j r t there. ap (λ (l : List ℕ). list_any (λ k. is_eq (nat_cmp j k)) l) keys ∙ old.same j r t there ∙ ap (λ (l : List ℕ). list_any (bytes_eq r) (names_at es l)) (sym keys);
+  count = ap (λ (l : List ℕ). length l + fin.len (left es l)) keys ∙ old.count;
+  within = subst (IsWithin (length es)) (sym keys) old.within;
+}
 
-  -- a place was put among those found: it was new, or it was there
-  pub AreFound-after : (es : List (Entry A)) (seen seen' : BTreeSet ℕ) (p : ℕ) (q : List ℕ) (s : ScoreSlot) (added : Bool)
-      → IsDistinct same_bytes (keys_of es) → slice_get (slots es) p ≡ Some (q, s) → added ≡ not (contains nat_cmp seen p)
-      → ((j : ℕ) → contains nat_cmp seen' j ≡ cond (is_eq (nat_cmp p j)) true (contains nat_cmp seen j)) → seen'.keys ≡ insert_key nat_cmp seen.keys p → OnFalse added (seen'.keys ≡ seen.keys)
-      → length seen'.keys ≡ length seen.keys + cond {A = ℕ} added 1 0 → AreFound es seen → AreFound es seen'
-  AreFound-after es seen seen' p q s true apart at new after keys kept len old = AreFound-put es seen seen' p q s apart at (new_one true (contains nat_cmp seen p) new refl) after keys len old
-  AreFound-after es seen seen' p q s false apart at new after keys kept len old = AreFound-kept es seen seen' kept old
+-- a place was put among those found: it was new, or it was there
+pub AreFound-after : (es : List Entry) (seen seen' : BTreeSet ℕ) (p : ℕ) (q : List ℕ) (s : ScoreSlot) (added : Bool)
+    → IsDistinct same_bytes (keys_of es) → slice_get (slots es) p ≡ Some (q, s) → added ≡ not (contains nat_cmp seen p)
+    → ((j : ℕ) → contains nat_cmp seen' j ≡ cond (is_eq (nat_cmp p j)) true (contains nat_cmp seen j)) → seen'.keys ≡ insert_key nat_cmp seen.keys p → OnFalse added (seen'.keys ≡ seen.keys)
+    → length seen'.keys ≡ length seen.keys + cond {A = ℕ} added 1 0 → AreFound es seen → AreFound es seen'
+AreFound-after es seen seen' p q s true apart at new after keys kept len old = AreFound-put es seen seen' p q s apart at (new_one true (contains nat_cmp seen p) new refl) after keys len old
+AreFound-after es seen seen' p q s false apart at new after keys kept len old = AreFound-kept es seen seen' kept old
 
-  -- ---- members taken out by their places
-  -- the last of some members goes first
-  pub last_first : (es es' : List (Entry A)) (m m' : Members) (ks rest : List ℕ) (p : ℕ) → ks ≡ rest ++ p ∷ [] → m' ≡ fin.remove m (name_at es p) → names_at es' rest ≡ names_at es rest
-      → remove_all m' (names_at es' rest) ≡ remove_all m (names_at es ks)
-  last_first es es' m m' ks rest p is gone same =
-      let n = name_at es p in
-      ap (λ (x : Members). remove_all x (names_at es' rest)) gone ∙ ap (λ (l : List (List ℕ)). remove_all (fin.remove m n) l) same
-      ∙ remove_all-more m (names_at es rest) (n ∷ names_at es rest) n (λ r. turned (bytes_eq r n) (list_any (bytes_eq r) (names_at es rest)))
-      ∙ sym (ap (λ (l : List ℕ). remove_all m (names_at es l)) is ∙ ap (λ (l : List (List ℕ)). remove_all m l) (names-push rest) ∙ remove_all-push m (names_at es rest) n)
-    where
-      turned : (a b : Bool) → (a || b) ≡ (b || a)
-      turned true true = refl
-      turned true false = refl
-      turned false true = refl
-      turned false false = refl
+-- ---- members taken out by their places
+-- the last of some members goes first
+pub last_first : (es es' : List Entry) (m m' : Members) (ks rest : List ℕ) (p : ℕ) → ks ≡ rest ++ p ∷ [] → m' ≡ fin.remove m (name_at es p) → names_at es' rest ≡ names_at es rest
+    → remove_all m' (names_at es' rest) ≡ remove_all m (names_at es ks)
+last_first es es' m m' ks rest p is gone same =
+    let n = name_at es p in
+    ap (λ (x : Members). remove_all x (names_at es' rest)) gone ∙ ap (λ (l : List (List ℕ)). remove_all (fin.remove m n) l) same
+    ∙ remove_all-more m (names_at es rest) (n ∷ names_at es rest) n (λ r. turned (bytes_eq r n) (list_any (bytes_eq r) (names_at es rest)))
+    ∙ sym (ap (λ (l : List ℕ). remove_all m (names_at es l)) is ∙ ap (λ (l : List (List ℕ)). remove_all m l) (names-push rest) ∙ remove_all-push m (names_at es rest) n)
+  where
+    turned : (a b : Bool) → (a || b) ≡ (b || a)
+    turned true true = refl
+    turned true false = refl
+    turned false true = refl
+    turned false false = refl
 
-      names-push : (l : List ℕ) → names_at es (l ++ p ∷ []) ≡ names_at es l ++ name_at es p ∷ []
-      names-push [] = refl
-      names-push (x ∷ l) = ap (λ (k : List (List ℕ)). name_at es x ∷ k) (names-push l)
+    names-push : (l : List ℕ) → names_at es (l ++ p ∷ []) ≡ names_at es l ++ name_at es p ∷ []
+    names-push [] = refl
+    names-push (x ∷ l) = ap (λ (k : List (List ℕ)). name_at es x ∷ k) (names-push l)
 
-  -- places below another one have the same members where all entries before that one have
-  pub names_before : (es es' : List (Entry A)) (p : ℕ) (ks : List ℕ) → ((j : ℕ) → j < p → name_at es' j ≡ name_at es j) → All (λ (k : ℕ). IsLtBy nat_cmp k p) ks → names_at es' ks ≡ names_at es ks
-  names_before es es' p [] same below = refl
-  names_before es es' p (k ∷ ks) same below =
-      ap (λ (n : List ℕ). n ∷ names_at es' ks) (same k (below_here k p (below 0 0 (omega arith)))) ∙ ap (λ (l : List (List ℕ)). name_at es k ∷ l) (names_before es es' p ks same (λ i d lt. below (suc i) d (omega (arith, lt))))
+-- places below another one have the same members where all entries before that one have
+pub names_before : (es es' : List Entry) (p : ℕ) (ks : List ℕ) → ((j : ℕ) → j < p → name_at es' j ≡ name_at es j) → All (λ (k : ℕ). IsLtBy nat_cmp k p) ks → names_at es' ks ≡ names_at es ks
+names_before es es' p [] same below = refl
+names_before es es' p (k ∷ ks) same below =
+    ap (λ (n : List ℕ). n ∷ names_at es' ks) (same k (below_here k p (below 0 0 (omega arith)))) ∙ ap (λ (l : List (List ℕ)). name_at es k ∷ l) (names_before es es' p ks same (λ i d lt. below (suc i) d (omega (arith, lt))))

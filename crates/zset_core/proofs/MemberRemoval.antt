@@ -3,7 +3,6 @@ use Rattle.std.proofs.Common.{◌≡◌, ℕ, ◌+◌, ◌-◌, ◌<◌, ℤ, Bo
 use Rattle.std.specs.List.{IsDistinct, swap_remove}
 use Rattle.std.specs.Map.{keys_of}
 use Rattle.std.specs.FinMap as fin
-use Rattle.std.specs.declared.vec.Vec.{Vec}
 use Rattle.std.proofs.lemmas.Grind.{common_steps}
 use Rattle.std.proofs.lemmas.Map.Entries.{lookup_from_place}
 use Rattle.std.proofs.lemmas.Option.{slice_get-get_or, slice_get-map}
@@ -32,34 +31,33 @@ Holds-without c c' m row q s is there holds taken p =
     let counted : one p row ≡ one p (s, q) = ap (λ (x : Pair). one p x) is in
     omega (arith, holds p, taken p, count_less p m q s there, count_cons p row [], counted)
 
-module _ {A : Type 0} where
-  pub name_is : (es : List (Entry A)) (i : ℕ) (k : Vec ℕ A) (s : ScoreSlot) → slice_get es i ≡ Some (k, s) → name_at es i ≡ k.items
-  name_is es i k s at = ap (λ (o : Option (Entry A)). unwrap_or (option_map (λ (e : Entry A). e.0.items) o) []) at
+pub name_is : (es : List Entry) (i : ℕ) (k : List ℕ) (s : ScoreSlot) → slice_get es i ≡ Some (k, s) → name_at es i ≡ k
+name_is es i k s at = ap (λ (o : Option Entry). unwrap_or (option_map (λ (e : Entry). e.0) o) []) at
 
-  pub score_is : (es : List (Entry A)) (i : ℕ) (k : Vec ℕ A) (s : ScoreSlot) → IsDistinct same_bytes (keys_of es) → slice_get es i ≡ Some (k, s) → fin.get (members_by current_score es) k.items ≡ Some s.current
-  score_is es i k s apart at = get_members current_score es k.items ∙ ap (option_map current_score) (lookup_from_place same_equiv es i k s apart at)
+pub score_is : (es : List Entry) (i : ℕ) (k : List ℕ) (s : ScoreSlot) → IsDistinct same_bytes (keys_of es) → slice_get es i ≡ Some (k, s) → fin.get (members_by current_score es) k ≡ Some s.current
+score_is es i k s apart at = get_members current_score es k ∙ ap (option_map current_score) (lookup_from_place same_equiv es i k s apart at)
 
-  -- the entries before the one that leaves stay
-  pub name_stays : (es es' : List (Entry A)) (i j : ℕ) (e : Entry A) → es' ≡ swap_remove es i e → i < length es → j < i → name_at es' j ≡ name_at es j
-  name_stays es es' i j e is lt before =
-      let gone = swap_remove es i e in
-      let shorter : length gone ≡ length es - 1 = grind (arith, common_steps) in
-      let same : get_or gone j e ≡ get_or es j e = grind (arith, common_steps) in
-      let here : slice_get gone j ≡ slice_get es j = slice_get-get_or gone j e (omega (arith, shorter)) ∙ ap (λ (x : Entry A). Some x) same ∙ sym (slice_get-get_or es j e (omega arith)) in
-      ap (λ (l : List (Entry A)). name_at l j) is ∙ ap (λ (o : Option (Entry A)). unwrap_or (option_map (λ (x : Entry A). x.0.items) o) []) here
+-- the entries before the one that leaves stay
+pub name_stays : (es es' : List Entry) (i j : ℕ) (e : Entry) → es' ≡ swap_remove es i e → i < length es → j < i → name_at es' j ≡ name_at es j
+name_stays es es' i j e is lt before =
+    let gone = swap_remove es i e in
+    let shorter : length gone ≡ length es - 1 = grind (arith, common_steps) in
+    let same : get_or gone j e ≡ get_or es j e = grind (arith, common_steps) in
+    let here : slice_get gone j ≡ slice_get es j = slice_get-get_or gone j e (omega (arith, shorter)) ∙ ap (λ (x : Entry). Some x) same ∙ sym (slice_get-get_or es j e (omega arith)) in
+    ap (λ (l : List Entry). name_at l j) is ∙ ap (λ (o : Option Entry). unwrap_or (option_map (λ (x : Entry). x.0) o) []) here
 
-  name_shown : (f : ScoreSlot → ℤ) (es : List (Entry A)) (i : ℕ) → name_at es i ≡ unwrap_or (option_map (λ (r : List ℕ × ℤ). r.0) (slice_get (rows_by f es) i)) []
-  name_shown f es i =
-      sym (ap (λ (o : Option (List ℕ × ℤ)). unwrap_or (option_map (λ (r : List ℕ × ℤ). r.0) o) []) (slice_get-map (λ (e : Entry A). (e.0.items, f e.1)) es i) ∙ by (slice_get es i))
-    where
-      by : (o : Option (Entry A)) → unwrap_or (option_map (λ (r : List ℕ × ℤ). r.0) (option_map (λ (e : Entry A). (e.0.items, f e.1)) o)) [] ≡ unwrap_or (option_map (λ (e : Entry A). e.0.items) o) []
-      by None = refl
-      by (Some e) = refl
+name_shown : (f : ScoreSlot → ℤ) (es : List Entry) (i : ℕ) → name_at es i ≡ unwrap_or (option_map (λ (r : List ℕ × ℤ). r.0) (slice_get (rows_by f es) i)) []
+name_shown f es i =
+    sym (ap (λ (o : Option (List ℕ × ℤ)). unwrap_or (option_map (λ (r : List ℕ × ℤ). r.0) o) []) (slice_get-map (λ (e : Entry). (e.0, f e.1)) es i) ∙ by (slice_get es i))
+  where
+    by : (o : Option Entry) → unwrap_or (option_map (λ (r : List ℕ × ℤ). r.0) (option_map (λ (e : Entry). (e.0, f e.1)) o)) [] ≡ unwrap_or (option_map (λ (e : Entry). e.0) o) []
+    by None = refl
+    by (Some e) = refl
 
-  -- entries with the same rows have the same members at their places
-  pub names_same : (f : ScoreSlot → ℤ) (es fs : List (Entry A)) (places : List ℕ) → rows_by f es ≡ rows_by f fs → names_at es places ≡ names_at fs places
-  names_same f es fs [] h = refl
-  names_same f es fs (p ∷ ps) h =
-      let same : name_at es p ≡ name_at fs p =
-      name_shown f es p ∙ ap (λ (rows : List (List ℕ × ℤ)). unwrap_or (option_map (λ (r : List ℕ × ℤ). r.0) (slice_get rows p)) []) h ∙ sym (name_shown f fs p) in
-      ap (λ (n : List ℕ). n ∷ names_at es ps) same ∙ ap (λ (l : List (List ℕ)). name_at fs p ∷ l) (names_same f es fs ps h)
+-- entries with the same rows have the same members at their places
+pub names_same : (f : ScoreSlot → ℤ) (es fs : List Entry) (places : List ℕ) → rows_by f es ≡ rows_by f fs → names_at es places ≡ names_at fs places
+names_same f es fs [] h = refl
+names_same f es fs (p ∷ ps) h =
+    let same : name_at es p ≡ name_at fs p =
+    name_shown f es p ∙ ap (λ (rows : List (List ℕ × ℤ)). unwrap_or (option_map (λ (r : List ℕ × ℤ). r.0) (slice_get rows p)) []) h ∙ sym (name_shown f fs p) in
+    ap (λ (n : List ℕ). n ∷ names_at es ps) same ∙ ap (λ (l : List (List ℕ)). name_at fs p ∷ l) (names_same f es fs ps h)

@@ -8,7 +8,6 @@ use Rattle.std.specs.Prelude.{T}
 use Rattle.std.specs.Ordering.{eq_by_cmp, int_cmp, is_eq, is_lt, ordering_then, ordering_reverse}
 use Rattle.std.specs.declared.cmp.Ordering.{Ordering}
 use Rattle.std.specs.declared.cmp.Ordering.TheVariants.{Less, Equal, Greater}
-use Rattle.std.specs.declared.vec.Vec.{Vec}
 use Rattle.std.specs.Cmp.{IsTotalOrder, eq_by_cmp_equiv}
 use Rattle.std.specs.Cmp.Lexicographic.{nat_list_eq_equiv}
 use Rattle.std.specs.FinMap as fin
@@ -214,27 +213,26 @@ filter_apart t (p ∷ ps) h = by (t p) (filter_apart t ps h.1) (filter_all (λ y
 abbrev pub swapped : List (List ℕ × ℤ) → List Pair
 swapped rows = map (λ e. (e.1, e.0)) rows
 
-abbrev pub key_bytes : {A : Type 0} → List (Entry A) → List (List ℕ)
-key_bytes {A} es = map (λ (e : Entry A). e.0.items) es
+abbrev pub key_bytes : List Entry → List (List ℕ)
+key_bytes es = map (λ (e : Entry). e.0) es
 
-module _ {A : Type 0} where
-  distinct_bytes : (es : List (Entry A)) → IsDistinct same_bytes (keys_of es) → IsDistinct bytes_eq (key_bytes es)
-  unfolding IsDistinct
-  distinct_bytes [] d = d
-  distinct_bytes (e ∷ es) d = IsDistinct-cons bytes_eq e.0.items (key_bytes es) (heads e.0 es (IsDistinct-head same_bytes e.0 (keys_of es) d)) (distinct_bytes es (IsDistinct-tail same_bytes e.0 (keys_of es) d))
-    where
-      heads : (x : Vec ℕ A) (es : List (Entry A)) → AllByRecursion (λ y. same_bytes x y ≡ false) (keys_of es) → AllByRecursion (λ k. bytes_eq x.items k ≡ false) (key_bytes es)
-      heads x [] h = h
-      heads x (e ∷ es) h = (h.0, heads x es h.1)
+distinct_bytes : (es : List Entry) → IsDistinct same_bytes (keys_of es) → IsDistinct bytes_eq (key_bytes es)
+unfolding IsDistinct
+distinct_bytes [] d = d
+distinct_bytes (e ∷ es) d = IsDistinct-cons bytes_eq e.0 (key_bytes es) (heads e.0 es (IsDistinct-head same_bytes e.0 (keys_of es) d)) (distinct_bytes es (IsDistinct-tail same_bytes e.0 (keys_of es) d))
+  where
+    heads : (x : List ℕ) (es : List Entry) → AllByRecursion (λ y. same_bytes x y ≡ false) (keys_of es) → AllByRecursion (λ k. bytes_eq x k ≡ false) (key_bytes es)
+    heads x [] h = h
+    heads x (e ∷ es) h = (h.0, heads x es h.1)
 
-  entries_apart : (es : List (Entry A)) → IsDistinct bytes_eq (key_bytes es) → IsDistinct is_pair (entry_pairs es)
-  unfolding IsDistinct
-  entries_apart [] h = h
-  entries_apart (e ∷ es) h = (heads e es h.0, entries_apart es h.1)
-    where
-      heads : (e : Entry A) (es : List (Entry A)) → AllByRecursion (λ k. bytes_eq e.0.items k ≡ false) (key_bytes es) → AllByRecursion (λ p. is_pair (current_score e.1, e.0.items) p ≡ false) (entry_pairs es)
-      heads e [] h = h
-      heads e (x ∷ es) h = (is_pair_by (current_score e.1, e.0.items) (current_score x.1) x.0.items ∙ ap (λ b. is_eq (int_cmp (current_score e.1) (current_score x.1)) && b) h.0 ∙ and_false (is_eq (int_cmp (current_score e.1) (current_score x.1))), heads e es h.1)
+entries_apart : (es : List Entry) → IsDistinct bytes_eq (key_bytes es) → IsDistinct is_pair (entry_pairs es)
+unfolding IsDistinct
+entries_apart [] h = h
+entries_apart (e ∷ es) h = (heads e es h.0, entries_apart es h.1)
+  where
+    heads : (e : Entry) (es : List Entry) → AllByRecursion (λ k. bytes_eq e.0 k ≡ false) (key_bytes es) → AllByRecursion (λ p. is_pair (current_score e.1, e.0) p ≡ false) (entry_pairs es)
+    heads e [] h = h
+    heads e (x ∷ es) h = (is_pair_by (current_score e.1, e.0) (current_score x.1) x.0 ∙ ap (λ b. is_eq (int_cmp (current_score e.1) (current_score x.1)) && b) h.0 ∙ and_false (is_eq (int_cmp (current_score e.1) (current_score x.1))), heads e es h.1)
 
 pub rows_apart : (rows : List Shown) → IsDistinct is_pair (pairs_of rows) → IsDistinct (λ a b. is_pair (pair_of a) (pair_of b)) rows
 unfolding IsDistinct
@@ -245,27 +243,26 @@ rows_apart (r ∷ rows) h = (heads r rows h.0, rows_apart rows h.1)
     heads r [] h = h
     heads r (x ∷ rows) h = (h.0, heads r rows h.1)
 
-module _ {A : Type 0} where
-  swap_bytes : (es : List (Entry A)) → swapped (rows_by current_score es) ≡ entry_pairs es
-  swap_bytes [] = refl
-  swap_bytes (e ∷ es) = ap (λ ps. (current_score e.1, e.0.items) ∷ ps) (swap_bytes es)
+swap_bytes : (es : List Entry) → swapped (rows_by current_score es) ≡ entry_pairs es
+swap_bytes [] = refl
+swap_bytes (e ∷ es) = ap (λ ps. (current_score e.1, e.0) ∷ ps) (swap_bytes es)
 
-  keys_by_bytes : (es : List (Entry A)) → key_bytes es ≡ keys_of (rows_by current_score es)
-  keys_by_bytes [] = refl
-  keys_by_bytes (e ∷ es) = ap (λ ks. e.0.items ∷ ks) (keys_by_bytes es)
+keys_by_bytes : (es : List Entry) → key_bytes es ≡ keys_of (rows_by current_score es)
+keys_by_bytes [] = refl
+keys_by_bytes (e ∷ es) = ap (λ ks. e.0 ∷ ks) (keys_by_bytes es)
 
-  lookup_bytes : (es : List (Entry A)) (q : List ℕ) → lookup (bytes_eq q) (rows_by current_score es) ≡ option_map current_score (slot_at es q)
-  lookup_bytes [] q = refl
-  lookup_bytes (e ∷ es) q = ap (cond (bytes_eq q e.0.items) (Some (current_score e.1))) (lookup_bytes es q) ∙ by (bytes_eq q e.0.items)
-    where
-      by : (b : Bool) → cond b (Some (current_score e.1)) (option_map current_score (slot_at es q)) ≡ option_map current_score (cond b (Some e.1) (slot_at es q))
-      by true = refl
-      by false = refl
+lookup_bytes : (es : List Entry) (q : List ℕ) → lookup (bytes_eq q) (rows_by current_score es) ≡ option_map current_score (slot_at es q)
+lookup_bytes [] q = refl
+lookup_bytes (e ∷ es) q = ap (cond (bytes_eq q e.0) (Some (current_score e.1))) (lookup_bytes es q) ∙ by (bytes_eq q e.0)
+  where
+    by : (b : Bool) → cond b (Some (current_score e.1)) (option_map current_score (slot_at es q)) ≡ option_map current_score (cond b (Some e.1) (slot_at es q))
+    by true = refl
+    by false = refl
 
-  has_of_entries : (es : List (Entry A)) (q : Pair) → IsDistinct bytes_eq (key_bytes es) → list_any (is_pair q) (entry_pairs es) ≡ list_any (is_pair q) (pairs (members_by current_score es))
-  has_of_entries es q apart =
-      ap (list_any (is_pair q)) (sym (swap_bytes es)) ∙ has_pair (rows_by current_score es) q (subst (IsDistinct bytes_eq) (keys_by_bytes es) apart)
-      ∙ ap (λ r. is_same r q.0) (lookup_bytes es q.1 ∙ sym (get_members current_score es q.1)) ∙ sym (has_of_pairs (members_by current_score es) q)
+has_of_entries : (es : List Entry) (q : Pair) → IsDistinct bytes_eq (key_bytes es) → list_any (is_pair q) (entry_pairs es) ≡ list_any (is_pair q) (pairs (members_by current_score es))
+has_of_entries es q apart =
+    ap (list_any (is_pair q)) (sym (swap_bytes es)) ∙ has_pair (rows_by current_score es) q (subst (IsDistinct bytes_eq) (keys_by_bytes es) apart)
+    ∙ ap (λ r. is_same r q.0) (lookup_bytes es q.1 ∙ sym (get_members current_score es q.1)) ∙ sym (has_of_pairs (members_by current_score es) q)
 
 all_pass : (ps : List Pair) → filter (λ p. true) ps ≡ ps
 all_pass [] = refl
@@ -278,7 +275,7 @@ whole_empty = sym (listing_is (λ _. true) fin.empty [] tt (λ q.
     sym (ap (list_any (is_pair q)) (all_pass (pairs fin.empty)) ∙ has_of_pairs fin.empty q ∙ ap (λ (o : Option ℤ). is_same o q.0) (fin.get-empty bytes_cmp q.1))))
 
 -- the pairs of entries, sorted, are the whole listing
-pub sorted_is_whole : {A : Type 0} (es : List (Entry A)) (rows sorted : List Shown) → IsDistinct same_bytes (keys_of es) → pairs_of rows ≡ entry_pairs es → IsPermutation rows sorted → IsSorted shown_cmp sorted
+pub sorted_is_whole : (es : List Entry) (rows sorted : List Shown) → IsDistinct same_bytes (keys_of es) → pairs_of rows ≡ entry_pairs es → IsPermutation rows sorted → IsSorted shown_cmp sorted
     → pairs_of sorted ≡ whole (members_by current_score es)
 sorted_is_whole es rows sorted apart is moved up =
     let bytes_apart = distinct_bytes es apart in
@@ -305,15 +302,15 @@ len_marks (p ∷ ps) d =
     none_like p [] h = refl
     none_like p (x ∷ ps) h = ap (λ b. b || list_any (is_pair p) ps) h.0 ∙ none_like p ps h.1
 
-entry_pairs_step : {A : Type 0} (es : List (Entry A)) (i : ℕ) (e : Entry A) → slice_get es i ≡ Some e → entry_pairs (drop i es) ≡ (current_score e.1, e.0.items) ∷ entry_pairs (drop (suc i) es)
+entry_pairs_step : (es : List Entry) (i : ℕ) (e : Entry) → slice_get es i ≡ Some e → entry_pairs (drop i es) ≡ (current_score e.1, e.0) ∷ entry_pairs (drop (suc i) es)
 entry_pairs_step [] i e h = cc
-entry_pairs_step {A = A} (x ∷ es) zero e h =
+entry_pairs_step (x ∷ es) zero e h =
     let same : x ≡ e = cc in
-    ap (λ (y : Entry A). (current_score y.1, y.0.items) ∷ entry_pairs es) same
+    ap (λ (y : Entry). (current_score y.1, y.0) ∷ entry_pairs es) same
 entry_pairs_step (x ∷ es) (suc i) e h = entry_pairs_step es i e h
 
 -- a loop's step
-pub rows_step : {A : Type 0} (es : List (Entry A)) (i : ℕ) (e : Entry A) (done more : List Shown) (x : Shown) → slice_get es i ≡ Some e → pair_of x ≡ (current_score e.1, e.0.items) → more ≡ done ++ x ∷ []
+pub rows_step : (es : List Entry) (i : ℕ) (e : Entry) (done more : List Shown) (x : Shown) → slice_get es i ≡ Some e → pair_of x ≡ (current_score e.1, e.0) → more ≡ done ++ x ∷ []
     → pairs_of done ++ entry_pairs (drop i es) ≡ entry_pairs es → pairs_of more ++ entry_pairs (drop (i + 1) es) ≡ entry_pairs es
 rows_step es i e done more x at same pushed all =
     let rest = entry_pairs (drop (suc i) es) in

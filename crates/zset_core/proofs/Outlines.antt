@@ -206,92 +206,91 @@ gathered_outline m n names count is gone rest =
     removed_outline m n count (λ q there. within_removed m names q (ap (λ (x : Members). fin.contains_key x q) gone ∙ there)) (ap (λ k. k + fin.len n) is ∙ rest)
     (λ zero'. sym gone ∙ none_gone m names (sym is ∙ zero'))
 
-module _ {A : Type 0} where
-  -- a place fewer, where the entry there does not wait
-  pub IsWaiting-skip : (ps : List ℕ) (i : ℕ) (es : List (Entry A)) → i < length ps → IfSome (slice_get es (get_or ps i 0)) Stays → IsWaiting (drop i ps) es → IsWaiting (drop (i + 1) ps) es
-  IsWaiting-skip ps i es lt stays old = subst (λ j. IsWaiting (drop j ps) es) (sym (add-one i)) (tail (get_or ps i 0) (drop (suc i) ps) stays (subst (λ (qs : List ℕ). IsWaiting qs es) (drop-cons ps i 0 lt) old))
-    where
-      tail : (p : ℕ) (qs : List ℕ) → IfSome (slice_get es p) Stays → IsWaiting (p ∷ qs) es → IsWaiting qs es
-      tail p qs stays w = record { within = w.within.1; settled = λ j h. by j h (nat_eq p j) refl }
-        where
-          by : (j : ℕ) → list_any (λ p. nat_eq p j) qs ≡ false → (b : Bool) → nat_eq p j ≡ b → IfSome (slice_get es j) Stays
-          by j h true e = let at : p ≡ j = grind (arith, nat_tests) in subst (λ k. IfSome (slice_get es k) Stays) at stays
-          by j h false e = w.settled j (ap (λ b. b || list_any (λ p. nat_eq p j) qs) e ∙ h)
+-- a place fewer, where the entry there does not wait
+pub IsWaiting-skip : (ps : List ℕ) (i : ℕ) (es : List Entry) → i < length ps → IfSome (slice_get es (get_or ps i 0)) Stays → IsWaiting (drop i ps) es → IsWaiting (drop (i + 1) ps) es
+IsWaiting-skip ps i es lt stays old = subst (λ j. IsWaiting (drop j ps) es) (sym (add-one i)) (tail (get_or ps i 0) (drop (suc i) ps) stays (subst (λ (qs : List ℕ). IsWaiting qs es) (drop-cons ps i 0 lt) old))
+  where
+    tail : (p : ℕ) (qs : List ℕ) → IfSome (slice_get es p) Stays → IsWaiting (p ∷ qs) es → IsWaiting qs es
+    tail p qs stays w = record { within = w.within.1; settled = λ j h. by j h (nat_eq p j) refl }
+      where
+        by : (j : ℕ) → list_any (λ p. nat_eq p j) qs ≡ false → (b : Bool) → nat_eq p j ≡ b → IfSome (slice_get es j) Stays
+        by j h true e = let at : p ≡ j = grind (arith, nat_tests) in subst (λ k. IfSome (slice_get es k) Stays) at stays
+        by j h false e = w.settled j (ap (λ b. b || list_any (λ p. nat_eq p j) qs) e ∙ h)
 
-  -- an entry that waits for another score makes two sets
-  pub moved_apart : (es : List (Entry A)) (i : ℕ) (s : ScoreSlot) → IsDistinct same_bytes (keys_of es) → slice_get (values_of es) i ≡ Some s → (s.staged ≡ s.current → ⊥) → members_by staged_score es ≡ members_by current_score es → ⊥
-  moved_apart es i s apart at ne same = by (slice_get es i) refl (sym (slice_get-map (λ (e : Entry A). e.1) es i) ∙ at)
-    where
-      by : (o : Option (Entry A)) → slice_get es i ≡ o → option_map (λ (e : Entry A). e.1) o ≡ Some s → ⊥
-      by None is h = cc
-      by (Some e) is h =
-          let slot : e.1 ≡ s = cc in
-          let here : slot_at es e.0.items ≡ Some e.1 = lookup_from_place same_equiv es i e.0 e.1 apart is in
-          let both : ◌≡◌ {A = Option ℤ} (Some e.1.staged) (Some e.1.current) =
-          ap (option_map staged_score) (sym here) ∙ sym (get_members staged_score es e.0.items) ∙ ap (λ (m : Members). fin.get m e.0.items) same ∙ get_members current_score es e.0.items ∙ ap (option_map current_score) here in
-          let scores : e.1.staged ≡ e.1.current = cc in
-          ne (sym (ap (λ (x : ScoreSlot). x.staged) slot) ∙ scores ∙ ap (λ (x : ScoreSlot). x.current) slot)
+-- an entry that waits for another score makes two sets
+pub moved_apart : (es : List Entry) (i : ℕ) (s : ScoreSlot) → IsDistinct same_bytes (keys_of es) → slice_get (values_of es) i ≡ Some s → (s.staged ≡ s.current → ⊥) → members_by staged_score es ≡ members_by current_score es → ⊥
+moved_apart es i s apart at ne same = by (slice_get es i) refl (sym (slice_get-map (λ (e : Entry). e.1) es i) ∙ at)
+  where
+    by : (o : Option Entry) → slice_get es i ≡ o → option_map (λ (e : Entry). e.1) o ≡ Some s → ⊥
+    by None is h = cc
+    by (Some e) is h =
+        let slot : e.1 ≡ s = cc in
+        let here : slot_at es e.0 ≡ Some e.1 = lookup_from_place same_equiv es i e.0 e.1 apart is in
+        let both : ◌≡◌ {A = Option ℤ} (Some e.1.staged) (Some e.1.current) =
+        ap (option_map staged_score) (sym here) ∙ sym (get_members staged_score es e.0) ∙ ap (λ (m : Members). fin.get m e.0) same ∙ get_members current_score es e.0 ∙ ap (option_map current_score) here in
+        let scores : e.1.staged ≡ e.1.current = cc in
+        ne (sym (ap (λ (x : ScoreSlot). x.staged) slot) ∙ scores ∙ ap (λ (x : ScoreSlot). x.current) slot)
 
-  pub stays_at : (es : List (Entry A)) (i : ℕ) (s : ScoreSlot) → slice_get (values_of es) i ≡ Some s → s.staged ≡ s.current → IfSome (slice_get es i) Stays
-  stays_at es i s at same = by (slice_get es i) (sym (slice_get-map (λ (e : Entry A). e.1) es i) ∙ at)
-    where
-      by : (o : Option (Entry A)) → option_map (λ (e : Entry A). e.1) o ≡ Some s → IfSome o Stays
-      by None h = tt
-      by (Some e) h = let slot : e.1 ≡ s = cc in ap (λ (x : ScoreSlot). x.staged) slot ∙ same ∙ sym (ap (λ (x : ScoreSlot). x.current) slot)
+pub stays_at : (es : List Entry) (i : ℕ) (s : ScoreSlot) → slice_get (values_of es) i ≡ Some s → s.staged ≡ s.current → IfSome (slice_get es i) Stays
+stays_at es i s at same = by (slice_get es i) (sym (slice_get-map (λ (e : Entry). e.1) es i) ∙ at)
+  where
+    by : (o : Option Entry) → option_map (λ (e : Entry). e.1) o ≡ Some s → IfSome o Stays
+    by None h = tt
+    by (Some e) h = let slot : e.1 ≡ s = cc in ap (λ (x : ScoreSlot). x.staged) slot ∙ same ∙ sym (ap (λ (x : ScoreSlot). x.current) slot)
 
-  -- ---- what ZADD staged
-  abbrev pub before : List (Entry A) → ℕ → Members
-  before es kept = members_by current_score (take kept es)
+-- ---- what ZADD staged
+abbrev pub before : List Entry → ℕ → Members
+before es kept = members_by current_score (take kept es)
 
-  still_there : (es : List (Entry A)) (kept : ℕ) (q : List ℕ) → fin.contains_key (before es kept) q ≡ true → fin.contains_key (members_by staged_score es) q ≡ true
-  still_there es kept q there =
-      ap is_some (get_members staged_score es q) ∙ by (nat_lt (position_or_len (λ k. bytes_eq q k.items) (keys_of es)) kept) (slot_at es q)
-      (sym (ap is_some (get_members current_score (take kept es) q ∙ ap (option_map current_score) (lookup_take (λ k. bytes_eq q k.items) es kept))) ∙ there)
-    where
-      by : (b : Bool) (o : Option ScoreSlot) → is_some (option_map current_score (cond b o None)) ≡ true → is_some (option_map staged_score o) ≡ true
-      by true None h = h
-      by true (Some s) h = refl
-      by false o h = cc
+still_there : (es : List Entry) (kept : ℕ) (q : List ℕ) → fin.contains_key (before es kept) q ≡ true → fin.contains_key (members_by staged_score es) q ≡ true
+still_there es kept q there =
+    ap is_some (get_members staged_score es q) ∙ by (nat_lt (position_or_len (λ k. bytes_eq q k) (keys_of es)) kept) (slot_at es q)
+    (sym (ap is_some (get_members current_score (take kept es) q ∙ ap (option_map current_score) (lookup_take (λ k. bytes_eq q k) es kept))) ∙ there)
+  where
+    by : (b : Bool) (o : Option ScoreSlot) → is_some (option_map current_score (cond b o None)) ≡ true → is_some (option_map staged_score o) ≡ true
+    by true None h = h
+    by true (Some s) h = refl
+    by false o h = cc
 
-  len_before : (es : List (Entry A)) (kept : ℕ) → IsDistinct same_bytes (keys_of es) → kept ≤ length es → fin.len (before es kept) ≡ kept
-  len_before es kept apart le =
-      len_members current_score (take kept es) (subst (IsDistinct same_bytes) (sym (keys_of-take kept es)) (distinct-take same_equiv kept (keys_of es) apart)) ∙ length_take kept es le
+len_before : (es : List Entry) (kept : ℕ) → IsDistinct same_bytes (keys_of es) → kept ≤ length es → fin.len (before es kept) ≡ kept
+len_before es kept apart le =
+    len_members current_score (take kept es) (subst (IsDistinct same_bytes) (sym (keys_of-take kept es)) (distinct-take same_equiv kept (keys_of es) apart)) ∙ length_take kept es le
 
-  pub staged_outline : (es : List (Entry A)) (kept len added : ℕ) (changed : Bool) → IsDistinct same_bytes (keys_of es) → kept ≤ length es → len ≡ length es → added ≡ len - kept
-      → (changed ≡ true → members_by staged_score es ≢ before es kept) → (changed ≡ false → members_by staged_score es ≡ before es kept)
-      → IsOutline (record { added = added; removed = 0; changed = changed }) (before es kept) (members_by staged_score es)
-  staged_outline es kept len added changed apart le is count other same = record {
-    added = count_of (missing (before es kept) (members_by staged_score es)) (fin.len (before es kept)) (fin.len (members_by staged_score es))
-        (missing_within (before es kept) (members_by staged_score es) (still_there es kept)) (len_before es kept apart le) (len_members staged_score es apart);
-    removed = missing_none (members_by staged_score es) (before es kept) (still_there es kept);
-    changed = by changed other same;
-    sums = more (fin.len (before es kept)) (fin.len (members_by staged_score es)) (len_before es kept apart le) (len_members staged_score es apart);
-    one_way = inr refl;
-  }
-    where
-      more : (a b : ℕ) → a ≡ kept → b ≡ length es → b + 0 ≡ a + added
-      more a b i j = omega arith
+pub staged_outline : (es : List Entry) (kept len added : ℕ) (changed : Bool) → IsDistinct same_bytes (keys_of es) → kept ≤ length es → len ≡ length es → added ≡ len - kept
+    → (changed ≡ true → members_by staged_score es ≢ before es kept) → (changed ≡ false → members_by staged_score es ≡ before es kept)
+    → IsOutline (record { added = added; removed = 0; changed = changed }) (before es kept) (members_by staged_score es)
+staged_outline es kept len added changed apart le is count other same = record {
+  added = count_of (missing (before es kept) (members_by staged_score es)) (fin.len (before es kept)) (fin.len (members_by staged_score es))
+      (missing_within (before es kept) (members_by staged_score es) (still_there es kept)) (len_before es kept apart le) (len_members staged_score es apart);
+  removed = missing_none (members_by staged_score es) (before es kept) (still_there es kept);
+  changed = by changed other same;
+  sums = more (fin.len (before es kept)) (fin.len (members_by staged_score es)) (len_before es kept apart le) (len_members staged_score es apart);
+  one_way = inr refl;
+}
+  where
+    more : (a b : ℕ) → a ≡ kept → b ≡ length es → b + 0 ≡ a + added
+    more a b i j = omega arith
 
-      count_of : (m a b : ℕ) → m + a ≡ b → a ≡ kept → b ≡ length es → added ≡ m
-      count_of m a b h i j = omega arith
+    count_of : (m a b : ℕ) → m + a ≡ b → a ≡ kept → b ≡ length es → added ≡ m
+    count_of m a b h i j = omega arith
 
-      by : (c : Bool) → (c ≡ true → members_by staged_score es ≢ before es kept) → (c ≡ false → members_by staged_score es ≡ before es kept) → IsTrue c ↔ (members_by staged_score es ≢ before es kept)
-      by true o s = (λ _. o refl, λ _. refl)
-      by false o s = (λ h. absurd (true≢false (sym h)), λ ne. absurd (ne (s refl)))
+    by : (c : Bool) → (c ≡ true → members_by staged_score es ≢ before es kept) → (c ≡ false → members_by staged_score es ≡ before es kept) → IsTrue c ↔ (members_by staged_score es ≢ before es kept)
+    by true o s = (λ _. o refl, λ _. refl)
+    by false o s = (λ h. absurd (true≢false (sym h)), λ ne. absurd (ne (s refl)))
 
-  -- with more entries the set is another one
-  pub grown_apart : (es : List (Entry A)) (kept : ℕ) → IsDistinct same_bytes (keys_of es) → kept < length es → members_by staged_score es ≡ before es kept → ⊥
-  grown_apart es kept apart lt same =
-      let a : fin.len (members_by staged_score es) ≡ fin.len (before es kept) = ap fin.len same in
-      let b : fin.len (members_by staged_score es) ≡ length es = len_members staged_score es apart in
-      let d : fin.len (before es kept) ≡ kept = len_before es kept apart (omega arith) in
-      absurd (omega arith)
+-- with more entries the set is another one
+pub grown_apart : (es : List Entry) (kept : ℕ) → IsDistinct same_bytes (keys_of es) → kept < length es → members_by staged_score es ≡ before es kept → ⊥
+grown_apart es kept apart lt same =
+    let a : fin.len (members_by staged_score es) ≡ fin.len (before es kept) = ap fin.len same in
+    let b : fin.len (members_by staged_score es) ≡ length es = len_members staged_score es apart in
+    let d : fin.len (before es kept) ≡ kept = len_before es kept apart (omega arith) in
+    absurd (omega arith)
 
-  -- and with no more it is the one that the entries hold
-  pub before_all : (es : List (Entry A)) (kept : ℕ) → kept ≡ length es → before es kept ≡ members_by current_score es
-  before_all es kept all = ap (λ (l : List (Entry A)). members_by current_score l) (ap (λ n. take n es) all ∙ take-length es)
+-- and with no more it is the one that the entries hold
+pub before_all : (es : List Entry) (kept : ℕ) → kept ≡ length es → before es kept ≡ members_by current_score es
+before_all es kept all = ap (λ (l : List Entry). members_by current_score l) (ap (λ n. take n es) all ∙ take-length es)
 
-  -- the front of what was staged is the set that was there
-  pub before_grown : (old new : List (Entry A)) (kept : ℕ) → kept ≡ length old → Grows old new → before new kept ≡ members_by current_score old
-  before_grown old new kept is grows =
-      ap (λ (rows : List (List ℕ × ℤ)). fin.from_entries rows) (rows_take current_score kept new ∙ ap (λ n. take n (rows_by current_score new)) is ∙ grows.front)
+-- the front of what was staged is the set that was there
+pub before_grown : (old new : List Entry) (kept : ℕ) → kept ≡ length old → Grows old new → before new kept ≡ members_by current_score old
+before_grown old new kept is grows =
+    ap (λ (rows : List (List ℕ × ℤ)). fin.from_entries rows) (rows_take current_score kept new ∙ ap (λ n. take n (rows_by current_score new)) is ∙ grows.front)

@@ -64,27 +64,27 @@ keys_of-take (suc n) [] = refl
 keys_of-take (suc n) (e ∷ es) = ap (λ ks. e.0 ∷ ks) (keys_of-take n es)
 
 module _ {A : Type 0} where
-  pub members_kept : (es : List (Entry A)) (c : ColumnState) (p : Option (Prepared A)) (v : SetView) → view_of es c p ≡ v → v.members ≡ members_by current_score (take (kept_of es p) es)
-  members_kept es c None v is = sym (ap (λ w. w.members) is) ∙ ap (λ (l : List (Entry A)). members_by current_score l) (sym (take-length es))
+  pub members_kept : (es : List Entry) (c : ColumnState) (p : Option (Prepared A)) (v : SetView) → view_of es c p ≡ v → v.members ≡ members_by current_score (take (kept_of es p) es)
+  members_kept es c None v is = sym (ap (λ w. w.members) is) ∙ ap (λ (l : List Entry). members_by current_score l) (sym (take-length es))
   members_kept es c (Some q) v is = sym (ap (λ w. w.members) is) ∙ ap (λ (rows : List (List ℕ × ℤ)). fin.from_entries rows) (sym (rows_take current_score q.plan.draft.kept es))
 
-  pub kept_within : (es : List (Entry A)) (p : Option (Prepared A)) (c : ColumnState) → IsSound es c p → kept_of es p ≤ length es
+  pub kept_within : (es : List Entry) (p : Option (Prepared A)) (c : ColumnState) → IsSound es c p → kept_of es p ≤ length es
   kept_within es None c s = omega arith
   kept_within es (Some q) c s = s.kept
 
-  pub len_kept : (es : List (Entry A)) (c : ColumnState) (p : Option (Prepared A)) (v : SetView) → view_of es c p ≡ v → IsSound es c p → IsDistinct same_bytes (keys_of es) → kept_of es p ≡ fin.len v.members
+  pub len_kept : (es : List Entry) (c : ColumnState) (p : Option (Prepared A)) (v : SetView) → view_of es c p ≡ v → IsSound es c p → IsDistinct same_bytes (keys_of es) → kept_of es p ≡ fin.len v.members
   len_kept es c p v is sound apart =
       let apart_front : IsDistinct same_bytes (keys_of (take (kept_of es p) es)) = subst (IsDistinct same_bytes) (sym (keys_of-take (kept_of es p) es)) (distinct-take same_equiv (kept_of es p) (keys_of es) apart) in
       sym (ap fin.len (members_kept es c p v is) ∙ len_members current_score (take (kept_of es p) es) apart_front ∙ length_take (kept_of es p) es (kept_within es p c sound))
 
-  pub score_kept : (es : List (Entry A)) (c : ColumnState) (p : Option (Prepared A)) (v : SetView) (q : List ℕ) (n : ℕ) → view_of es c p ≡ v → n ≡ kept_of es p → option_map current_score (slot_at (take n es) q) ≡ fin.get v.members q
+  pub score_kept : (es : List Entry) (c : ColumnState) (p : Option (Prepared A)) (v : SetView) (q : List ℕ) (n : ℕ) → view_of es c p ≡ v → n ≡ kept_of es p → option_map current_score (slot_at (take n es) q) ≡ fin.get v.members q
   score_kept es c p v q n is at = sym (get_members current_score (take n es) q) ∙ ap (λ k. fin.get (members_by current_score (take k es)) q) at ∙ sym (ap (λ m. fin.get m q) (members_kept es c p v is))
 
-  pub slot_nowhere : (es : List (Entry A)) (q : List ℕ) (n : ℕ) → slot_at es q ≡ None → slot_at (take n es) q ≡ None
-  slot_nowhere es q n absent = lookup_nowhere (λ k. bytes_eq q k.items) es n absent
+pub slot_nowhere : (es : List Entry) (q : List ℕ) (n : ℕ) → slot_at es q ≡ None → slot_at (take n es) q ≡ None
+slot_nowhere es q n absent = lookup_nowhere (λ k. bytes_eq q k) es n absent
 
-  pub slot_early : (es : List (Entry A)) (q : List ℕ) (n i : ℕ) (s : ScoreSlot) → position (λ k. bytes_eq q k.items) (keys_of es) ≡ Some i → slot_at es q ≡ Some s → i < n → slot_at (take n es) q ≡ Some s
-  slot_early es q n i s at is lt = lookup_before (λ k. bytes_eq q k.items) es n i (Some s) at is lt
+pub slot_early : (es : List Entry) (q : List ℕ) (n i : ℕ) (s : ScoreSlot) → position (λ k. bytes_eq q k) (keys_of es) ≡ Some i → slot_at es q ≡ Some s → i < n → slot_at (take n es) q ≡ Some s
+slot_early es q n i s at is lt = lookup_before (λ k. bytes_eq q k) es n i (Some s) at is lt
 
-  pub slot_late : (es : List (Entry A)) (q : List ℕ) (n i : ℕ) → position (λ k. bytes_eq q k.items) (keys_of es) ≡ Some i → n ≤ i → slot_at (take n es) q ≡ None
-  slot_late es q n i at le = lookup_past (λ k. bytes_eq q k.items) es n i at le
+pub slot_late : (es : List Entry) (q : List ℕ) (n i : ℕ) → position (λ k. bytes_eq q k) (keys_of es) ≡ Some i → n ≤ i → slot_at (take n es) q ≡ None
+slot_late es q n i at le = lookup_past (λ k. bytes_eq q k) es n i at le

@@ -23,29 +23,29 @@ not_none n e = cc
 
 module _ {A : Type 0} where
   -- a plan was made from the entries, whatever its commit leaves and replies
-  pub Prepares-some : (old new : List (Entry A)) (plan : Plan A) (o : Option (Members × Response)) → Plans old new plan o → (done : Members × Response) × Prepares old new plan done.0 done.1
+  pub Prepares-some : (old new : List Entry) (plan : Plan A) (o : Option (Members × Response)) → Plans old new plan o → (done : Members × Response) × Prepares old new plan done.0 done.1
   Prepares-some old new plan None h = absurd h
   Prepares-some old new plan (Some done) h = (done, h)
 
-  pub IsIdle-of : (es : List (Entry A)) (c : ColumnState) (p : Option (Prepared A)) (v : SetView) → view_of es c p ≡ v → v.next ≡ None → IsSound es c p → IsIdle es c
+  pub IsIdle-of : (es : List Entry) (c : ColumnState) (p : Option (Prepared A)) (v : SetView) → view_of es c p ≡ v → v.next ≡ None → IsSound es c p → IsIdle es c
   IsIdle-of es c None v is idle s = s
   IsIdle-of es c (Some q) v is idle s =
       let shown : Some (next_of es q) ≡ v.next = ap (λ (w : SetView). w.next) is in
       absurd (not_none (next_of es q) (shown ∙ idle))
 
-  pub members_idle : (es : List (Entry A)) (c : ColumnState) (p : Option (Prepared A)) (v : SetView) → view_of es c p ≡ v → v.next ≡ None → members_by current_score es ≡ v.members
+  pub members_idle : (es : List Entry) (c : ColumnState) (p : Option (Prepared A)) (v : SetView) → view_of es c p ≡ v → v.next ≡ None → members_by current_score es ≡ v.members
   members_idle es c None v is idle = ap (λ (w : SetView). w.members) is
   members_idle es c (Some q) v is idle =
       let shown : Some (next_of es q) ≡ v.next = ap (λ (w : SetView). w.next) is in
       absurd (not_none (next_of es q) (shown ∙ idle))
 
-  pub outline_left : (old new : List (Entry A)) (plan : Plan A) (o : Option (Members × Response)) (m : Members) → members_by current_score old ≡ m → Plans old new plan o → IsOutline plan.outline m (left_by new plan)
+  pub outline_left : (old new : List Entry) (plan : Plan A) (o : Option (Members × Response)) (m : Members) → members_by current_score old ≡ m → Plans old new plan o → IsOutline plan.outline m (left_by new plan)
   outline_left old new plan o m is h =
       let p = (Prepares-some old new plan o h).1 in
       subst (λ (k : Members). IsOutline plan.outline k (left_by new plan)) is (subst (IsOutline plan.outline (members_by current_score old)) (sym p.members_are) p.outline_is)
 
   -- no more members come in than there are edits
-  pub few_added : (old new : List (Entry A)) (plan : Plan A) (o : Option (Members × Response)) → Plans old new plan o → plan.outline.added ≤ most_edits
+  pub few_added : (old new : List Entry) (plan : Plan A) (o : Option (Members × Response)) → Plans old new plan o → plan.outline.added ≤ most_edits
   few_added old new plan o h =
       let s = Prepares-some old new plan o h in
       let p = s.1 in
@@ -63,22 +63,22 @@ module _ {A : Type 0} where
   pub room_fits : (old new : ColumnState) (plan : Plan A) (n room : ℕ) → NeedsAtMost n plan → (most_pending old + max (rows_coming plan) (rows_leaving plan) ≤ room → IsUnchanged old new) → most_pending old + n ≤ room → IsUnchanged old new
   room_fits old new plan n room most still fits = still (omega (arith, most.coming, most.leaving, fits))
 
-  pub column_shown : (es : List (Entry A)) (c : ColumnState) (p : Option (Prepared A)) (v : SetView) → view_of es c p ≡ v → c ≡ v.column
+  pub column_shown : (es : List Entry) (c : ColumnState) (p : Option (Prepared A)) (v : SetView) → view_of es c p ≡ v → c ≡ v.column
   column_shown es c None v is = ap (λ (w : SetView). w.column) is
   column_shown es c (Some q) v is = ap (λ (w : SetView). w.column) is
 
   -- the content is the bag of the members that show
-  pub Holds-shown : (es : List (Entry A)) (c : ColumnState) (p : Option (Prepared A)) (v : SetView) → view_of es c p ≡ v → IsSound es c p → Holds v.column (pairs v.members)
+  pub Holds-shown : (es : List Entry) (c : ColumnState) (p : Option (Prepared A)) (v : SetView) → view_of es c p ≡ v → IsSound es c p → Holds v.column (pairs v.members)
   Holds-shown es c None v is s = subst (λ (w : SetView). Holds w.column (pairs w.members)) is s.content
   Holds-shown es c (Some q) v is s = subst (λ (w : SetView). Holds w.column (pairs w.members)) is s.content
 
-  pub IsPlanned-of : (es : List (Entry A)) (c : ColumnState) (p : Option (Prepared A)) (q : Prepared A) → Some q ≡ p → IsSound es c p → IsPlanned es c q.asked.value.meaning q.plan
+  pub IsPlanned-of : (es : List Entry) (c : ColumnState) (p : Option (Prepared A)) (q : Prepared A) → Some q ≡ p → IsSound es c p → IsPlanned es c q.asked.value.meaning q.plan
   IsPlanned-of es c p q is s = subst (IsSound es c) (sym is) s
 
-  pub IsSound-none : (es : List (Entry A)) (c : ColumnState) (p : Option (Prepared A)) → p ≡ None → IsIdle es c → IsSound es c p
+  pub IsSound-none : (es : List Entry) (c : ColumnState) (p : Option (Prepared A)) → p ≡ None → IsIdle es c → IsSound es c p
   IsSound-none es c p is s = subst (IsSound es c) (sym is) s
 
-  pub IsPlanned-made : (old new : List (Entry A)) (c c' : ColumnState) (meaning : Meaning) (plan : Plan A) (o : Option (Members × Response)) → IsIdle old c → Plans old new plan o → SameContent c c'
+  pub IsPlanned-made : (old new : List Entry) (c c' : ColumnState) (meaning : Meaning) (plan : Plan A) (o : Option (Members × Response)) → IsIdle old c → Plans old new plan o → SameContent c c'
       → IsReadyForPlan c' plan → plan.range ≡ range_to_remove meaning → IsPlanned new c' meaning plan
   IsPlanned-made old new c c' meaning plan o idle h content ready range =
       let done = (Prepares-some old new plan o h).0 in
@@ -95,7 +95,7 @@ module _ {A : Type 0} where
       }
 
   -- once the plan is let go
-  pub IsIdle-discard : (es new : List (Entry A)) (c : ColumnState) (meaning : Meaning) (plan : Plan A) → IsPlanned es c meaning plan → rows_by current_score new ≡ take plan.draft.kept (rows_by current_score es) → IsSettled new → IsIdle new c
+  pub IsIdle-discard : (es new : List Entry) (c : ColumnState) (meaning : Meaning) (plan : Plan A) → IsPlanned es c meaning plan → rows_by current_score new ≡ take plan.draft.kept (rows_by current_score es) → IsSettled new → IsIdle new c
   IsIdle-discard es new c meaning plan p is settled = record {
     settled = settled;
     content = λ t. p.content t ∙ ap (λ (rows : List (List ℕ × ℤ)). count_by t (pairs (fin.from_entries rows))) (sym is);
@@ -121,5 +121,5 @@ Holds-empty c m none rows insertions p =
     let b : count_by p c.insertions ≡ 0 = ap (count_by p) insertions in
     omega (arith, no_pairs, a, b)
 
-pub IsIdle-empty : {A : Type 0} (es : List (Entry A)) (c : ColumnState) → es ≡ [] → IsSettled es → c.rows ≡ [] → c.insertions ≡ [] → IsIdle es c
-IsIdle-empty {A} es c none settled rows insertions = record { settled = settled; content = Holds-empty c (members_by current_score es) (ap (λ (l : List (Entry A)). members_by current_score l) none) rows insertions }
+pub IsIdle-empty : (es : List Entry) (c : ColumnState) → es ≡ [] → IsSettled es → c.rows ≡ [] → c.insertions ≡ [] → IsIdle es c
+IsIdle-empty es c none settled rows insertions = record { settled = settled; content = Holds-empty c (members_by current_score es) (ap (λ (l : List Entry). members_by current_score l) none) rows insertions }

@@ -20,5 +20,5 @@ abbrev pub shown_cmp : Shown → Shown → Ordering
 shown_cmp a b = pair_cmp (pair_of a) (pair_of b)
 
 -- the pairs of entries, in the entries' order
-abbrev pub entry_pairs : {A : Type 0} → List (Entry A) → List Pair
-entry_pairs {A} entries = map (λ (e : Entry A). (current_score e.1, e.0.items)) entries
+abbrev pub entry_pairs : List Entry → List Pair
+entry_pairs entries = map (λ (e : Entry). (current_score e.1, e.0)) entries

@@ -15,11 +15,11 @@ without_given None members = members
 without_given (Some range) members = without_range range members
 
 -- the set once the members that a plan names came, moved and left
-abbrev pub edited_by : {A : Type 0} → List (Entry A) → Plan A → Members
+abbrev pub edited_by : {A : Type 0} → List Entry → Plan A → Members
 edited_by entries plan = remove_all (members_by staged_score entries) (names_at entries plan.removed.keys)
 
 -- the set that a commit leaves
-abbrev pub left_by : {A : Type 0} → List (Entry A) → Plan A → Members
+abbrev pub left_by : {A : Type 0} → List Entry → Plan A → Members
 left_by entries plan = without_given plan.range (edited_by entries plan)
 
 -- how many rows a plan's commit puts among the pending insertions at most, and among the pending deletions
@@ -35,7 +35,7 @@ pub record NeedsAtMost {A : Type 0} (most : ℕ) (plan : Plan A) : Type 0 where
   pub leaving : rows_leaving plan ≤ most
 
 -- from the old entries a plan was made whose commit leaves a set and gives a reply
-pub record Prepares {A : Type 0} (old new : List (Entry A)) (plan : Plan A) (members : Members) (reply : Response) : Type 0 where
+pub record Prepares {A : Type 0} (old new : List Entry) (plan : Plan A) (members : Members) (reply : Response) : Type 0 where
   pub kept : plan.draft.kept ≡ length old
   pub grows : Grows old new
   pub waiting : IsWaiting plan.draft.touched.items new
@@ -47,6 +47,6 @@ pub record Prepares {A : Type 0} (old new : List (Entry A)) (plan : Plan A) (mem
   pub outline_is : IsOutline plan.outline (members_by current_score old) members
 
 -- the same of what a command makes of a set; no plan is made where it is refused
-abbrev pub Plans : {A : Type 0} → List (Entry A) → List (Entry A) → Plan A → Option (Members × Response) → Type 0
+abbrev pub Plans : {A : Type 0} → List Entry → List Entry → Plan A → Option (Members × Response) → Type 0
 Plans old new plan None = ⊥
 Plans old new plan (Some done) = Prepares old new plan done.0 done.1

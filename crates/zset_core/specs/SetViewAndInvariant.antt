@@ -13,15 +13,15 @@ use Rattle.zset_core.specs.declared.set.plan.Plan.{Plan}
 use Rattle.zset_core.specs.SetAndOwnerViews.{SetView, Next}
 use Rattle.zset_core.specs.declared.set.Prepared.{Prepared}
 
-abbrev pub next_of : {A : Type 0} → List (Entry A) → Prepared A → Next
+abbrev pub next_of : {A : Type 0} → List Entry → Prepared A → Next
 next_of entries p = record { meaning = p.asked.value.meaning; members = left_by entries p.plan; reply = response_of p.plan.reply }
 
-abbrev pub view_of : {A : Type 0} → List (Entry A) → ColumnState → Option (Prepared A) → SetView
+abbrev pub view_of : {A : Type 0} → List Entry → ColumnState → Option (Prepared A) → SetView
 view_of entries column None = record { members = members_by current_score entries; next = None; column = column }
 view_of entries column (Some p) = record { members = fin.from_entries (take p.plan.draft.kept (rows_by current_score entries)); next = Some (next_of entries p); column = column }
 
 -- a set with nothing prepared: the content of its column is the bag of the members' pairs
-pub record IsIdle {A : Type 0} (entries : List (Entry A)) (column : ColumnState) : Type 0 where
+pub record IsIdle (entries : List Entry) (column : ColumnState) : Type 0 where
   pub settled : IsSettled entries
   pub content : Holds column (pairs (members_by current_score entries))
 
@@ -38,7 +38,7 @@ pub record IsReadyForPlan {A : Type 0} (column : ColumnState) (plan : Plan A) : 
 
 -- a set with a plan for a command: the content is the bag of the pairs from before, and the edits turn it into the bag of those
 -- with the staged scores; the members that leave are taken out of these
-pub record IsPlanned {A : Type 0} (entries : List (Entry A)) (column : ColumnState) (meaning : Meaning) (plan : Plan A) : Type 0 where
+pub record IsPlanned {A : Type 0} (entries : List Entry) (column : ColumnState) (meaning : Meaning) (plan : Plan A) : Type 0 where
   pub kept : plan.draft.kept ≤ length entries
   pub waiting : IsWaiting plan.draft.touched.items entries
   pub content : Holds column (pairs (fin.from_entries (take plan.draft.kept (rows_by current_score entries))))
@@ -48,11 +48,11 @@ pub record IsPlanned {A : Type 0} (entries : List (Entry A)) (column : ColumnSta
   pub range : plan.range ≡ range_to_remove meaning
 
 -- what holds of every set
-abbrev pub IsSound : {A : Type 0} → List (Entry A) → ColumnState → Option (Prepared A) → Type 0
+abbrev pub IsSound : {A : Type 0} → List Entry → ColumnState → Option (Prepared A) → Type 0
 IsSound entries column None = IsIdle entries column
 IsSound entries column (Some p) = IsPlanned entries column p.asked.value.meaning p.plan
 
 -- the number of entries that stand whatever becomes of what is prepared
-abbrev pub kept_of : {A : Type 0} → List (Entry A) → Option (Prepared A) → ℕ
+abbrev pub kept_of : {A : Type 0} → List Entry → Option (Prepared A) → ℕ
 kept_of entries None = length entries
 kept_of entries (Some p) = p.plan.draft.kept

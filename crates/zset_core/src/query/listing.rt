@@ -9,6 +9,7 @@ use crate::score_and_count_replies::score_bytes;
 use crate::set::members_with_staged_scores::MemberMap;
 use crack_kernel::Row;
 use resp_wire::{Bytes, BytesList};
+use short_bytes::ShortBytes;
 use std::alloc::{AllocError, Allocator};
 use std::hash::BuildHasher;
 
@@ -86,7 +87,7 @@ fn rows_of<A: Allocator + Copy>(
 {
     let mut rows = Vec::with_capacity(alloc, pairs.len())?;
     for (score, member) in pairs {
-        rows.push(Row::new(*score, Vec::from_slice(alloc, member)?))?;
+        rows.push(Row::new(*score, ShortBytes::from_slice(alloc, member)?))?;
     }
     Ok(rows)
 }

@@ -11,10 +11,13 @@ ghost use Rattle.resp_wire.specs.Response.{response_of};
 
 use crate::command::given_pairs::GivenPairs;
 use crate::score_and_count_replies::increase_reply;
-use crate::set::members_with_staged_scores::{MemberMap, ScoreSlot, discard_staged, find_slot};
+use crate::set::members_with_staged_scores::{
+    MemberMap, ScoreSlot, discard_staged, find_slot, share_name,
+};
 use crate::set::pair_outcome::{Flags, Outcome};
 use crate::set::row_edits::Edits;
 use resp_wire::Reply;
+use short_bytes::ShortBytes;
 use std::alloc::{AllocError, Allocator};
 use std::hash::BuildHasher;
 
@@ -71,17 +74,19 @@ impl<A: Allocator + Copy> Draft<A> {
             None => {
                 let what = Outcome::of(flags, None, score);
                 if what == Outcome::Added {
-                    put_new(self.alloc, members, member, score)?;
-                    self.edits.add(self.alloc, score, member)?;
+                    let name = put_new(self.alloc, members, member, score)?;
+                    self.edits.add(score, name)?;
                 }
                 Ok(what)
             }
             Some((place, slot)) => {
                 let what = Outcome::of(flags, Some(slot.staged), score);
                 if what == Outcome::Changed {
+                    let before = share_name(members, place)?;
+                    let after = share_name(members, place)?;
                     put_staged(members, &mut self.touched, place, score)?;
-                    self.edits.take(self.alloc, slot.staged, member)?;
-                    self.edits.add(self.alloc, score, member)?;
+                    self.edits.take(slot.staged, before)?;
+                    self.edits.add(score, after)?;
                 }
                 Ok(what)
             }
@@ -161,27 +166,29 @@ impl<A: Allocator + Copy> Draft<A> {
     }
 }
 
-/// A new member goes last.
+/// A new member goes last. Gives it once more, for its row.
 fn put_new<H: BuildHasher, A: Allocator + Copy>(
     alloc: A,
     members: &mut MemberMap<H, A>,
     member: &[u8],
     score: i64,
-) -> Result<(), AllocError>
+) -> Result<ShortBytes<A>, AllocError>
     requires absent { slot_at members.old.entries member.now ≡ None }
+    ensures name { IfOk result (λ name. name ≡ member.now) }
     ensures staged { OnOk result (members_by staged_score members.new.entries
         ≡ map.insert (members_by staged_score members.old.entries) member.now score) }
     ensures grows { Grows members.old.entries members.new.entries }
     ensures waiting { (places : List ℕ) → IsWaiting places members.old.entries
         → IsWaiting places members.new.entries }
 {
-    let key = Vec::from_slice(alloc, member)?;
+    let key = ShortBytes::from_slice(alloc, member)?;
+    let name = key.share()?;
     let slot = ScoreSlot {
         current: score,
         staged: score,
     };
     members.insert(key, slot)?;
-    Ok(())
+    Ok(name)
 }
 
 /// A member that stands at a place gets another score.

@@ -1,16 +1,17 @@
 //! The members of one set, and the scores of each: its own, and the one that is staged for it. Staged
 //! scores are adopted or discarded, and members that leave are taken out.
 
-ghost use Rattle.std.specs.Prelude.{◌≡◌, ◌<◌, ◌^◌, Some, slice_get, option_map, IfSome};
+ghost use Rattle.std.specs.Prelude.{◌≡◌, ◌<◌, ◌^◌, Some, length, slice_get, option_map, IfOk, IfSome};
 ghost use Rattle.std.specs.FinMap as map;
 ghost use Rattle.indexmap.specs.IndexMap.{IsUnique};
-ghost use Rattle.zset_core.specs.MembersWithStagedScores.{current_score, staged_score, rows_by, members_by, slot_at, slots, same_bytes, IsSettled, IsWaiting};
+ghost use Rattle.zset_core.specs.MembersWithStagedScores.{current_score, staged_score, rows_by, members_by, name_at, slot_at, slots, same_bytes, IsSettled, IsWaiting};
 ghost use Rattle.zset_core.specs.SortedSet.{names_of};
 ghost use Rattle.zset_core.specs.Semantics.{remove_all};
 
 use crack_kernel::Row;
 use indexmap::IndexMap;
-use std::alloc::Allocator;
+use short_bytes::ShortBytes;
+use std::alloc::{AllocError, Allocator};
 use std::hash::BuildHasher;
 
 /// The score of a member, and the one that it gets when what is prepared is committed.
@@ -21,7 +22,7 @@ pub struct ScoreSlot {
 }
 
 /// The members of a set by their bytes. Members that a prepared command adds stand last.
-pub type MemberMap<H, A> = IndexMap<Vec<u8, A>, ScoreSlot, H, A>;
+pub type MemberMap<H, A> = IndexMap<ShortBytes<A>, ScoreSlot, H, A>;
 
 /// The place of a member among the entries, with its scores.
 pub fn find_slot<H: BuildHasher, A: Allocator + Copy>(
@@ -39,6 +40,21 @@ pub fn find_slot<H: BuildHasher, A: Allocator + Copy>(
     match members.get_full(member) {
         None => None,
         Some((place, _, slot)) => Some((place, *slot)),
+    }
+}
+
+/// The member at a place, whose bytes stand where the entry has them. It takes no memory.
+pub fn share_name<H: BuildHasher, A: Allocator + Copy>(
+    members: &MemberMap<H, A>,
+    place: usize,
+) -> Result<ShortBytes<A>, AllocError>
+    requires { place < length members.now.entries }
+    ensures { IfOk result (λ name. name ≡ name_at members.now.entries place) }
+{
+    let _count = members.len();
+    match members.get_index(place) {
+        None => unreachable!(),
+        Some((name, _)) => name.share(),
     }
 }
 

@@ -5,6 +5,7 @@ ghost use Rattle.ripple_column.specs.Content.{content_count};
 
 use crack_kernel::Row;
 use ripple_column::Column;
+use short_bytes::ShortBytes;
 use std::alloc::{AllocError, Allocator};
 
 /// Rows that come in and rows that leave. One row may do both.
@@ -27,24 +28,22 @@ impl<A: Allocator + Copy> Edits<A> {
     }
 
     /// A row comes in.
-    pub fn add(&mut self, alloc: A, score: i64, member: &[u8]) -> Result<(), AllocError>
+    pub fn add(&mut self, score: i64, member: ShortBytes<A>) -> Result<(), AllocError>
         ensures coming { OnOk result
-            (self.new.coming.items ≡ self.old.coming.items ++ (score, member.now) ∷ []) }
+            (self.new.coming.items ≡ self.old.coming.items ++ (score, member) ∷ []) }
         ensures leaving { self.new.leaving.items ≡ self.old.leaving.items }
     {
-        let row = Row::new(score, Vec::from_slice(alloc, member)?);
-        self.coming.push(row)?;
+        self.coming.push(Row::new(score, member))?;
         Ok(())
     }
 
     /// A row leaves.
-    pub fn take(&mut self, alloc: A, score: i64, member: &[u8]) -> Result<(), AllocError>
+    pub fn take(&mut self, score: i64, member: ShortBytes<A>) -> Result<(), AllocError>
         ensures leaving { OnOk result
-            (self.new.leaving.items ≡ self.old.leaving.items ++ (score, member.now) ∷ []) }
+            (self.new.leaving.items ≡ self.old.leaving.items ++ (score, member) ∷ []) }
         ensures coming { self.new.coming.items ≡ self.old.coming.items }
     {
-        let row = Row::new(score, Vec::from_slice(alloc, member)?);
-        self.leaving.push(row)?;
+        self.leaving.push(Row::new(score, member))?;
         Ok(())
     }
 }

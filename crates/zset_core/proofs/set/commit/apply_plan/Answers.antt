@@ -10,11 +10,11 @@ use Rattle.zset_core.proofs.Staging.{members_same}
 use Rattle.zset_core.proofs.set.commit.apply_plan.Goals as goal
 
 -- the members once staged scores were adopted
-adopted : {A : Type 0} (old new : List (Entry A)) → rows_by staged_score new ≡ rows_by staged_score old → IsSettled new → members_by current_score new ≡ members_by staged_score old
+adopted : (old new : List Entry) → rows_by staged_score new ≡ rows_by staged_score old → IsSettled new → members_by current_score new ≡ members_by staged_score old
 adopted old new staged settled = sym (members_same new settled) ∙ ap (λ (rows : List (List ℕ × ℤ)). fin.from_entries rows) staged
 
 -- and without those that leave
-without : {A : Type 0} (old new : List (Entry A)) (places : List ℕ) → rows_by staged_score new ≡ rows_by staged_score old → IsSettled new
+without : (old new : List Entry) (places : List ℕ) → rows_by staged_score new ≡ rows_by staged_score old → IsSettled new
     → remove_all (members_by current_score new) (names_at new places) ≡ remove_all (members_by staged_score old) (names_at old places)
 without old new places staged settled =
     ap (λ (m : Members). remove_all m (names_at new places)) (adopted old new staged settled) ∙ ap (remove_all (members_by staged_score old)) (names_same staged_score new old places staged)

@@ -12,8 +12,8 @@ returns-clause-staged g c =
     let key = c.in_ok-key.key in
     let z : ℤ = to_z w64 (of_z w64 c.args.score) in
     let slot : ScoreSlot = record { current = z; staged = z } in
-    one_put staged_score c.args.members.now.entries c.insert.new.self.entries key.items slot (updates_bytes key.items c.args.members.now c.insert.new.self (Some slot) c.in_ok-insert.ensures.updates)
-    ∙ ap (λ k. map.insert (members_by staged_score c.args.members.now.entries) k z) c.in_ok-key.ensures.items
+    one_put staged_score c.args.members.now.entries c.insert.new.self.entries key slot (updates_bytes key c.args.members.now c.insert.new.self (Some slot) c.in_ok-insert.ensures.updates)
+    ∙ ap (λ k. map.insert (members_by staged_score c.args.members.now.entries) k z) c.in_ok-key.ensures.bytes
     ∙ ap (λ s. map.insert (members_by staged_score c.args.members.now.entries) c.args.member.now s) (to_z-of_z c.ranges.score)
 
 pub returns-clause-grows : goal.returns-clause-grows
@@ -22,7 +22,7 @@ returns-clause-grows g c =
     let key = c.in_ok-key.key in
     let z : ℤ = to_z w64 (of_z w64 c.args.score) in
     let slot : ScoreSlot = record { current = z; staged = z } in
-    let absent = ap (slot_at old) c.in_ok-key.ensures.items ∙ c.requires.absent in
+    let absent = ap (slot_at old) c.in_ok-key.ensures.bytes ∙ c.requires.absent in
     subst (Grows old) (sym (c.in_ok-insert.ensures.entries ∙ insert_entry-new same_bytes c.args.members.now key slot absent)) (Grows-push old (key, slot))
 
 pub returns-clause-waiting : goal.returns-clause-waiting
@@ -31,5 +31,5 @@ returns-clause-waiting g c places w =
     let key = c.in_ok-key.key in
     let z : ℤ = to_z w64 (of_z w64 c.args.score) in
     let slot : ScoreSlot = record { current = z; staged = z } in
-    let absent = ap (slot_at old) c.in_ok-key.ensures.items ∙ c.requires.absent in
+    let absent = ap (slot_at old) c.in_ok-key.ensures.bytes ∙ c.requires.absent in
     subst (IsWaiting places) (sym (c.in_ok-insert.ensures.entries ∙ insert_entry-new same_bytes c.args.members.now key slot absent)) (IsWaiting-push places old (key, slot) refl w)

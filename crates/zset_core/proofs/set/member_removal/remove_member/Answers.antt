@@ -13,20 +13,20 @@ delete-requires-clause-there g c =
     let name = c.in-Some.name in
     let slot = c.in-Some.slot in
     let f : SFits w64 slot.current = search rules in
-    let row = c.new.ensures ∙ ap (λ (s : ℤ). (s, name.items)) (to_z-of_z f) in
-    HasRow-of c.args.column.now (members_by current_score es) c.new.result name.items slot.current row
+    let row = c.new.ensures ∙ ap (λ (s : ℤ). (s, name)) (to_z-of_z f) in
+    HasRow-of c.args.column.now (members_by current_score es) c.new.result name slot.current row
     (score_is es c.args.place name slot c.len-count.ensures.unique (sym c.in-Some.ensures.entry)) c.requires.content
 
 pub returns-clause-members : goal.returns-clause-members
 returns-clause-members g c =
     let es = c.args.members.now.entries in
     let name = c.in-Some.name in
-    members_gone current_score name.items c.args.members.now c.swap_remove_index.new.self c.in-Some.ensures.updates
+    members_gone current_score name c.args.members.now c.swap_remove_index.new.self c.in-Some.ensures.updates
     ∙ ap (λ (q : List ℕ). fin.remove (members_by current_score es) q) (sym (name_is es c.args.place name c.in-Some.slot (sym c.in-Some.ensures.entry)))
 
 pub returns-clause-settled : goal.returns-clause-settled
 returns-clause-settled g c =
-    IsSettled-gone c.in-Some.name.items c.args.members.now c.swap_remove_index.new.self c.in-Some.ensures.updates c.swap_remove_index.ensures.unique c.requires.settled
+    IsSettled-gone c.in-Some.name c.args.members.now c.swap_remove_index.new.self c.in-Some.ensures.updates c.swap_remove_index.ensures.unique c.requires.settled
 
 pub returns-clause-before : goal.returns-clause-before
 returns-clause-before g c p before =
@@ -39,8 +39,8 @@ returns-clause-content g c =
     let name = c.in-Some.name in
     let slot = c.in-Some.slot in
     let f : SFits w64 slot.current = search rules in
-    let row = c.new.ensures ∙ ap (λ (s : ℤ). (s, name.items)) (to_z-of_z f) in
-    let gone = members_gone current_score name.items c.args.members.now c.swap_remove_index.new.self c.in-Some.ensures.updates in
+    let row = c.new.ensures ∙ ap (λ (s : ℤ). (s, name)) (to_z-of_z f) in
+    let gone = members_gone current_score name c.args.members.now c.swap_remove_index.new.self c.in-Some.ensures.updates in
     subst (λ (n : Members). Holds c.delete.new.self (pairs n)) (sym gone)
-    (Holds-without c.args.column.now c.delete.new.self m c.new.result name.items slot.current row
+    (Holds-without c.args.column.now c.delete.new.self m c.new.result name slot.current row
     (score_is es c.args.place name slot c.len-count.ensures.unique (sym c.in-Some.ensures.entry)) c.requires.content c.delete.ensures.content)

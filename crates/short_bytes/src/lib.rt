@@ -1,0 +1,9 @@
+//! Byte strings of which short ones stand in place and long ones are shared, so that a set's map and its column keep a
+//! member once.
+#![tactic(auto)]
+
+mod inline;
+mod short_bytes;
+
+pub use inline::IN_PLACE;
+pub use short_bytes::ShortBytes;
