@@ -204,6 +204,20 @@ impl<A: Allocator> Rows<A> {
         }
     }
 
+    /// Moves the fingerprints of the rows before the place `from` to where these rows go when those up to the place `to`
+    /// leave.
+    fn move_front(&mut self, from: usize, to: usize)
+        requires order { from ≤ to }
+        requires within { to ≤ length self.old.items }
+        ensures { self.new ≡ self.old }
+    {
+        let left = self.rows.left();
+        let known = self.fingerprints.len();
+        let run = &mut self.fingerprints[left.min(known)..(left + to).min(known)];
+        let count = (to - from).min(run.len());
+        run.rotate_right(count);
+    }
+
     /// Extends the list of fingerprints to each place that rows can take, in the room that it has. None
     /// is made there yet.
     pub fn extend_fingerprints(&mut self)
@@ -330,8 +344,10 @@ impl<A: Allocator + Copy> Rows<A> {
         requires within { to ≤ length self.old.items }
         ensures { self.new.items ≡ closed_up_rows from to self.old.items }
     {
-        let left = self.rows.left();
-        if from > 0 {
+        if self.rows.moves_front(from, to) {
+            self.move_front(from, to);
+        } else {
+            let left = self.rows.left();
             self.take_out(left + from, left + to);
         }
         self.rows.remove_between(from, to);

@@ -179,15 +179,24 @@ impl<A: Allocator + Copy> FrontRoomRows<A> {
         }
     }
 
-    /// Drops the rows from the place `from` on and before the place `to`. Where none stands before
-    /// them, those behind them keep their places in the vector; else they close up.
+    /// Whether the rows before the place `from` move where those up to the place `to` leave, since they are no more than
+    /// those behind.
+    pub fn moves_front(&self, from: usize, to: usize) -> bool
+        requires { to ≤ length self.now.items }
+    {
+        from <= self.len() - to
+    }
+
+    /// Drops the rows from the place `from` on and before the place `to`. The fewer of those before them and those behind
+    /// them close up; the others keep their places in the vector.
     pub fn remove_between(&mut self, from: usize, to: usize)
         requires order { from ≤ to }
         requires within { to ≤ length self.old.items }
         ensures { self.new.items ≡ closed_up_rows from to self.old.items }
     {
-        if from == 0 {
-            self.remove_first(to);
+        if self.moves_front(from, to) {
+            self.rows[self.left..self.left + to].rotate_left(from);
+            self.remove_first(to - from);
         } else {
             self.rows.drain(self.left + from..self.left + to);
         }

@@ -149,6 +149,9 @@ pub fn merge_all<A: Allocator + Copy>(
     Ok(())
 }
 
+/// From how many rows on there is always room for those that wait to come in.
+const RESERVED_AHEAD_FROM: usize = 1024;
+
 /// Makes room for `n` more rows in each of the two lists of rows that wait. Where one would pass
 /// [`MAX_PENDING`] rows, all that waits is merged first. On Err, the content is unchanged.
 pub fn reserve_write<A: Allocator + Copy>(
@@ -181,5 +184,22 @@ pub fn reserve_write<A: Allocator + Copy>(
         merge_all(cracked, pending)?;
     }
     pending.insertions.reserve(n)?;
-    pending.deletions.reserve(n)
+    pending.deletions.reserve(n)?;
+    reserve_ahead(cracked, pending.insertions.len() + n)
+}
+
+/// Makes room for rows that wait to come in among many, so that their merge takes no memory then: rows can leave where
+/// there is none left. What a merge of few rows takes is little.
+fn reserve_ahead<A: Allocator + Copy>(
+    cracked: &mut Cracked<A>,
+    coming: usize,
+) -> Result<(), AllocError>
+    ensures rows { cracked.new.rows.items ≡ cracked.old.rows.items }
+    ensures len { vec_len cracked.new.rows ≡ vec_len cracked.old.rows }
+    ensures pivots { cracked.new.pivots ≡ cracked.old.pivots }
+{
+    if cracked.rows.len() < RESERVED_AHEAD_FROM {
+        return Ok(());
+    }
+    cracked.rows.reserve(coming)
 }
