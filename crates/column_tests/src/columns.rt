@@ -1,7 +1,8 @@
 ghost use Rattle.std.specs.Prelude.{◌≡◌, ◌+◌, ◌∷◌, [], count_by, OnOk};
 ghost use Rattle.crack_kernel.specs.RowBag.{Test};
-ghost use Rattle.ripple_column.specs.Content.{HasRow, SameContent, content_count};
+ghost use Rattle.ripple_column.specs.Content.{SameContent, content_count};
 
+use crate::steps::{Step, expect_steps, expect_steps_anew};
 use crack_kernel::Row;
 use ripple_column::Column;
 use score_bounds::{Bound, Range};
@@ -22,23 +23,6 @@ pub fn add(
     let row = Row::new(score, ShortBytes::from_slice(alloc, member)?);
     column.reserve_write(1)?;
     column.insert(row);
-    Ok(())
-}
-
-// Takes a row out.
-pub fn take(
-    alloc: Global,
-    column: &mut Column<Global>,
-    score: i64,
-    member: &[u8],
-) -> Result<(), AllocError>
-    requires { HasRow column.old (score, member.now) }
-    ensures { OnOk result ((p : Test) → content_count p column.old
-        ≡ content_count p column.new + count_by p ((score, member.now) ∷ [])) }
-{
-    let row = Row::new(score, ShortBytes::from_slice(alloc, member)?);
-    column.reserve_write(1)?;
-    column.delete(row);
     Ok(())
 }
 
@@ -72,108 +56,156 @@ pub fn expect_state<R: Abort>(
     assert_eq!(rt; column.pending(), pending);
 }
 
+// Adds ten rows with the scores from 1 on.
+fn add_ten(alloc: Global, column: &mut Column<Global>) -> Result<(), AllocError> {
+    for i in 1..11u8 {
+        add(alloc, column, i64::from(i), &[b'm', i])?;
+    }
+    Ok(())
+}
+
+// Ten rows are cracked; three rows come, and one of them goes again.
+const CRACKED_AND_MERGED: [Step; 10] = [
+    Step::Count(Bound::NegInf, Bound::PosInf, 10),
+    Step::Count(Bound::Incl(3), Bound::Incl(6), 4),
+    Step::State(&[(3, 2), (7, 6)], 10, (0, 0)),
+    Step::Add(1, b"x"),
+    Step::Add(5, b"y"),
+    Step::Add(9, b"z"),
+    Step::Take(5, b"y"),
+    Step::State(&[(3, 2), (7, 6)], 10, (2, 0)),
+    Step::Count(Bound::Incl(0), Bound::Incl(10), 12),
+    Step::State(&[(0, 0), (3, 3), (7, 7), (11, 12)], 12, (0, 0)),
+];
+
+// Ten rows come, and the steps behind them.
+fn expect_ten<R: Abort>(
+    rt: &R,
+    alloc: Global,
+    column: &mut Column<Global>,
+) -> Result<(), AllocError> {
+    add_ten(alloc, column)?;
+    expect_steps(rt, alloc, column, &CRACKED_AND_MERGED)
+}
+
 #[test]
 fn a_range_is_cracked_and_merged(rt: HostRuntime) -> Result<(), AllocError> {
     let alloc = rt.alloc();
     let mut column = Column::new(alloc);
-    for i in 1..11u8 {
-        add(alloc, &mut column, i64::from(i), &[b'm', i])?;
-    }
-    expect_count(&rt, &mut column, Bound::NegInf, Bound::PosInf, 10)?;
-    expect_count(&rt, &mut column, Bound::Incl(3), Bound::Incl(6), 4)?;
-    expect_state(&rt, &column, &[(3, 2), (7, 6)], 10, (0, 0));
-    add(alloc, &mut column, 1, b"x")?;
-    add(alloc, &mut column, 5, b"y")?;
-    add(alloc, &mut column, 9, b"z")?;
-    take(alloc, &mut column, 5, b"y")?;
-    expect_state(&rt, &column, &[(3, 2), (7, 6)], 10, (2, 0));
-    expect_count(&rt, &mut column, Bound::Incl(0), Bound::Incl(10), 12)?;
-    expect_state(
-        &rt,
-        &column,
-        &[(0, 0), (3, 3), (7, 7), (11, 12)],
-        12,
-        (0, 0),
-    );
-    Ok(())
+    expect_ten(&rt, alloc, &mut column)
 }
+
+// The row of `a` moves up past the others, and down again.
+const MOVED: [Step; 18] = [
+    Step::Add(1, b"a"),
+    Step::Add(5, b"b"),
+    Step::Add(9, b"c"),
+    Step::Count(Bound::NegInf, Bound::PosInf, 3),
+    Step::Count(Bound::Incl(4), Bound::Incl(6), 1),
+    Step::State(&[(4, 1), (7, 2)], 3, (0, 0)),
+    Step::Take(1, b"a"),
+    Step::Add(8, b"a"),
+    Step::Count(Bound::NegInf, Bound::Excl(4), 0),
+    Step::State(&[(4, 0), (7, 1)], 2, (1, 0)),
+    Step::Count(Bound::Incl(4), Bound::Incl(6), 1),
+    Step::Count(Bound::Incl(7), Bound::PosInf, 2),
+    Step::Take(8, b"a"),
+    Step::Add(2, b"a"),
+    Step::Count(Bound::NegInf, Bound::Excl(4), 1),
+    Step::State(&[(4, 1), (7, 2)], 4, (0, 1)),
+    Step::Count(Bound::Incl(7), Bound::PosInf, 1),
+    Step::State(&[(4, 1), (7, 2)], 3, (0, 0)),
+];
 
 #[test]
 fn a_row_moves_between_pieces(rt: HostRuntime) -> Result<(), AllocError> {
-    let alloc = rt.alloc();
-    let mut column = Column::new(alloc);
-    add(alloc, &mut column, 1, b"a")?;
-    add(alloc, &mut column, 5, b"b")?;
-    add(alloc, &mut column, 9, b"c")?;
-    expect_count(&rt, &mut column, Bound::NegInf, Bound::PosInf, 3)?;
-    expect_count(&rt, &mut column, Bound::Incl(4), Bound::Incl(6), 1)?;
-    expect_state(&rt, &column, &[(4, 1), (7, 2)], 3, (0, 0));
-    take(alloc, &mut column, 1, b"a")?;
-    add(alloc, &mut column, 8, b"a")?;
-    expect_count(&rt, &mut column, Bound::NegInf, Bound::Excl(4), 0)?;
-    expect_state(&rt, &column, &[(4, 0), (7, 1)], 2, (1, 0));
-    expect_count(&rt, &mut column, Bound::Incl(4), Bound::Incl(6), 1)?;
-    expect_count(&rt, &mut column, Bound::Incl(7), Bound::PosInf, 2)?;
-    take(alloc, &mut column, 8, b"a")?;
-    add(alloc, &mut column, 2, b"a")?;
-    expect_count(&rt, &mut column, Bound::NegInf, Bound::Excl(4), 1)?;
-    expect_state(&rt, &column, &[(4, 1), (7, 2)], 4, (0, 1));
-    expect_count(&rt, &mut column, Bound::Incl(7), Bound::PosInf, 1)?;
-    expect_state(&rt, &column, &[(4, 1), (7, 2)], 3, (0, 0));
-    Ok(())
+    expect_steps_anew(&rt, rt.alloc(), &MOVED)
 }
+
+// The last row goes, and another comes.
+const EMPTIED: [Step; 8] = [
+    Step::Add(1, b"a"),
+    Step::Count(Bound::Incl(0), Bound::Incl(2), 1),
+    Step::Take(1, b"a"),
+    Step::Count(Bound::Incl(0), Bound::Incl(2), 0),
+    Step::State(&[(0, 0), (3, 0)], 0, (0, 0)),
+    Step::Add(1, b"b"),
+    Step::Count(Bound::Incl(0), Bound::Incl(2), 1),
+    Step::Members(b"b"),
+];
 
 #[test]
 fn the_last_row_goes(rt: HostRuntime) -> Result<(), AllocError> {
-    let alloc = rt.alloc();
-    let mut column = Column::new(alloc);
-    add(alloc, &mut column, 1, b"a")?;
-    expect_count(&rt, &mut column, Bound::Incl(0), Bound::Incl(2), 1)?;
-    take(alloc, &mut column, 1, b"a")?;
-    expect_count(&rt, &mut column, Bound::Incl(0), Bound::Incl(2), 0)?;
-    expect_state(&rt, &column, &[(0, 0), (3, 0)], 0, (0, 0));
-    add(alloc, &mut column, 1, b"b")?;
-    expect_count(&rt, &mut column, Bound::Incl(0), Bound::Incl(2), 1)?;
-    let rows = column.rows(0, column.len());
-    assert!(rt; rows.iter().all(|row| row.member() == b"b".as_slice()));
+    expect_steps_anew(&rt, rt.alloc(), &EMPTIED)
+}
+
+// Selects 2,048 ranges, of which the first has a row. Their cuts are 4,096 pivots.
+fn select_many<R: Abort>(rt: &R, column: &mut Column<Global>) -> Result<(), AllocError> {
+    for i in 0..2048u16 {
+        let low = 10 * i64::from(i);
+        let want = if i == 0 { 1 } else { 0 };
+        expect_count(rt, column, Bound::Incl(low), Bound::Incl(low + 4), want)?;
+    }
+    assert_eq!(rt; column.pivot_list().len(), 4096);
     Ok(())
+}
+
+// One more range.
+const DROPPED: [Step; 2] = [
+    Step::Count(Bound::Incl(50001), Bound::Incl(50002), 0),
+    Step::State(&[(50001, 1), (50003, 1)], 1, (0, 0)),
+];
+
+// A row comes, as many ranges as there may be pivots for, and one more.
+fn expect_dropped<R: Abort>(
+    rt: &R,
+    alloc: Global,
+    column: &mut Column<Global>,
+) -> Result<(), AllocError> {
+    add(alloc, column, 1, b"a")?;
+    select_many(rt, column)?;
+    expect_steps(rt, alloc, column, &DROPPED)
 }
 
 #[test]
 fn too_many_pivots_are_dropped(rt: HostRuntime) -> Result<(), AllocError> {
     let alloc = rt.alloc();
     let mut column = Column::new(alloc);
-    add(alloc, &mut column, 1, b"a")?;
+    expect_dropped(&rt, alloc, &mut column)
+}
+
+// Adds as many rows as may wait.
+fn add_full(alloc: Global, column: &mut Column<Global>) -> Result<(), AllocError> {
     for i in 0..2048u16 {
-        let low = 10 * i64::from(i);
-        let want = if i == 0 { 1 } else { 0 };
-        expect_count(
-            &rt,
-            &mut column,
-            Bound::Incl(low),
-            Bound::Incl(low + 4),
-            want,
-        )?;
+        add(alloc, column, 1, &i.to_be_bytes())?;
     }
-    assert_eq!(rt; column.pivot_list().len(), 4096);
-    expect_count(&rt, &mut column, Bound::Incl(50001), Bound::Incl(50002), 0)?;
-    expect_state(&rt, &column, &[(50001, 1), (50003, 1)], 1, (0, 0));
     Ok(())
+}
+
+// One more row comes than may wait.
+const FULL: [Step; 5] = [
+    Step::State(&[], 0, (2048, 0)),
+    Step::Add(1, b"last"),
+    Step::State(&[], 2048, (1, 0)),
+    Step::Merge,
+    Step::State(&[], 2049, (0, 0)),
+];
+
+// As many rows come as may wait, and one more.
+fn expect_full<R: Abort>(
+    rt: &R,
+    alloc: Global,
+    column: &mut Column<Global>,
+) -> Result<(), AllocError> {
+    add_full(alloc, column)?;
+    expect_steps(rt, alloc, column, &FULL)
 }
 
 #[test]
 fn a_full_list_is_merged(rt: HostRuntime) -> Result<(), AllocError> {
     let alloc = rt.alloc();
     let mut column = Column::new(alloc);
-    for i in 0..2048u16 {
-        add(alloc, &mut column, 1, &i.to_be_bytes())?;
-    }
-    expect_state(&rt, &column, &[], 0, (2048, 0));
-    add(alloc, &mut column, 1, b"last")?;
-    expect_state(&rt, &column, &[], 2048, (1, 0));
-    column.merge_all()?;
-    expect_state(&rt, &column, &[], 2049, (0, 0));
-    Ok(())
+    expect_full(&rt, alloc, &mut column)
 }
 
 // A column of 4,096 rows with the scores from 0 on, in no order.
@@ -186,24 +218,26 @@ pub fn filled(alloc: Global) -> Result<Column<Global>, AllocError> {
     Ok(column)
 }
 
+// A row comes and goes again, among the rows of one long piece.
+const SEARCHED: [Step; 7] = [
+    Step::Add(2000, b"n"),
+    Step::Count(Bound::NegInf, Bound::PosInf, 4097),
+    Step::Pivots(0),
+    Step::Take(2000, b"n"),
+    Step::Count(Bound::NegInf, Bound::PosInf, 4096),
+    Step::Pivots(1),
+    Step::State(&[], 4096, (0, 0)),
+];
+
 #[test]
 fn a_search_cracks_a_long_piece(rt: HostRuntime) -> Result<(), AllocError> {
     let alloc = rt.alloc();
     let mut column = filled(alloc)?;
-    add(alloc, &mut column, 2000, b"n")?;
-    expect_count(&rt, &mut column, Bound::NegInf, Bound::PosInf, 4097)?;
-    assert_eq!(rt; column.piece_list().len(), 0);
-    take(alloc, &mut column, 2000, b"n")?;
-    expect_count(&rt, &mut column, Bound::NegInf, Bound::PosInf, 4096)?;
-    assert_eq!(rt; column.piece_list().len(), 1);
-    expect_state(&rt, &column, &[], 4096, (0, 0));
-    Ok(())
+    expect_steps(&rt, alloc, &mut column, &SEARCHED)
 }
 
-#[test]
-fn a_window_gets_short_pieces(rt: HostRuntime) -> Result<(), AllocError> {
-    let alloc = rt.alloc();
-    let mut column = filled(alloc)?;
+// The piece of a window is short, and no pivot of it is shown.
+fn expect_narrowed<R: Abort>(rt: &R, column: &mut Column<Global>) {
     let all = Range {
         min: Bound::NegInf,
         max: Bound::PosInf,
@@ -215,16 +249,21 @@ fn a_window_gets_short_pieces(rt: HostRuntime) -> Result<(), AllocError> {
             .iter()
             .any(|pivot| pivot.1 > 10 && pivot.1 < 512)
     );
-    expect_state(&rt, &column, &[], 4096, (0, 0));
-    expect_count(&rt, &mut column, Bound::Incl(100), Bound::Excl(200), 100)?;
-    add(alloc, &mut column, 50, b"n")?;
-    expect_count(&rt, &mut column, Bound::NegInf, Bound::Incl(150), 152)?;
-    expect_state(
-        &rt,
-        &column,
-        &[(100, 101), (151, 152), (200, 201)],
-        4097,
-        (0, 0),
-    );
-    Ok(())
+    expect_state(rt, column, &[], 4096, (0, 0));
+}
+
+// Ranges beside the inner pivots, before and after a row comes.
+const BESIDE_INNER_PIVOTS: [Step; 4] = [
+    Step::Count(Bound::Incl(100), Bound::Excl(200), 100),
+    Step::Add(50, b"n"),
+    Step::Count(Bound::NegInf, Bound::Incl(150), 152),
+    Step::State(&[(100, 101), (151, 152), (200, 201)], 4097, (0, 0)),
+];
+
+#[test]
+fn a_window_gets_short_pieces(rt: HostRuntime) -> Result<(), AllocError> {
+    let alloc = rt.alloc();
+    let mut column = filled(alloc)?;
+    expect_narrowed(&rt, &mut column);
+    expect_steps(&rt, alloc, &mut column, &BESIDE_INNER_PIVOTS)
 }

@@ -259,21 +259,51 @@ struct Course {
     adds: [u32; 4],
 }
 
+// All that waits in both is merged: they are alike, with the rows that the first holds.
+fn expect_merged_alike<R: Abort>(
+    rt: &R,
+    alloc: Global,
+    one: &mut Driven,
+    other: &mut Driven,
+) -> Result<(), AllocError>
+    requires one { Holds one.old.column one.old.held.items }
+    requires other { Holds other.old.column other.old.held.items }
+    ensures one { OnOk result (Holds one.new.column one.new.held.items) }
+    ensures other { OnOk result (Holds other.new.column other.new.held.items) }
+{
+    merge_alike(rt, alloc, &mut one.column, &mut other.column)?;
+    let rows = one.column.rows(0, one.column.len());
+    expect_same_rows(rt, alloc, rows, one.held.as_slice())?;
+    Ok(())
+}
+
+// Drives both in rounds, and merges them in each third.
+fn drive_in_rounds<R: Abort>(
+    rt: &R,
+    alloc: Global,
+    one: &mut Driven,
+    other: &mut Driven,
+    adds: [u32; 4],
+) -> Result<(), AllocError>
+    requires one { Holds one.old.column one.old.held.items }
+    requires other { Holds other.old.column other.old.held.items }
+{
+    for round in 0..40u32 {
+        drive_both(rt, alloc, one, other, adds[round as usize % 4])?;
+        if round % 3 == 0 {
+            expect_merged_alike(rt, alloc, one, other)?;
+        }
+    }
+    Ok(())
+}
+
 // Random changes, merges and selects lead to the same whether many rows are merged at once or each
 // by its own ripple move, and to the rows of a plain list: the same numbers drive both columns.
 fn run_both<R: Abort>(rt: &R, alloc: Global, state: u64, course: Course) -> Result<(), AllocError> {
     let Course { scores, adds } = course;
     let mut seldom = Driven::new(alloc, Numbers { state, scores });
     let mut often = Driven::new(alloc, Numbers { state, scores });
-    for round in 0..40u32 {
-        drive_both(rt, alloc, &mut seldom, &mut often, adds[round as usize % 4])?;
-        if round % 3 == 0 {
-            merge_alike(rt, alloc, &mut seldom.column, &mut often.column)?;
-            let rows = seldom.column.rows(0, seldom.column.len());
-            expect_same_rows(rt, alloc, rows, seldom.held.as_slice())?;
-        }
-    }
-    Ok(())
+    drive_in_rounds(rt, alloc, &mut seldom, &mut often, adds)
 }
 
 // Rows come, stay as many, go, and come and go.

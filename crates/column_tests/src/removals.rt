@@ -1,4 +1,5 @@
-use crate::columns::{add, expect_count, expect_state, filled, take};
+use crate::columns::{add, expect_state, filled};
+use crate::steps::{Step, expect_steps};
 use ripple_column::Column;
 use score_bounds::{Bound, Range};
 use std::alloc::{AllocError, Global};
@@ -38,102 +39,105 @@ fn ten(alloc: Global) -> Result<Column<Global>, AllocError> {
     Ok(column)
 }
 
+// Takes steps in turn with such a column.
+fn expect_steps_of_ten<R: Abort>(rt: &R, alloc: Global, steps: &[Step]) -> Result<(), AllocError> {
+    let mut column = ten(alloc)?;
+    expect_steps(rt, alloc, &mut column, steps)
+}
+
+// The rows between two pivots leave, and another comes there.
+const MIDDLE_REMOVED: [Step; 8] = [
+    Step::State(&[(3, 2), (7, 6)], 10, (0, 0)),
+    Step::Remove(Bound::Incl(3), Bound::Incl(6), 4),
+    Step::State(&[(3, 2), (7, 2)], 6, (0, 0)),
+    Step::Count(Bound::Incl(2), Bound::Incl(7), 2),
+    Step::State(&[(2, 1), (3, 2), (7, 2), (8, 3)], 6, (0, 0)),
+    Step::Add(5, b"new"),
+    Step::Count(Bound::Incl(3), Bound::Incl(6), 1),
+    Step::State(&[(2, 1), (3, 2), (7, 3), (8, 4)], 7, (0, 0)),
+];
+
 #[test]
 fn rows_in_the_middle_leave(rt: HostRuntime) -> Result<(), AllocError> {
-    let alloc = rt.alloc();
-    let mut column = ten(alloc)?;
-    expect_state(&rt, &column, &[(3, 2), (7, 6)], 10, (0, 0));
-    remove(&rt, &mut column, Bound::Incl(3), Bound::Incl(6), 4)?;
-    expect_state(&rt, &column, &[(3, 2), (7, 2)], 6, (0, 0));
-    expect_count(&rt, &mut column, Bound::Incl(2), Bound::Incl(7), 2)?;
-    expect_state(&rt, &column, &[(2, 1), (3, 2), (7, 2), (8, 3)], 6, (0, 0));
-    add(alloc, &mut column, 5, b"new")?;
-    expect_count(&rt, &mut column, Bound::Incl(3), Bound::Incl(6), 1)?;
-    expect_state(&rt, &column, &[(2, 1), (3, 2), (7, 3), (8, 4)], 7, (0, 0));
-    Ok(())
+    expect_steps_of_ten(&rt, rt.alloc(), &MIDDLE_REMOVED)
 }
+
+// The rows at both ends leave.
+const ENDS_REMOVED: [Step; 5] = [
+    Step::Remove(Bound::NegInf, Bound::Excl(5), 4),
+    Step::State(&[(3, 0), (5, 0), (7, 2)], 6, (0, 0)),
+    Step::Remove(Bound::Excl(8), Bound::PosInf, 2),
+    Step::State(&[(3, 0), (5, 0), (7, 2), (9, 4)], 4, (0, 0)),
+    Step::Between(4, 9),
+];
 
 #[test]
 fn rows_at_an_end_leave(rt: HostRuntime) -> Result<(), AllocError> {
-    let alloc = rt.alloc();
-    let mut column = ten(alloc)?;
-    remove(&rt, &mut column, Bound::NegInf, Bound::Excl(5), 4)?;
-    expect_state(&rt, &column, &[(3, 0), (5, 0), (7, 2)], 6, (0, 0));
-    remove(&rt, &mut column, Bound::Excl(8), Bound::PosInf, 2)?;
-    expect_state(&rt, &column, &[(3, 0), (5, 0), (7, 2), (9, 4)], 4, (0, 0));
-    let rows = column.rows(0, column.len());
-    assert!(rt; rows.iter().all(|row| row.score() > 4 && row.score() < 9));
-    Ok(())
+    expect_steps_of_ten(&rt, rt.alloc(), &ENDS_REMOVED)
 }
+
+// All rows leave, and another comes.
+const ALL_REMOVED: [Step; 5] = [
+    Step::Remove(Bound::NegInf, Bound::PosInf, 10),
+    Step::State(&[(3, 0), (7, 0)], 0, (0, 0)),
+    Step::Add(4, b"new"),
+    Step::Count(Bound::NegInf, Bound::PosInf, 1),
+    Step::State(&[(3, 0), (7, 1)], 1, (0, 0)),
+];
 
 #[test]
 fn all_rows_leave(rt: HostRuntime) -> Result<(), AllocError> {
-    let alloc = rt.alloc();
-    let mut column = ten(alloc)?;
-    remove(&rt, &mut column, Bound::NegInf, Bound::PosInf, 10)?;
-    expect_state(&rt, &column, &[(3, 0), (7, 0)], 0, (0, 0));
-    add(alloc, &mut column, 4, b"new")?;
-    expect_count(&rt, &mut column, Bound::NegInf, Bound::PosInf, 1)?;
-    expect_state(&rt, &column, &[(3, 0), (7, 1)], 1, (0, 0));
-    Ok(())
+    expect_steps_of_ten(&rt, rt.alloc(), &ALL_REMOVED)
 }
+
+// Ranges without rows. One whose ends are the wrong way round has no answer but (0, 0).
+const NONE_REMOVED: [Step; 5] = [
+    Step::Remove(Bound::Incl(20), Bound::Incl(29), 0),
+    Step::State(&[(3, 2), (7, 6), (20, 10), (30, 10)], 10, (0, 0)),
+    Step::Remove(Bound::Incl(6), Bound::Incl(3), 0),
+    Step::Remove(Bound::Excl(3), Bound::Excl(3), 0),
+    Step::State(&[(3, 2), (7, 6), (20, 10), (30, 10)], 10, (0, 0)),
+];
 
 #[test]
 fn no_row_leaves(rt: HostRuntime) -> Result<(), AllocError> {
-    let alloc = rt.alloc();
-    let mut column = ten(alloc)?;
-    remove(&rt, &mut column, Bound::Incl(20), Bound::Incl(29), 0)?;
-    expect_state(
-        &rt,
-        &column,
-        &[(3, 2), (7, 6), (20, 10), (30, 10)],
-        10,
-        (0, 0),
-    );
-    // A range whose ends are the wrong way round has no answer but (0, 0).
-    remove(&rt, &mut column, Bound::Incl(6), Bound::Incl(3), 0)?;
-    remove(&rt, &mut column, Bound::Excl(3), Bound::Excl(3), 0)?;
-    expect_state(
-        &rt,
-        &column,
-        &[(3, 2), (7, 6), (20, 10), (30, 10)],
-        10,
-        (0, 0),
-    );
-    Ok(())
+    expect_steps_of_ten(&rt, rt.alloc(), &NONE_REMOVED)
 }
+
+// The greatest score and the least come and leave.
+const EXTREMES_REMOVED: [Step; 6] = [
+    Step::Add(i64::MAX, b"greatest"),
+    Step::Add(i64::MIN, b"least"),
+    Step::Remove(Bound::Excl(10), Bound::Incl(i64::MAX), 1),
+    Step::Count(Bound::NegInf, Bound::PosInf, 11),
+    Step::Remove(Bound::Incl(i64::MIN), Bound::Incl(1), 2),
+    Step::Count(Bound::NegInf, Bound::PosInf, 9),
+];
 
 #[test]
 fn the_least_and_the_greatest_score_leave(rt: HostRuntime) -> Result<(), AllocError> {
-    let alloc = rt.alloc();
-    let mut column = ten(alloc)?;
-    add(alloc, &mut column, i64::MAX, b"greatest")?;
-    add(alloc, &mut column, i64::MIN, b"least")?;
-    let greatest = Bound::Incl(i64::MAX);
-    remove(&rt, &mut column, Bound::Excl(10), greatest, 1)?;
-    expect_count(&rt, &mut column, Bound::NegInf, Bound::PosInf, 11)?;
-    remove(&rt, &mut column, Bound::Incl(i64::MIN), Bound::Incl(1), 2)?;
-    expect_count(&rt, &mut column, Bound::NegInf, Bound::PosInf, 9)?;
-    Ok(())
+    expect_steps_of_ten(&rt, rt.alloc(), &EXTREMES_REMOVED)
 }
+
+// Beside ten rows, one more is taken out while three wait, one of them in the range that is removed.
+const WAITING: [Step; 12] = [
+    Step::Add(8, b"gone"),
+    Step::Count(Bound::Incl(7), Bound::PosInf, 5),
+    Step::State(&[(3, 2), (7, 6)], 11, (0, 0)),
+    Step::Add(1, b"low"),
+    Step::Add(4, b"inside"),
+    Step::Add(12, b"high"),
+    Step::Take(8, b"gone"),
+    Step::State(&[(3, 2), (7, 6)], 11, (3, 1)),
+    Step::Remove(Bound::Incl(3), Bound::Incl(6), 5),
+    Step::State(&[(3, 2), (7, 2)], 7, (2, 1)),
+    Step::Count(Bound::NegInf, Bound::PosInf, 8),
+    Step::State(&[(3, 3), (7, 3)], 8, (0, 0)),
+];
 
 #[test]
 fn what_waits_outside_the_range_stays(rt: HostRuntime) -> Result<(), AllocError> {
-    let alloc = rt.alloc();
-    let mut column = ten(alloc)?;
-    add(alloc, &mut column, 8, b"gone")?;
-    expect_count(&rt, &mut column, Bound::Incl(7), Bound::PosInf, 5)?;
-    expect_state(&rt, &column, &[(3, 2), (7, 6)], 11, (0, 0));
-    add(alloc, &mut column, 1, b"low")?;
-    add(alloc, &mut column, 4, b"inside")?;
-    add(alloc, &mut column, 12, b"high")?;
-    take(alloc, &mut column, 8, b"gone")?;
-    expect_state(&rt, &column, &[(3, 2), (7, 6)], 11, (3, 1));
-    remove(&rt, &mut column, Bound::Incl(3), Bound::Incl(6), 5)?;
-    expect_state(&rt, &column, &[(3, 2), (7, 2)], 7, (2, 1));
-    expect_count(&rt, &mut column, Bound::NegInf, Bound::PosInf, 8)?;
-    expect_state(&rt, &column, &[(3, 3), (7, 3)], 8, (0, 0));
-    Ok(())
+    expect_steps_of_ten(&rt, rt.alloc(), &WAITING)
 }
 
 // Every pivot parts the rows of the column, inner ones too.
@@ -145,10 +149,11 @@ pub fn expect_parted<R: Abort>(rt: &R, column: &Column<Global>) {
     }
 }
 
-#[test]
-fn a_great_range_leaves_beside_inner_pivots(rt: HostRuntime) -> Result<(), AllocError> {
-    let alloc = rt.alloc();
-    let mut column = filled(alloc)?;
+// Of a long piece that was narrowed a range leaves: the inner pivots stay, and its cuts stand beside them.
+fn expect_inner_pivots_stay<R: Abort>(
+    rt: &R,
+    column: &mut Column<Global>,
+) -> Result<(), AllocError> {
     let all = Range {
         min: Bound::NegInf,
         max: Bound::PosInf,
@@ -156,18 +161,45 @@ fn a_great_range_leaves_beside_inner_pivots(rt: HostRuntime) -> Result<(), Alloc
     column.narrow(&all, 1500, 3000);
     let inner = column.piece_list().len();
     assert!(rt; inner > 0);
-    remove(&rt, &mut column, Bound::Incl(1000), Bound::Excl(2000), 1000)?;
-    expect_state(&rt, &column, &[(1000, 1000), (2000, 1000)], 3096, (0, 0));
+    remove(rt, column, Bound::Incl(1000), Bound::Excl(2000), 1000)?;
+    expect_state(rt, column, &[(1000, 1000), (2000, 1000)], 3096, (0, 0));
     assert_eq!(rt; column.piece_list().len(), inner + 2);
-    expect_parted(&rt, &column);
-    for i in 0..64u16 {
-        add(alloc, &mut column, 2000 + 16 * i64::from(i), b"n")?;
-    }
-    expect_count(&rt, &mut column, Bound::Incl(500), Bound::Excl(3500), 2064)?;
-    expect_parted(&rt, &column);
-    remove(&rt, &mut column, Bound::NegInf, Bound::Incl(2500), 1533)?;
-    remove(&rt, &mut column, Bound::Excl(3000), Bound::PosInf, 1096)?;
-    expect_count(&rt, &mut column, Bound::NegInf, Bound::PosInf, 531)?;
-    expect_parted(&rt, &column);
+    expect_parted(rt, column);
     Ok(())
+}
+
+// Adds 64 rows with scores from 2,000 on.
+fn add_behind(alloc: Global, column: &mut Column<Global>) -> Result<(), AllocError> {
+    for i in 0..64u16 {
+        add(alloc, column, 2000 + 16 * i64::from(i), b"n")?;
+    }
+    Ok(())
+}
+
+// Rows that came behind a removed range are counted, and the rows at both ends leave.
+const BEHIND: [Step; 6] = [
+    Step::Count(Bound::Incl(500), Bound::Excl(3500), 2064),
+    Step::Parted,
+    Step::Remove(Bound::NegInf, Bound::Incl(2500), 1533),
+    Step::Remove(Bound::Excl(3000), Bound::PosInf, 1096),
+    Step::Count(Bound::NegInf, Bound::PosInf, 531),
+    Step::Parted,
+];
+
+// A range leaves, rows come behind it, and most rows leave.
+fn expect_great_range_removed<R: Abort>(
+    rt: &R,
+    alloc: Global,
+    column: &mut Column<Global>,
+) -> Result<(), AllocError> {
+    expect_inner_pivots_stay(rt, column)?;
+    add_behind(alloc, column)?;
+    expect_steps(rt, alloc, column, &BEHIND)
+}
+
+#[test]
+fn a_great_range_leaves_beside_inner_pivots(rt: HostRuntime) -> Result<(), AllocError> {
+    let alloc = rt.alloc();
+    let mut column = filled(alloc)?;
+    expect_great_range_removed(&rt, alloc, &mut column)
 }

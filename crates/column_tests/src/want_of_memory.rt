@@ -80,11 +80,19 @@ struct Setup {
     then: u16,
 }
 
+fn set_up<A: Allocator + Copy>(
+    alloc: A,
+    column: &mut Column<A>,
+    setup: Setup,
+) -> Result<(), AllocError> {
+    fill(alloc, column, setup.first)?;
+    crack(column, setup.ranges)?;
+    fill(alloc, column, setup.then)
+}
+
 fn made<A: Allocator + Copy>(alloc: A, setup: Setup) -> Result<Column<A>, AllocError> {
     let mut column = Column::new(alloc);
-    fill(alloc, &mut column, setup.first)?;
-    crack(&mut column, setup.ranges)?;
-    fill(alloc, &mut column, setup.then)?;
+    set_up(alloc, &mut column, setup)?;
     Ok(column)
 }
 

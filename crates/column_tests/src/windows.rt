@@ -1,7 +1,8 @@
 ghost use Rattle.std.specs.Prelude.{◌<◌, ◌≤◌, ◌^◌};
 
-use crate::columns::{add, expect_count, expect_state};
+use crate::columns::{add, expect_state};
 use crate::removals::{expect_parted, remove};
+use crate::steps::{Step, expect_steps};
 use ripple_column::Column;
 use score_bounds::Bound;
 use std::alloc::{AllocError, Global};
@@ -76,6 +77,21 @@ fn expect_rows<R: Abort>(rt: &R, alloc: Global, window: &Window) -> Result<(), A
     Ok(())
 }
 
+// Slides, and has just the rows that came last then.
+fn expect_slide<R: Abort>(
+    rt: &R,
+    alloc: Global,
+    window: &mut Window,
+    from: u16,
+    to: u16,
+    merged: u16,
+) -> Result<(), AllocError>
+    requires { 0 < merged }
+{
+    slide(rt, alloc, window, from, to, merged)?;
+    expect_rows(rt, alloc, window)
+}
+
 // Takes two rows in the middle out.
 fn remove_two<R: Abort>(rt: &R, window: &mut Window) -> Result<(), AllocError> {
     let middle = window.scores.len() / 2;
@@ -86,25 +102,43 @@ fn remove_two<R: Abort>(rt: &R, window: &mut Window) -> Result<(), AllocError> {
     remove(rt, column, Bound::Incl(first), Bound::Incl(second), 2)
 }
 
+// Takes all rows out, and adds another.
+fn expect_emptied<R: Abort>(rt: &R, alloc: Global, window: &mut Window) -> Result<(), AllocError> {
+    let rows = window.scores.len();
+    remove(rt, &mut window.column, Bound::NegInf, Bound::PosInf, rows)?;
+    window.scores.clear();
+    push(alloc, window, 7)?;
+    window.column.merge_all()?;
+    expect_rows(rt, alloc, window)
+}
+
 // Turns a window of `len` rows over twice, takes rows in the middle out, turns it over again, and empties it.
+fn expect_turns<R: Abort>(
+    rt: &R,
+    alloc: Global,
+    window: &mut Window,
+    len: u16,
+    merged: u16,
+) -> Result<(), AllocError>
+    requires some { 0 < len }
+    requires few { len < 2 ^ 14 }
+    requires merged { 0 < merged }
+{
+    expect_slide(rt, alloc, window, len, 3 * len, merged)?;
+    remove_two(rt, window)?;
+    expect_rows(rt, alloc, window)?;
+    expect_slide(rt, alloc, window, 3 * len, 4 * len - 2, merged)?;
+    expect_emptied(rt, alloc, window)
+}
+
+// The same with a new window.
 fn turn_over<R: Abort>(rt: &R, alloc: Global, len: u16, merged: u16) -> Result<(), AllocError>
     requires some { 0 < len }
     requires few { len < 2 ^ 14 }
     requires merged { 0 < merged }
 {
     let mut window = filled_window(alloc, len)?;
-    slide(rt, alloc, &mut window, len, 3 * len, merged)?;
-    expect_rows(rt, alloc, &window)?;
-    remove_two(rt, &mut window)?;
-    expect_rows(rt, alloc, &window)?;
-    slide(rt, alloc, &mut window, 3 * len, 4 * len - 2, merged)?;
-    expect_rows(rt, alloc, &window)?;
-    let rows = window.scores.len();
-    remove(rt, &mut window.column, Bound::NegInf, Bound::PosInf, rows)?;
-    window.scores.clear();
-    push(alloc, &mut window, 7)?;
-    window.column.merge_all()?;
-    expect_rows(rt, alloc, &window)
+    expect_turns(rt, alloc, &mut window, len, merged)
 }
 
 #[test]
@@ -115,30 +149,34 @@ fn the_first_row_leaves_again_and_again(rt: HostRuntime) -> Result<(), AllocErro
     turn_over(&rt, alloc, 3000, 64)
 }
 
+// Pivots behind rows that left, and a range.
+const CLOSED_UP: [Step; 3] = [
+    Step::State(&[(1, 0), (2, 0), (3, 0)], 10, (0, 0)),
+    Step::Count(Bound::Incl(5), Bound::Incl(6), 2),
+    Step::State(&[(1, 0), (2, 0), (3, 0), (5, 2), (7, 4)], 10, (0, 0)),
+];
+
+// The pivots once three more rows left.
+const SEVEN_PIVOTS: [(i64, usize); 7] = [(1, 0), (2, 0), (3, 0), (4, 0), (5, 0), (6, 0), (7, 1)];
+
+// Pivots of a window of ten rows close up.
+fn expect_closed_up<R: Abort>(
+    rt: &R,
+    alloc: Global,
+    window: &mut Window,
+) -> Result<(), AllocError> {
+    slide(rt, alloc, window, 10, 13, 1)?;
+    expect_steps(rt, alloc, &mut window.column, &CLOSED_UP)?;
+    slide(rt, alloc, window, 13, 16, 1)?;
+    expect_state(rt, &window.column, &SEVEN_PIVOTS, 10, (0, 0));
+    Ok(())
+}
+
 #[test]
 fn pivots_close_up_behind_rows_that_left(rt: HostRuntime) -> Result<(), AllocError> {
     let alloc = rt.alloc();
     let mut window = filled_window(alloc, 10)?;
-    slide(&rt, alloc, &mut window, 10, 13, 1)?;
-    let column = &mut window.column;
-    expect_state(&rt, column, &[(1, 0), (2, 0), (3, 0)], 10, (0, 0));
-    expect_count(&rt, column, Bound::Incl(5), Bound::Incl(6), 2)?;
-    expect_state(
-        &rt,
-        column,
-        &[(1, 0), (2, 0), (3, 0), (5, 2), (7, 4)],
-        10,
-        (0, 0),
-    );
-    slide(&rt, alloc, &mut window, 13, 16, 1)?;
-    expect_state(
-        &rt,
-        &window.column,
-        &[(1, 0), (2, 0), (3, 0), (4, 0), (5, 0), (6, 0), (7, 1)],
-        10,
-        (0, 0),
-    );
-    Ok(())
+    expect_closed_up(&rt, alloc, &mut window)
 }
 
 // How many rows the first piece with rows has.

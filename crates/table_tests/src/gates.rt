@@ -1,6 +1,6 @@
 //! A run that is held inside its place's lock until another was answered.
 
-ghost use Rattle.std.specs.Prelude.{◌≡◌, ◌≤◌, None};
+ghost use Rattle.std.specs.Prelude.{◌≡◌, ◌≤◌, None, IfOk};
 ghost use Rattle.set_table.specs.WorkerPasses.{IsPassOf};
 
 use crate::closing::closed;
@@ -131,6 +131,74 @@ struct Held {
     totals: Totals,
 }
 
+// The text of a reply.
+fn told(alloc: Global, reply: Option<Reply<Global>>) -> Result<String, Fail> {
+    match reply {
+        Some(reply) => reply_text(alloc, &reply),
+        None => Err("no reply")?,
+    }
+}
+
+// The texts of two replies, a space between them.
+fn both_told(
+    alloc: Global,
+    one: Option<Reply<Global>>,
+    other: Option<Reply<Global>>,
+) -> Result<String, Fail> {
+    let one = told(alloc, one)?;
+    let other = told(alloc, other)?;
+    Ok(format!(in alloc; "{one} {other}")?)
+}
+
+// The replies to the command that is held and to the one beside it, and the passes.
+fn replies_held<S: LogSink + Send, L: Ledger + Send + Sync, R: Threads + Wait + AllocGlobal + Sync>(
+    rt: &R,
+    table: &SetsOver<S, L>,
+    first: Pass<Global>,
+    second: Pass<Global>,
+    commands: (&Command<Global>, &Command<Global>),
+) -> Result<(String, Pass<Global>, Pass<Global>), Fail>
+    requires first { IsPassOf table.now first }
+    requires second { IsPassOf table.now second }
+    ensures first { IfOk result (λ told. IsPassOf table.now told.1) }
+    ensures second { IfOk result (λ told. IsPassOf table.now told.2) }
+{
+    let gate = Hold {
+        entered: AtomicBool::new(false),
+        may_go_on: AtomicBool::new(false),
+        ran_out: AtomicBool::new(false),
+    };
+    let (one, other) = run_held(rt, table, first, second, commands, &gate);
+    let (one, first) = one;
+    let (other, second) = other;
+    if gate.ran_out.load(Ordering::SeqCst) {
+        return Err("a wait ran out")?;
+    }
+    let replies = both_told(rt.alloc(), one, other)?;
+    Ok((replies, first, second))
+}
+
+// The same with the texts of the commands, once those before were run by the second pass.
+fn texts_held<S: LogSink + Send, L: Ledger + Send + Sync, R: Threads + Wait + AllocGlobal + Sync>(
+    rt: &R,
+    table: &SetsOver<S, L>,
+    first: Pass<Global>,
+    second: Pass<Global>,
+    texts: &Texts<'_>,
+) -> Result<(String, Pass<Global>, Pass<Global>), Fail>
+    requires first { IsPassOf table.now first }
+    requires second { IsPassOf table.now second }
+    ensures first { IfOk result (λ told. IsPassOf table.now told.1) }
+    ensures second { IfOk result (λ told. IsPassOf table.now told.2) }
+{
+    let alloc = rt.alloc();
+    let mut second = second;
+    answers(rt, alloc, table, &mut second, texts.before)?;
+    let held = command(alloc, texts.held)?;
+    let beside = command(alloc, texts.beside)?;
+    replies_held(rt, table, first, second, (&held, &beside))
+}
+
 fn held_beside<L: Ledger + Send + Sync, R: Threads + Wait + AllocGlobal + Sync>(
     rt: &R,
     blank: Blank,
@@ -148,27 +216,8 @@ fn held_beside<L: Ledger + Send + Sync, R: Threads + Wait + AllocGlobal + Sync>(
     };
     let alloc = rt.alloc();
     let (table, first, second) = opened::<L>(alloc, blank, owner, size)?;
-    let mut second = second;
-    answers(rt, alloc, &table, &mut second, texts.before)?;
-    let held = command(alloc, texts.held)?;
-    let beside = command(alloc, texts.beside)?;
-    let gate = Hold {
-        entered: AtomicBool::new(false),
-        may_go_on: AtomicBool::new(false),
-        ran_out: AtomicBool::new(false),
-    };
-    let (one, other) = run_held(rt, &table, first, second, (&held, &beside), &gate);
-    let (one, first) = one;
-    let (other, second) = other;
+    let (replies, first, second) = texts_held(rt, &table, first, second, texts)?;
     let (totals, _sink) = closed(alloc, table, first, second)?;
-    if gate.ran_out.load(Ordering::SeqCst) {
-        return Err("a wait ran out")?;
-    }
-    let one = one.ok_or("no reply")?;
-    let other = other.ok_or("no reply")?;
-    let mut replies = reply_text(alloc, &one)?;
-    replies.push(' ')?;
-    replies.push_str(reply_text(alloc, &other)?.as_str())?;
     Ok(Held { replies, totals })
 }
 

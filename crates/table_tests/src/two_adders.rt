@@ -11,6 +11,7 @@ use set_table::{Answered, NoGate, Pass, Table, Totals};
 use std::alloc::Global;
 use std::hash::RandomState;
 use std::marker::Brand;
+use std::process::Abort;
 use std::sync::Wait;
 use std::sync::ledger::{Blank, Ledger};
 use std::test::*;
@@ -110,6 +111,33 @@ const FOUR_PLACES: Size = Size {
     max_runs: 10_000,
 };
 
+// What both were told together, and their passes.
+fn added_at_once<S: LogSink + Send, L: Ledger + Send + Sync, R: Threads + Wait + Sync>(
+    rt: &R,
+    alloc: Global,
+    table: &SetsOver<S, L>,
+    first: Pass<Global>,
+    second: Pass<Global>,
+) -> Result<(Option<i64>, Pass<Global>, Pass<Global>), Fail>
+    requires first { IsPassOf table.now first }
+    requires second { IsPassOf table.now second }
+    ensures first { IfOk result (λ added. IsPassOf table.now added.1) }
+    ensures second { IfOk result (λ added. IsPassOf table.now added.2) }
+{
+    let low = additions(alloc, 0)?;
+    let high = additions(alloc, 500)?;
+    let (low, high) = add_on_two_threads(rt, table, first, second, &low, &high);
+    let (low, first) = low;
+    let (high, second) = high;
+    let added = match (low, high) {
+        (Some(low), Some(high)) => Some(low.wrapping_add(high)),
+        _ => None,
+    };
+    Ok((added, first, second))
+}
+
+const OF_BOTH: [&str; 2] = ["ZSCORE k m750", "ZCARD k"];
+
 fn first_day<L: Ledger + Send + Sync, R: Threads + Wait + AllocGlobal + Sync>(
     rt: &R,
     blank: Blank,
@@ -122,18 +150,10 @@ fn first_day<L: Ledger + Send + Sync, R: Threads + Wait + AllocGlobal + Sync>(
 {
     let alloc = rt.alloc();
     let (table, first, second) = opened::<L>(alloc, blank, owner, FOUR_PLACES)?;
-    let low = additions(alloc, 0)?;
-    let high = additions(alloc, 500)?;
-    let (low, high) = add_on_two_threads(rt, &table, first, second, &low, &high);
-    let (low, first) = low;
-    let (high, second) = high;
+    let (added, first, second) = added_at_once(rt, alloc, &table, first, second)?;
     let mut first = first;
-    let answers = answers(rt, alloc, &table, &mut first, &["ZSCORE k m750", "ZCARD k"])?;
+    let answers = answers(rt, alloc, &table, &mut first, &OF_BOTH)?;
     let (totals, sink) = closed(alloc, table, first, second)?;
-    let added = match (low, high) {
-        (Some(low), Some(high)) => Some(low.wrapping_add(high)),
-        _ => None,
-    };
     Ok(Day {
         added,
         answers,
@@ -142,9 +162,8 @@ fn first_day<L: Ledger + Send + Sync, R: Threads + Wait + AllocGlobal + Sync>(
     })
 }
 
-#[test]
-fn two_threads_add_to_one_key(rt: HostRuntime) -> Result<(), Fail> {
-    let day = first_day::<Brand, _>(&rt, Blank::new(6), owner_of(&rt, &[])?)?;
+// What both were told, and what was told then.
+fn expect_first_day<R: Abort>(rt: &R, day: &Day) {
     assert!(rt; day.added == Some(1500));
     assert_eq!(rt; day.answers.as_str(), "$3~750~ :1500~ ");
     let wanted = Totals {
@@ -156,9 +175,17 @@ fn two_threads_add_to_one_key(rt: HostRuntime) -> Result<(), Fail> {
         records: 1500,
     };
     assert_eq!(rt; day.totals, wanted);
-    let reloaded = owner_from(&rt, day.sink.bytes())?;
-    let (answers, totals) = next_day::<Brand, _>(&rt, Blank::new(6), reloaded, &["ZSCORE k m750"])?;
-    assert_eq!(rt; answers.as_str(), "$3~750~ ");
+}
+
+// What a table is told that is opened with the log's sets. `locks` waits for the table's locks.
+fn expect_next_day<R: Abort + Wait + AllocGlobal>(
+    rt: &HostRuntime,
+    locks: &R,
+    bytes: &[u8],
+) -> Result<(), Fail> {
+    let owner = owner_from(rt, bytes)?;
+    let (answers, totals) = next_day::<Brand, _>(locks, Blank::new(6), owner, &["ZSCORE k m750"])?;
+    assert_eq!(locks; answers.as_str(), "$3~750~ ");
     let wanted = Totals {
         sets: 1,
         members: 1500,
@@ -167,8 +194,15 @@ fn two_threads_add_to_one_key(rt: HostRuntime) -> Result<(), Fail> {
         removed: 0,
         records: 0,
     };
-    assert_eq!(rt; totals, wanted);
+    assert_eq!(locks; totals, wanted);
     Ok(())
+}
+
+#[test]
+fn two_threads_add_to_one_key(rt: HostRuntime) -> Result<(), Fail> {
+    let day = first_day::<Brand, _>(&rt, Blank::new(6), owner_of(&rt, &[])?)?;
+    expect_first_day(&rt, &day);
+    expect_next_day(&rt, &rt, day.sink.bytes())
 }
 
 // The sets that a log's bytes replay to.

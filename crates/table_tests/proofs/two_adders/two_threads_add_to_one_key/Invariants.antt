@@ -2,6 +2,3 @@ use Rattle.table_tests.proofs.two_adders.two_threads_add_to_one_key.Given as goa
 
 abbrev pub ghosts-first_day : goal.ghosts-first_day
 ghosts-first_day g a = record { name = a.blank.name; parts = a.blank.parts }
-
-abbrev pub ghosts-next_day : goal.ghosts-next_day
-ghosts-next_day g a = record { name = a.blank.name; parts = a.blank.parts }
