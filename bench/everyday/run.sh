@@ -3,7 +3,7 @@
 # same client and the same requests, in turns. Prints for each work the processor time of the servers a command, as
 # means over the rounds, or the resident bytes a member, and their ratio (zcrackd to Redis; below 1 is quicker or
 # smaller). Use: bench/everyday/run.sh [MEMBERS [WORK..]]. Redis is Debian's: apt-get install redis-server. ROUNDS is
-# 5 if not given.
+# 5 if not given. OLDER names an older build of the program, which is driven in turns too; a last column has zcrackd to it.
 set -eu
 source "$(dirname "$0")/../common.sh"
 compile drive
@@ -17,15 +17,22 @@ if [ "$members" -lt 100000 ]; then works=${works/removals_of_100000/}; fi
 for round in $(seq "${ROUNDS:-5}"); do
     for work_name in $works; do
         "$work/drive" "$work_name" "$members" "$round" pair "$server" stdio >> "$work/ours"
+        if [ -n "${OLDER:-}" ]; then
+            "$work/drive" "$work_name" "$members" "$round" pair "$OLDER" stdio >> "$work/older"
+        fi
         start_redis 0 --appendonly no --unixsocket "$work/socket"
         until redis-cli -s "$work/socket" ping > /dev/null 2>&1; do sleep 0.02; done
         "$work/drive" "$work_name" "$members" "$round" unix "$work/socket" "$redis" >> "$work/theirs"
         stop_redis
     done
 done
+# mean WORK SIDE
+mean() { awk -v p="$1" '$1 == p { s += $2; k += 1 } END { print k ? s / k : 0 }' "$work/$2"; }
+
 echo "$members members"
+touch "$work/older"
 for work_name in $works; do
-    awk -v n="$work_name" -v a="$(awk -v p="$work_name" '$1 == p { s += $2; k += 1 } END { print s / k }' "$work/ours")" \
-        -v b="$(awk -v p="$work_name" '$1 == p { s += $2; k += 1 } END { print s / k }' "$work/theirs")" \
-        'BEGIN { printf "%-28s %12.0f %12.0f %9.2f\n", n, a, b, a / b }'
+    awk -v n="$work_name" -v a="$(mean "$work_name" ours)" -v b="$(mean "$work_name" theirs)" \
+        -v c="$(mean "$work_name" older)" \
+        'BEGIN { printf "%-28s %12.0f %12.0f %9.2f", n, a, b, a / b; if (c) printf " %9.2f", a / c; print "" }'
 done

@@ -10,10 +10,15 @@ IsBelow v r = r.0 <ℤ v
 abbrev pub IsFrom : ℤ → ℤ × List ℕ → Type 0
 IsFrom v r = v ≤ℤ r.0
 
--- the rows below v among those from one place on and before another are the rows at these places, which rise
-abbrev pub ListsBelow : ℤ → List (ℤ × List ℕ) → List ℕ → ℕ → ℕ → Type 0
-ListsBelow v rows [] from to = AllWithin (IsFrom v) rows from to
-ListsBelow v rows (p ∷ places) from to = (from ≤ p) × (p < to) × AllWithin (IsFrom v) rows from p × HoldsAt (IsBelow v) rows p × ListsBelow v rows places (p + 1) to
+-- of the rows from one place on and before another those at these places, which rise, have P, and the others have Q
+abbrev pub Lists : (P Q : ℤ × List ℕ → Type 0) → List (ℤ × List ℕ) → List ℕ → ℕ → ℕ → Type 0
+Lists P Q rows [] from to = AllWithin Q rows from to
+Lists P Q rows (p ∷ places) from to = (from ≤ p) × (p < to) × AllWithin Q rows from p × HoldsAt P rows p × Lists P Q rows places (p + 1) to
+
+-- the same of places that fall
+abbrev pub ListsDown : (P Q : ℤ × List ℕ → Type 0) → List (ℤ × List ℕ) → List ℕ → ℕ → ℕ → Type 0
+ListsDown P Q rows [] from to = AllWithin Q rows from to
+ListsDown P Q rows (p ∷ places) from to = (from ≤ p) × (p < to) × AllWithin Q rows (p + 1) to × HoldsAt P rows p × ListsDown P Q rows places from p
 
 -- each element before the place has P, and each from the place on has Q
 pub record IsParted {X : Type 0} (P Q : X → Type 0) (xs : List X) (place : ℕ) : Type 0 where

@@ -2,19 +2,50 @@
 
 ghost use Rattle.std.specs.Prelude.{◌≡◌, ◌≤◌, ◌+◌, ◌≤ℤ◌, length, take, IsPermutation};
 ghost use Rattle.std.specs.List.{AllWithin};
-ghost use Rattle.crack_kernel.specs.Parts.{IsBelow, IsFrom, IsParted, ChangesWithin, ListsBelow};
+ghost use Rattle.crack_kernel.specs.Parts.{IsBelow, IsFrom, IsParted, ChangesWithin, Lists};
 
+use crate::ends::{BLOCK, Ends};
 use crate::row::Row;
 use std::alloc::Allocator;
 
-/// How many rows are looked through before those below are moved.
-const BLOCK: usize = 64;
+/// A slice of fewer rows is cracked from its low end alone.
+const BOTH_ENDS_FROM: usize = 512;
 
 /// Puts the rows with a score below `v` before the others, and answers how many they are.
 ///
 /// This is crack-in-two of Database Cracking (CIDR 2007), a block of rows at a time as in BlockQuicksort (Edelkamp and
-/// Weiß, ESA 2016): no branch hangs on a score, and one swap is made for each row below. It takes no memory.
+/// Weiß, ESA 2016): no branch hangs on a score, and rows on the wrong side change places in pairs. It takes no memory.
 pub fn crack_two<A: Allocator>(rows: &mut [Row<A>], v: i64) -> usize
+    ensures permutation { IsPermutation rows.old rows.new }
+    ensures parted { IsParted (IsBelow v) (IsFrom v) rows.new result }
+{
+    let (from, to) = crack_ends(rows, v);
+    from + crack_run(&mut rows[from..to], v)
+}
+
+/// Cracks a long slice from both ends, and answers where the few rows between them begin and end that are not yet
+/// cracked.
+fn crack_ends<A: Allocator>(rows: &mut [Row<A>], v: i64) -> (usize, usize)
+    ensures permutation { IsPermutation rows.old rows.new }
+    ensures order { (result.0 ≤ result.1) × (result.1 ≤ length rows.new) }
+    ensures below { AllWithin (IsBelow v) rows.new 0 result.0 }
+    ensures behind { AllWithin (IsFrom v) rows.new result.1 (length rows.new) }
+{
+    let len = rows.len();
+    if len < BOTH_ENDS_FROM {
+        return (0, len);
+    }
+    let mut ends = Ends::of(rows, v);
+    while ends.upper.from - ends.lower.to >= 2 * BLOCK {
+        ends.find_lower(rows);
+        ends.find_upper(rows);
+        ends.exchange(rows);
+    }
+    (ends.lower.from, ends.upper.to)
+}
+
+/// Cracks a slice from its low end, with one swap for each row below.
+fn crack_run<A: Allocator>(rows: &mut [Row<A>], v: i64) -> usize
     ensures permutation { IsPermutation rows.old rows.new }
     ensures parted { IsParted (IsBelow v) (IsFrom v) rows.new result }
 {
@@ -71,7 +102,7 @@ fn find_below<A: Allocator>(
     requires within { to ≤ length rows.now }
     requires room { to ≤ from + BLOCK }
     ensures few { result ≤ BLOCK }
-    ensures found { ListsBelow v rows.now (take result found.new) from to }
+    ensures found { Lists (IsBelow v) (IsFrom v) rows.now (take result found.new) from to }
 {
     // Each place is written, whatever the row's score, and the score only moves the count: a write under a condition
     // would be a branch that no processor can foretell.

@@ -6,6 +6,7 @@
 #![tactic(auto)]
 
 pub mod crack;
+mod ends;
 pub mod pivots;
 pub mod row;
 

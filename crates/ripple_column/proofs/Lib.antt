@@ -18,3 +18,4 @@ pub mod InnerPivots
 pub mod InnerCracks
 pub mod Removal
 pub mod FrontRoom
+pub mod Spans

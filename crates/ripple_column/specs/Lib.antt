@@ -6,6 +6,7 @@ pub mod RangeAnswer
 pub mod MergeGap
 pub mod MergeEffects
 pub mod RowHash
+pub mod ScoreSpan
 pub mod PendingBloom
 pub mod ShownPivots
 pub mod InnerCrackEffects

@@ -27,6 +27,7 @@ mod pieces;
 mod range_removal;
 mod ripple;
 mod row_hash;
+mod score_span;
 mod select;
 mod shown_pivots;
 

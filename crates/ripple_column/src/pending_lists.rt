@@ -11,6 +11,7 @@ ghost use Rattle.ripple_column.specs.RowHash.{hash_of};
 use crate::pending_bloom::PendingBloom;
 use crate::pending_rows::PendingRows;
 use crate::row_hash::hash_of;
+use crate::score_span::ScoreSpan;
 use crack_kernel::Row;
 use score_bounds::{Interval, Range};
 use std::alloc::{AllocError, Allocator};
@@ -20,8 +21,7 @@ use std::marker::Model;
 /// The greatest number of rows in each of the two lists of rows that wait.
 pub const MAX_PENDING: usize = 2048;
 
-/// The greatest number of insertions, and of deletions, for which room is made at once: as many as a
-/// request has arguments.
+/// For how many insertions, and deletions, room is made at once at most: a request's arguments.
 pub const MAX_RESERVED: usize = 1027;
 
 /// From how many rows on a list gets marks. Fewer rows are as quickly looked through.
@@ -39,18 +39,21 @@ const KEEPS_ROOM_FROM: usize = 1024;
 pub struct PendingList<A: Allocator> {
     rows: PendingRows<A>,
     marks: PendingBloom<A>,
+    /// Between which scores the rows lie. Where a range lies elsewhere, none is looked at.
+    span: ScoreSpan,
 }
 
 impl<A: Allocator> Model for PendingList<A> {
     ghost use Rattle.std.specs.Prelude.{ℤ, ℕ, List};
     ghost use Rattle.std.specs.declared.vec.Vec.{Vec as VecValue};
     ghost use Rattle.ripple_column.specs.PendingBloom.{Covers};
+    ghost use Rattle.ripple_column.specs.ScoreSpan.{Spans};
 
     ghost Value = { VecValue (ℤ × List ℕ) A };
 
     ghost view = { λ l. l.rows };
 
-    ghost invariant = { λ l. Covers l.marks.words.items l.rows.items };
+    ghost invariant = { λ l. Covers l.marks.words.items l.rows.items × Spans l.span l.rows.items };
 }
 
 impl<A: Allocator + Copy> PendingList<A> {
@@ -61,6 +64,7 @@ impl<A: Allocator + Copy> PendingList<A> {
         PendingList {
             rows: PendingRows::new(alloc),
             marks: PendingBloom::new(alloc),
+            span: ScoreSpan::empty(),
         }
     }
 }
@@ -85,6 +89,9 @@ impl<A: Allocator> PendingList<A> {
         ensures { result ≡ list_any (has_score_in range.now) self.now.items }
     {
         let interval = range.interval();
+        if self.span.is_missed_by(&interval) {
+            return false;
+        }
         self.list().iter().any(|row| is_within(row, &interval))
     }
 
@@ -93,6 +100,9 @@ impl<A: Allocator> PendingList<A> {
         ensures { result ≡ count_by (has_score_in range.now) self.now.items }
     {
         let interval = range.interval();
+        if self.span.is_missed_by(&interval) {
+            return 0;
+        }
         self.list()
             .iter()
             .filter(|row| is_within(*row, &interval))
@@ -112,19 +122,30 @@ impl<A: Allocator> PendingList<A> {
         }
     }
 
-    /// Makes room for `n` more rows. A list that has become long gets its marks, and those of an
-    /// empty one are wiped.
+    /// Wipes the marks of an empty list, and makes those of one that has become long.
+    fn renew_marks(&mut self) -> Result<(), AllocError>
+        ensures items { self.new.items ≡ self.old.items }
+        ensures len { vec_len self.new ≡ vec_len self.old }
+    {
+        let len = self.rows.len();
+        if len == 0 {
+            self.marks.wipe();
+            self.span = ScoreSpan::empty();
+            return Ok(());
+        }
+        if len >= MARKED_FROM && self.marks.is_empty() {
+            return self.marks.mark_rows(self.rows.list());
+        }
+        Ok(())
+    }
+
+    /// Makes room for `n` more rows, and renews the marks.
     pub fn reserve(&mut self, n: usize) -> Result<(), AllocError>
         ensures items { self.new.items ≡ self.old.items }
         ensures len { vec_len self.new ≡ vec_len self.old }
         ensures room { OnOk result (vec_len self.new + n ≤ vec_capacity self.new) }
     {
-        let len = self.rows.len();
-        if len == 0 {
-            self.marks.wipe();
-        } else if len >= MARKED_FROM && self.marks.is_empty() {
-            self.marks.mark_rows(self.rows.list())?;
-        }
+        self.renew_marks()?;
         self.rows.reserve(n)
     }
 
@@ -148,6 +169,7 @@ impl<A: Allocator> PendingList<A> {
         ensures capacity { vec_capacity self.new ≡ vec_capacity self.old }
     {
         self.marks.mark(hash);
+        self.span.widen(row.score());
         self.rows.push_reserved(row);
     }
 
@@ -194,6 +216,9 @@ impl<A: Allocator> PendingList<A> {
         ensures last { HasLast range.now self.new.items result }
         ensures capacity { vec_capacity self.new ≡ vec_capacity self.old }
     {
+        if self.span.is_missed_by(&range.interval()) {
+            return self.rows.len();
+        }
         self.rows.gather(range)
     }
 
@@ -218,8 +243,7 @@ impl<A: Allocator> PendingList<A> {
         self.rows.reverse_from(from);
     }
 
-    /// Puts `row` into the list, unless it waits in the other list, whose effect it would undo: then
-    /// it is withdrawn there.
+    /// Puts `row` into the list, or withdraws it from the other one, whose effect it would undo.
     pub fn pend(&mut self, row: Row<A>, other: &mut PendingList<A>)
         requires room { vec_len self.old < vec_capacity self.old }
         ensures pends { Pends row self.old.items self.new.items other.old.items other.new.items }
@@ -246,8 +270,7 @@ pub fn is_within<A: Allocator>(row: &Row<A>, interval: &Interval) -> bool
     interval.contains(row.score())
 }
 
-/// From which indices on the rows of a range stand in the two lists of rows that wait, once they are
-/// gathered there.
+/// From which indices on the rows of a range stand in the two lists, once they are gathered there.
 #[derive(Clone, Copy)]
 pub struct RangeTails {
     pub deletions: usize,
@@ -334,8 +357,7 @@ fn four_have<A: Allocator>(rows: &[Row<A>], from: usize, score: i64) -> bool
         | has_score(&rows[from + 3], score)
 }
 
-/// Goes on from the index `from` over rows of other scores, by four at a time, which takes half the
-/// time of one by one.
+/// Goes on from an index over rows of other scores, four at a time: half the time of one by one.
 fn skip_others<A: Allocator>(rows: &[Row<A>], from: usize, score: i64) -> usize
     requires { from ≤ length rows.now }
     ensures low { from ≤ result }

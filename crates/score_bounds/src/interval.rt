@@ -1,5 +1,5 @@
 //! Ranges made ready to be asked about many scores.
-ghost use Rattle.std.specs.Prelude.{◌≡◌, ◌&&◌, not, true, ℤ, int_lt, MatchOption};
+ghost use Rattle.std.specs.Prelude.{◌≡◌, ◌&&◌, ◌↔◌, ◌≤ℤ◌, not, true, false, ℤ, int_lt, IsTrue, MatchOption};
 ghost use Rattle.score_bounds.specs.Bounds.{is_in, is_under, is_over};
 ghost use Rattle.score_bounds.specs.Scores.{IsScore};
 
@@ -24,6 +24,14 @@ impl Interval {
         ensures { result ≡ is_in self.now.range score }
     {
         (self.low <= score) & (score <= self.high)
+    }
+
+    /// Whether no score from `least` to `greatest`, both among them, is in the range.
+    pub fn misses(&self, least: i64, greatest: i64) -> bool
+        ensures { IsTrue result ↔ ((score : ℤ) → least ≤ℤ score → score ≤ℤ greatest
+            → is_in self.now.range score ≡ false) }
+    {
+        self.high.min(greatest) < self.low.max(least)
     }
 }
 
