@@ -1,14 +1,15 @@
 -- The order of pivots: searches in it, and what keeps it.
-use Rattle.std.proofs.Common.{◌≡◌, ◌≢◌, ℕ, ℤ, Bool, ◌+◌, ◌-◌, ◌<◌, ◌≤◌, ◌<ℤ◌, ◌≤ℤ◌, List, [], ◌∷◌, ◌++◌, map, length, get_or, take, drop, insert, inl, inr, ◌∙◌, sym, refl, ap, arith, length-drop}
+use Rattle.std.proofs.Common.{◌≡◌, ◌≢◌, ℕ, zero, suc, nat_le, ℤ, Bool, ◌+◌, ◌-◌, ◌<◌, ◌≤◌, ◌<ℤ◌, ◌≤ℤ◌, List, [], ◌∷◌, ◌++◌, map, length, get_or, take, drop, insert, inl, inr, ◌∙◌, sym, refl, ap, arith, length-drop}
 use Rattle.std.specs.List.{AllWithin}
 use Rattle.std.specs.List.Sorted.{IsPartitionedBy}
 use Rattle.std.specs.Int.Signed.{le_z}
 use Rattle.std.proofs.lemmas.Bool.{cases_lt, cases_eq}
+use Rattle.std.proofs.lemmas.Bool.Decides.{nat_tests}
 use Rattle.std.proofs.lemmas.Int.{ints}
-use Rattle.std.proofs.lemmas.List.{get_or-map, length-map, get_or-append_right, get_or-drop, map-append, take-append-drop}
+use Rattle.std.proofs.lemmas.List.{get_or_default, get_or-map, length-map, get_or-append_right, get_or-drop, map-append, take-append-drop}
 use Rattle.std.proofs.lemmas.List.Edits.{get_or-insert_below, get_or-insert_at, get_or-insert_above, length-insert}
 use Rattle.std.proofs.lemmas.Grind.{common_steps}
-use Rattle.crack_kernel.specs.PivotList.{IsRising, IsNewValue, RisesPast, moved, shifted}
+use Rattle.crack_kernel.specs.PivotList.{ArePlacedInOrder, IsRising, IsNewValue, RisesPast, closed_up, moved, shifted}
 
 -- values do not fall
 pub IsRising-le : (ps : List (ℤ × ℕ)) (i j : ℕ) (d : ℤ × ℕ) → IsRising ps → i ≤ j → j < length ps → (get_or ps i d).0 ≤ℤ (get_or ps j d).0
@@ -23,6 +24,30 @@ pub IsPartitionedBy-rising : (v : ℤ) (ps : List (ℤ × ℕ)) → IsRising ps 
 IsPartitionedBy-rising v ps rising i j d order within passes =
     let h : (get_or ps i d).0 ≤ℤ (get_or ps j d).0 = IsRising-le ps i j d rising order within in
     grind (arith, ints)
+
+-- the test of a search among their places passes up to one index and fails from there on
+pub IsPartitionedBy-placed : (place : ℕ) (ps : List (ℤ × ℕ)) → IsRising ps → ArePlacedInOrder ps → IsPartitionedBy (λ p. nat_le p.1 place) ps
+IsPartitionedBy-placed place ps rising placed i j d order within passes =
+    elim (cases_lt i j) [
+      | inl below ↦
+          let p = get_or ps i d in
+          let q = get_or ps j d in
+          let i_in : i < length ps = omega arith in
+          let h : p.1 ≤ q.1 = placed p q (i, i_in, get_or_default ps i p d i_in) (j, within, get_or_default ps j q d within) (rising i j d below within) in
+          grind (arith, nat_tests)
+      | inr from ↦ let e : i ≡ j = omega arith in rw e passes
+    ]
+
+-- the places up to the first row that is gone stay
+pub closed_up-from : (from to first : ℕ) (ps : List (ℤ × ℕ)) → AllWithin (λ p. p.1 ≤ from) ps 0 first
+    → take first ps ++ map (λ p. (p.0, closed_up from to p.1)) (drop first ps) ≡ map (λ p. (p.0, closed_up from to p.1)) ps
+closed_up-from from to zero ps upto = refl
+closed_up-from from to (suc n) [] upto = refl
+closed_up-from from to (suc n) (p ∷ ps) upto =
+    let low : p.1 ≤ from = upto 0 p (omega arith) (omega arith) in
+    let same : closed_up from to p.1 ≡ p.1 = grind (arith, nat_tests) in
+    let rest = closed_up-from from to n ps (λ k d l h. upto (suc k) d (omega arith) (omega arith)) in
+    rw same (ap (λ zs. p ∷ zs) rest)
 
 -- a new value is above the pivots that are counted and below the others
 pub RisesPast-new : (v : ℤ) (ps : List (ℤ × ℕ)) (n : ℕ) → RisesPast v ps n → IsNewValue v ps → AllWithin (λ p. p.0 <ℤ v) ps 0 n

@@ -1,6 +1,6 @@
 -- Pivots: pairs of a value and a place in the rows. The rows before a pivot's place have scores below
 -- its value, the others have not (Database Cracking, Idreos, Kersten and Manegold, CIDR 2007).
-use Rattle.std.specs.Prelude.{◌≡◌, ◌≢◌, ◌+◌, ◌-◌, ◌<◌, ◌≤◌, ◌<ℤ◌, ◌≤ℤ◌, ℕ, ℤ, pos, Bool, List, ◌++◌, length, take, drop, map, All, slice_index_or, nat_le, nat_lt, if◌then◌else◌, zero, suc}
+use Rattle.std.specs.Prelude.{◌≡◌, ◌≢◌, ◌+◌, ◌-◌, ◌<◌, ◌≤◌, ◌<ℤ◌, ◌≤ℤ◌, ℕ, ℤ, pos, Bool, List, ◌++◌, length, take, drop, map, All, Contains, slice_index_or, nat_le, nat_lt, if◌then◌else◌, zero, suc}
 use Rattle.std.specs.List.{AllWithin}
 use Rattle.crack_kernel.specs.Parts.{IsBelow, IsFrom, IsParted}
 
@@ -12,6 +12,10 @@ pub record PivotList : Type 0 where
 -- the values of the pivots rise strictly
 abbrev pub IsRising : List (ℤ × ℕ) → Type 0
 IsRising ps = (i j : ℕ) (d : ℤ × ℕ) → i < j → j < length ps → (slice_index_or ps i d).0 <ℤ (slice_index_or ps j d).0
+
+-- a pivot of a greater value has no lower place, as the pivot law implies
+abbrev pub ArePlacedInOrder : List (ℤ × ℕ) → Type 0
+ArePlacedInOrder ps = (p q : ℤ × ℕ) → Contains ps p → Contains ps q → p.0 <ℤ q.0 → p.1 ≤ q.1
 
 -- the greatest number of pivots (MAX_PIVOTS in code)
 abbrev pub max_pivots : ℕ

@@ -1,7 +1,8 @@
 //! The pivots of a column, by rising value.
 
-ghost use Rattle.std.specs.Prelude.{◌≡◌, ◌+◌, ◌<◌, ◌≤◌, ◌^◌, [], ◌∷◌, ◌↔◌, true, false, drop, map, pos, set, slice_index_or, length, All, Contains, IsPermutation, IsTrue, IsFalse, IsOk, OnOk, MatchOption, vec_len, vec_capacity};
-ghost use Rattle.crack_kernel.specs.PivotList.{IsRising, IsNewValue, RisesPast, IsPieceOf, moved, shifted, closed_up};
+ghost use Rattle.std.specs.Prelude.{◌≡◌, ◌+◌, ◌<◌, ◌≤◌, ◌^◌, [], ◌∷◌, ◌++◌, ◌↔◌, true, false, take, drop, map, pos, set, slice_index_or, length, All, Contains, IsPermutation, IsTrue, IsFalse, IsOk, OnOk, MatchOption, vec_len, vec_capacity};
+ghost use Rattle.std.specs.List.{AllWithin};
+ghost use Rattle.crack_kernel.specs.PivotList.{ArePlacedInOrder, IsRising, IsNewValue, RisesPast, IsPieceOf, moved, shifted, closed_up};
 
 use std::alloc::{AllocError, Allocator};
 use std::marker::Model;
@@ -127,6 +128,18 @@ impl<A: Allocator> Pivots<A> {
         ensures spare { self.new.spare ≡ self.old.spare }
     {
         close_up(&mut self.list, from, to);
+    }
+
+    /// The same where places rise with values or stay: the pivots with places up to `from`, which stay, are not
+    /// looked at but for a search.
+    pub fn close_up_in_order(&mut self, from: usize, to: usize)
+        requires order { from ≤ to }
+        requires places { ArePlacedInOrder self.old.list }
+        ensures list { self.new.list ≡ map (λ p. (p.0, closed_up from to p.1)) self.old.list }
+        ensures spare { self.new.spare ≡ self.old.spare }
+    {
+        let first = count_placed_upto(&self.list, from);
+        close_up_behind(&mut self.list, first, from, to);
     }
 
     /// Gives the pivot of the index `i` another place.
@@ -277,6 +290,33 @@ fn close_up<A: Allocator>(list: &mut Vec<(i64, usize), A>, from: usize, to: usiz
     ensures capacity { vec_capacity list.new ≡ vec_capacity list.old }
 {
     close_places(&mut list[..], from, to);
+}
+
+/// How many pivots have places up to `place`.
+fn count_placed_upto(list: &[(i64, usize)], place: usize) -> usize
+    requires rising { IsRising list.now }
+    requires places { ArePlacedInOrder list.now }
+    ensures within { result ≤ length list.now }
+    ensures upto { AllWithin (λ p. p.1 ≤ place) list.now 0 result }
+{
+    list.partition_point(|pivot| pivot.1 <= place)
+}
+
+/// Moves each place from the index `first` on by the rows that are gone below it.
+fn close_up_behind<A: Allocator>(
+    list: &mut Vec<(i64, usize), A>,
+    first: usize,
+    from: usize,
+    to: usize,
+)
+    requires first { first ≤ length list.old.items }
+    requires order { from ≤ to }
+    ensures list { list.new.items ≡ take first list.old.items
+        ++ map (λ p. (p.0, closed_up from to p.1)) (drop first list.old.items) }
+    ensures len { vec_len list.new ≡ vec_len list.old }
+    ensures capacity { vec_capacity list.new ≡ vec_capacity list.old }
+{
+    close_places(&mut list[first..], from, to);
 }
 
 /// Moves each place by the rows that are gone below it.

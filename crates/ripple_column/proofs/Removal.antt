@@ -1,6 +1,7 @@
 -- Rows between two places leave, those behind them close up, and the pivots with them.
-use Rattle.std.proofs.Common.{◌≡◌, ℕ, ℤ, Bool, true, false, not, ◌&&◌, ◌+◌, ◌-◌, ◌<◌, ◌≤◌, List, ◌++◌, length, length-take, length-drop, length-append, get_or, take, drop, map, count_by, cond, inl, inr, sym, ◌∙◌, subst, refl, ap, arith, Contains}
+use Rattle.std.proofs.Common.{◌≡◌, ℕ, ℤ, pos, [], Bool, true, false, not, ◌&&◌, ◌+◌, ◌-◌, ◌<◌, ◌≤◌, List, ◌++◌, length, length-take, length-drop, length-append, get_or, take, drop, map, count_by, cond, inl, inr, sym, ◌∙◌, subst, refl, ap, arith, Contains}
 use Rattle.std.specs.List.{between}
+use Rattle.std.proofs.lemmas.Int.{ints}
 use Rattle.std.proofs.lemmas.Bool.{cases_Bool, cases_lt}
 use Rattle.std.proofs.lemmas.Bool.Decides.{nat_tests}
 use Rattle.std.proofs.lemmas.List.{get_or_append_left, get_or-append_right, get_or_default, get_or-take, get_or-drop, get_or-map, length-map}
@@ -11,7 +12,7 @@ use Rattle.score_bounds.specs.declared.bounds.Cut.TheVariants.{Start, At, End}
 use Rattle.score_bounds.specs.declared.bounds.Range.{Range}
 use Rattle.crack_kernel.specs.RowBag.{Test, IsSubBag}
 use Rattle.crack_kernel.specs.Parts.{IsBelow, IsFrom, IsParted}
-use Rattle.crack_kernel.specs.PivotList.{ObeysPivots, closed_up}
+use Rattle.crack_kernel.specs.PivotList.{ArePlacedInOrder, ObeysPivots, closed_up}
 use Rattle.ripple_column.specs.ClosedUp.{closed_up_pivots, closed_up_rows}
 use Rattle.ripple_column.specs.Content.{ColumnState, content_count, has_score_in}
 use Rattle.ripple_column.specs.CutPivots.{is_before, StandsAt}
@@ -250,3 +251,22 @@ pub rows_closed_up : (old new : ColumnState) (range : Range) (a : ℕ × ℕ) �
 rows_closed_up old new range a gone holds p =
     let left = count_closed_up p old.rows a.0 a.1 holds.order in
     rw gone.rows (omega (arith, left))
+
+-- by the pivot law a pivot of a greater value has no lower place
+pub placed_in_order : (ps : List (ℤ × ℕ)) (rows : List (ℤ × List ℕ)) → ObeysPivots ps rows → ArePlacedInOrder ps
+placed_in_order ps rows law p q has_p has_q below =
+    elim (cases_lt q.1 p.1) [
+      | inr up ↦ up
+      | inl down ↦
+          let first = subst (λ (r : ℤ × ℕ). IsParted (IsBelow r.0) (IsFrom r.0) rows r.1) has_p.2 (law.parted has_p.0 p has_p.1) in
+          let second = subst (λ (r : ℤ × ℕ). IsParted (IsBelow r.0) (IsFrom r.0) rows r.1) has_q.2 (law.parted has_q.0 q has_q.1) in
+          let in_rows : p.1 ≤ length rows = first.within in
+          let e : ℤ × List ℕ = (pos 0, []) in
+          let low = first.before q.1 e (omega arith) down in
+          let high = second.behind q.1 e (omega arith) (omega arith) in
+          absurd (omega (arith, ints, low, high, below))
+    ]
+
+-- and so it is with some of them
+pub placed_among : (ps qs : List (ℤ × ℕ)) → IsAmong ps qs → ArePlacedInOrder qs → ArePlacedInOrder ps
+placed_among ps qs among placed p q has_p has_q below = placed p q (among p has_p) (among q has_q) below

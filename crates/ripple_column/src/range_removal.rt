@@ -16,7 +16,7 @@ fn close_up<A: Allocator + Copy>(cracked: &mut Cracked<A>, from: usize, to: usiz
     ensures pivots { cracked.new.pivots.list ≡ closed_up_pivots from to cracked.old.pivots.list }
 {
     cracked.rows.remove_between(from, to);
-    cracked.pivots.close_up(from, to);
+    cracked.pivots.close_up_in_order(from, to);
 }
 
 /// Drops the rows from the place `from` on and before the place `to`. It takes no memory.
@@ -28,6 +28,6 @@ pub fn remove_between<A: Allocator + Copy>(pieces: &mut Pieces<A>, from: usize, 
 {
     close_up(&mut pieces.cracked, from, to);
     if pieces.apart {
-        pieces.kept.close_up(from, to);
+        pieces.kept.close_up_in_order(from, to);
     }
 }
