@@ -1,7 +1,9 @@
 //! Between which scores rows that wait lie, so that mostly none is looked at where a range lies elsewhere.
 
-ghost use Rattle.std.specs.Prelude.{◌≡◌, ℤ, false, IsTrue};
+ghost use Rattle.std.specs.Prelude.{◌≡◌, ◌↔◌, ℤ, false, IsTrue};
+ghost use Rattle.std.specs.Int.{int_max, int_min};
 ghost use Rattle.score_bounds.specs.Bounds.{is_in};
+ghost use Rattle.score_bounds.specs.Scores.{greatest, least};
 ghost use Rattle.ripple_column.specs.ScoreSpan.{is_outside};
 
 use score_bounds::Interval;
@@ -15,7 +17,10 @@ pub struct ScoreSpan {
 
 impl ScoreSpan {
     /// The span of no scores.
-    pub fn empty() -> Self {
+    pub fn empty() -> Self
+        ensures least { result.least ≡ greatest }
+        ensures greatest { result.greatest ≡ least }
+    {
         ScoreSpan {
             least: i64::MAX,
             greatest: i64::MIN,
@@ -24,6 +29,8 @@ impl ScoreSpan {
 
     /// Widens the span to a score.
     pub fn widen(&mut self, score: i64)
+        ensures least { self.new.least ≡ int_min self.old.least score }
+        ensures greatest { self.new.greatest ≡ int_max self.old.greatest score }
         ensures inside { is_outside self.new score ≡ false }
         ensures kept { (s : ℤ) → is_outside self.old s ≡ false → is_outside self.new s ≡ false }
     {
@@ -33,7 +40,7 @@ impl ScoreSpan {
 
     /// Whether a range has no score that lies in the span.
     pub fn is_missed_by(&self, interval: &Interval) -> bool
-        ensures { IsTrue result → (s : ℤ) → is_outside self.now s ≡ false → is_in interval.now.range s ≡ false }
+        ensures { IsTrue result ↔ ((s : ℤ) → is_outside self.now s ≡ false → is_in interval.now.range s ≡ false) }
     {
         interval.misses(self.least, self.greatest)
     }

@@ -8,5 +8,5 @@ use Rattle.ripple_column.proofs.pending_lists.PendingList.count_within.Goals as 
 pub returns-then-is_missed_by : goal.returns-then-is_missed_by
 returns-then-is_missed_by g c =
     let rows = c.self.inside.rows.items in
-    let none = none_in c.self.inside.span c.interval-interval.result.range rows (c.is_missed_by.ensures c.if-is_missed_by.true) c.self.invariant.1 in
+    let none = none_in c.self.inside.span c.interval-interval.result.range rows (c.is_missed_by.ensures.0 c.if-is_missed_by.true) c.self.invariant.1 in
     rw (← c.self.view_is) (sym (count_none (has_score_in c.args.range.now) rows (subst (λ (range : Range). NoneIn range rows) c.interval-interval.ensures none)))

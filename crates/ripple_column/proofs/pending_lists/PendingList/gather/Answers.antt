@@ -9,7 +9,7 @@ use Rattle.ripple_column.proofs.pending_lists.PendingList.gather.Goals as goal
 pub returns-then-is_missed_by-clause-last : goal.returns-then-is_missed_by-clause-last
 returns-then-is_missed_by-clause-last g c =
     let rows = c.self.inside.rows.items in
-    let none = none_in c.self.inside.span c.interval.result.range rows (c.is_missed_by.ensures c.if-is_missed_by.true) c.self.invariant.1 in
+    let none = none_in c.self.inside.span c.interval.result.range rows (c.is_missed_by.ensures.0 c.if-is_missed_by.true) c.self.invariant.1 in
     let in_range : NoneIn c.args.range.now rows = subst (λ (range : Range). NoneIn range rows) (c.interval.ensures) none in
     rw (← c.self.view_is) (record {
       within = omega (arith, c.len.ensures);
