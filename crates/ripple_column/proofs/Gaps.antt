@@ -263,6 +263,23 @@ HasGap-empty ps xs i a r law upto is =
       blanks = λ j d l u. absurd (omega arith);
     }
 
+-- an empty gap elsewhere is one at the end of each piece
+pub HasGap-moved : (ps : List (ℤ × ℕ)) (xs : List (ℤ × List ℕ)) (i a j b : ℕ) → j ≤ length ps → b ≡ (get_or ps j (pos 0, length xs)).1
+    → HasGap ps xs i a a → HasGap ps xs j b b
+HasGap-moved ps xs i a j b upto is g =
+    let o : Places ps (length xs) = record { rise = g.rise; within = g.inside } in
+    record {
+      order = omega arith;
+      within = rw is (bound_within ps (length xs) j o);
+      index = upto;
+      below = λ k e lt. rw is (bound_from ps (length xs) k j e o (omega arith) (omega arith));
+      above = λ k e from lt. rw is (bound_upto ps (length xs) j k e o from lt);
+      rise = g.rise;
+      inside = g.inside;
+      parted = λ k e lt m d in' out. g.parted k e lt m d in' (λ h. h);
+      blanks = λ m d l u. absurd (omega arith);
+    }
+
 -- a score between the pivots at the two ends of a piece
 pub RisesPast-between : (ps : List (ℤ × ℕ)) (v : ℤ) (i : ℕ) → IsRising ps → i ≤ length ps → (0 < i → (get_or ps (i - 1) (pos 0, 0)).0 ≤ℤ v)
     → (i < length ps → v <ℤ (get_or ps i (pos 0, 0)).0) → RisesPast v ps i

@@ -19,9 +19,17 @@ use crate::pending_lists::{Pending, RangeTails};
 use crack_kernel::{Pivots, Row};
 use std::alloc::Allocator;
 
-/// From how many rows on a merge goes over the pieces once for all of them. The ripple moves of
-/// fewer rows take less time.
+/// From how many rows on a merge goes over the pieces once for all of them, however few pieces there are.
 const MANY: usize = 32;
+
+/// From how many moves on, one of each row over each pivot, the ripple moves of fewer rows than that take longer than
+/// a pass, which carries a row that leaves to where one comes.
+const MANY_MOVES: usize = 4096;
+
+/// Whether so many rows are merged by passes among so many pivots.
+fn are_many(rows: usize, pivots: usize) -> bool {
+    rows >= MANY || rows >= 2 && rows.saturating_mul(pivots) >= MANY_MOVES
+}
 
 /// From which index on, from `from` on and at most `to`, scores are below `v` in a list in which
 /// they fall.
@@ -38,14 +46,36 @@ fn tail_below<A: Allocator>(list: &[Row<A>], from: usize, to: usize, v: i64) -> 
     i
 }
 
+/// From which index on, from `from` on and at most `to`, scores in a list in which they fall are below those of the
+/// piece of the index `piece`.
+fn tail_below_piece<A: Allocator>(
+    pivots: &[(i64, usize)],
+    piece: usize,
+    list: &[Row<A>],
+    from: usize,
+    to: usize,
+) -> usize
+    requires order { from ≤ to }
+    requires within { to ≤ length list.now }
+    ensures low { from ≤ result }
+    ensures high { result ≤ to }
+{
+    if piece == 0 || piece > pivots.len() {
+        return to;
+    }
+    tail_below(list, from, to, pivots[piece - 1].0)
+}
+
 /// Where, from the piece of a pass on, no more rows are to come than to leave: the pass that goes down
 /// from that piece, or from the last one, with blank rows from above. It is to take all insertions
 /// below that piece, and as many deletions.
-fn next_surplus<A: Allocator>(pivots: &[(i64, usize)], pending: &Pending<A>, up: Pass) -> Pass
-    requires piece { up.piece ≤ length pivots.now }
+///
+/// Only where rows leave can that be, so no other piece is looked at.
+fn next_surplus<A: Allocator>(pivots: &Pivots<A>, pending: &Pending<A>, up: Pass) -> Pass
+    requires piece { up.piece ≤ length pivots.now.list }
     requires deletions { up.deletions ≤ length pending.now.deletions.items }
     requires insertions { up.insertions ≤ length pending.now.insertions.items }
-    ensures piece { result.piece ≤ length pivots.now }
+    ensures piece { result.piece ≤ length pivots.now.list }
     ensures deletions_low { up.deletions ≤ result.deletions }
     ensures deletions_high { result.deletions ≤ length pending.now.deletions.items }
     ensures insertions_low { up.insertions ≤ result.insertions }
@@ -55,11 +85,16 @@ fn next_surplus<A: Allocator>(pivots: &[(i64, usize)], pending: &Pending<A>, up:
     let insertions = pending.insertions.list();
     let mut leaving = deletions.len();
     let mut arriving = insertions.len();
-    for piece in up.piece..pivots.len() {
-        let v = pivots[piece].0;
-        let below = arriving;
-        leaving = tail_below(deletions, up.deletions, leaving, v);
-        arriving = tail_below(insertions, up.insertions, arriving, v);
+    while leaving > up.deletions {
+        let piece = pivots
+            .count_upto(deletions[leaving - 1].score())
+            .max(up.piece);
+        let Some(end) = pivots.list().get(piece) else {
+            break;
+        };
+        let below = tail_below_piece(pivots.list(), piece, insertions, up.insertions, arriving);
+        leaving = tail_below(deletions, up.deletions, leaving - 1, end.0);
+        arriving = tail_below(insertions, up.insertions, below, end.0);
         if deletions.len() - leaving >= insertions.len() - arriving {
             return Pass {
                 direction: Direction::Down,
@@ -117,8 +152,9 @@ fn merge_tails<A: Allocator + Copy>(
     ensures insertions { TakenFrom insertions_from pending.old.insertions.items pending.new.insertions.items }
     ensures frame { KeepsFrame cracked.old.rows cracked.old.pivots cracked.new.rows cracked.new.pivots }
 {
-    cracked.rows.extend_fingerprints();
-    let filter = filter_of(&pending.deletions.list()[deletions_from..]);
+    let leaving = &pending.deletions.list()[deletions_from..];
+    cracked.rows.expect_passes(leaving.len());
+    let filter = filter_of(leaving);
     let mut piece = lowest_piece(&cracked.pivots, pending);
     // Each turn ends at a higher piece than the one before.
     for _turn in 0..cracked.pivots.len() + 1 {
@@ -132,7 +168,7 @@ fn merge_tails<A: Allocator + Copy>(
         if pending.insertions.len() == insertions_from {
             break;
         }
-        let down = next_surplus(cracked.pivots.list(), pending, Pass { piece, ..up });
+        let down = next_surplus(&cracked.pivots, pending, Pass { piece, ..up });
         pending.deletions.reverse_from(down.deletions);
         pending.insertions.reverse_from(down.insertions);
         run_pass(
@@ -165,7 +201,7 @@ pub fn merge_many<A: Allocator + Copy>(
 {
     let deletions = pending.deletions.len() - tails.deletions;
     let insertions = pending.insertions.len() - tails.insertions;
-    if deletions.saturating_add(insertions) < MANY {
+    if !are_many(deletions.saturating_add(insertions), cracked.pivots.len()) {
         return;
     }
     pending.deletions.sort_from(tails.deletions);

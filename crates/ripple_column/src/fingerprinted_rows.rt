@@ -20,6 +20,9 @@ const CARRIED: usize = 8;
 /// Room for fewer rows has none for fingerprints: the rows themselves are read as fast.
 const FINGERPRINTED_FROM: usize = 256;
 
+/// Passes that take fewer rows out look at the rows themselves where their fingerprints were forgotten.
+const LISTED_FROM: usize = 32;
+
 /// Rows, and their fingerprints, so that a walk over many rows reads 4 bytes of each one and not 32
 /// and a member.
 ///
@@ -218,9 +221,19 @@ impl<A: Allocator> Rows<A> {
         run.rotate_right(count);
     }
 
+    /// Gets the fingerprints ready for passes that take so many rows out. For few of them those that were
+    /// forgotten are not worth their list, which is as long as the rows' own.
+    pub fn expect_passes(&mut self, leaving: usize)
+        ensures { self.new ≡ self.old }
+    {
+        if leaving >= LISTED_FROM {
+            self.extend_fingerprints();
+        }
+    }
+
     /// Extends the list of fingerprints to each place that rows can take, in the room that it has. None
     /// is made there yet.
-    pub fn extend_fingerprints(&mut self)
+    fn extend_fingerprints(&mut self)
         ensures { self.new ≡ self.old }
     {
         if self.rows.places() >= FINGERPRINTED_FROM {

@@ -106,6 +106,22 @@ pub fn open_gap<A: Allocator + Copy>(
     }
 }
 
+/// The empty gap at the end of the piece of the index `piece`, in the place of an empty gap elsewhere: there are no
+/// rows to carry.
+pub fn empty_gap_at(pivots: &[(i64, usize)], rows_len: usize, piece: usize) -> Gap
+    requires { piece ≤ length pivots.now }
+    ensures gap { (rows : List (ℤ × List ℕ)) (i low : ℕ) → rows_len ≡ length rows → HasGap pivots.now rows i low low
+        → HasGapAt pivots.now rows result }
+    ensures empty { result.low ≡ result.high }
+{
+    let place = place_or(pivots, piece, rows_len);
+    Gap {
+        piece,
+        low: place,
+        high: place,
+    }
+}
+
 /// Carries the gap down to the start of its piece.
 pub fn sink_gap<A: Allocator>(rows: &mut Rows<A>, pivots: &Pivots<A>, gap: Gap) -> Gap
     requires gap { HasGapAt pivots.now.list rows.old.items gap }

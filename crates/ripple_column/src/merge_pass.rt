@@ -1,7 +1,7 @@
 //! Passes over the pieces of a column with a gap: in each piece rows that wait as deletions go out
 //! and widen the gap, and rows that wait as insertions come in and fill it.
 
-ghost use Rattle.std.specs.Prelude.{◌≡◌, ◌+◌, ◌-◌, ◌<◌, ◌≤◌, pos, length, replicate, count_by, slice_index_or, IsPermutation, vec_len, vec_capacity};
+ghost use Rattle.std.specs.Prelude.{◌≡◌, ◌+◌, ◌-◌, ◌<◌, ◌≤◌, pos, length, replicate, IfSome, count_by, slice_index_or, IsPermutation, vec_len, vec_capacity};
 ghost use Rattle.crack_kernel.specs.RowBag.{Test};
 ghost use Rattle.crack_kernel.specs.PivotList.{ObeysPivots};
 ghost use Rattle.ripple_column.specs.Content.{KeepsContent};
@@ -11,7 +11,8 @@ ghost use Rattle.ripple_column.specs.MergeEffects.{KeepsFrame};
 use crate::deletion_bloom::DeletionBloom;
 use crate::fingerprinted_rows::Rows;
 use crate::merge_gap::{
-    Direction, Gap, Tail, close_gap, fill_gap, is_in_piece, lift_gap, open_gap, sink_gap, take_out,
+    Direction, Gap, Tail, close_gap, empty_gap_at, fill_gap, is_in_piece, lift_gap, open_gap,
+    sink_gap, take_out,
 };
 use crate::pending_lists::Pending;
 use crate::ripple::place_or;
@@ -83,24 +84,54 @@ fn change_piece<A: Allocator + Copy>(
     sink_gap(rows, pivots, Gap { low, ..wide })
 }
 
-/// Whether there is a next piece behind that of the gap, and the gap or a row that waits has to go
-/// there. A row that waits for the piece of the gap itself has found no room.
-fn goes_on<A: Allocator>(pivots: &Pivots<A>, gap: Gap, pending: &Pending<A>, pass: Pass) -> bool
+/// The index of the piece to which the last row of a list goes, if one stands there from `from` on.
+fn piece_of_last<A: Allocator>(pivots: &Pivots<A>, list: &[Row<A>], from: usize) -> Option<usize>
+    ensures { IfSome result (λ i. i ≤ length pivots.now.list) }
+{
+    if list.len() <= from {
+        return None;
+    }
+    let row = list.last()?;
+    Some(pivots.count_upto(row.score()))
+}
+
+/// Whether a row that waits for the piece of the gap finds no room there: the gap is empty.
+fn is_stuck<A: Allocator>(pivots: &Pivots<A>, gap: Gap, insertions: &[Row<A>], from: usize) -> bool
     requires { gap.piece ≤ length pivots.now.list }
 {
-    let has_next = match pass.direction {
-        Direction::Up => gap.piece < pivots.len(),
-        Direction::Down => gap.piece > 0,
-    };
-    if !has_next || gap.low < gap.high {
-        return has_next;
+    if gap.low < gap.high || insertions.len() <= from {
+        return false;
     }
-    let insertions = pending.insertions.list();
     match insertions.last() {
-        Some(row) if insertions.len() > pass.insertions => {
-            !is_in_piece(pivots, gap.piece, row.score())
-        }
-        _ => pending.deletions.len() > pass.deletions,
+        Some(row) => is_in_piece(pivots, gap.piece, row.score()),
+        None => false,
+    }
+}
+
+/// The index of the piece to which the gap goes next: the first one on its way to which a row that waits goes, or
+/// the neighbor where that is none of these. There is none where nothing is left for the pass, or a row that
+/// waits has found no room.
+fn next_stop<A: Allocator>(
+    pivots: &Pivots<A>,
+    gap: Gap,
+    pending: &Pending<A>,
+    pass: Pass,
+) -> Option<usize>
+    requires { gap.piece ≤ length pivots.now.list }
+    ensures { IfSome result (λ i. i ≤ length pivots.now.list) }
+{
+    let insertions = pending.insertions.list();
+    if is_stuck(pivots, gap, insertions, pass.insertions) {
+        return None;
+    }
+    let leaving = piece_of_last(pivots, pending.deletions.list(), pass.deletions);
+    let arriving = piece_of_last(pivots, insertions, pass.insertions);
+    let one = leaving.or(arriving)?;
+    let other = arriving.unwrap_or(one);
+    match pass.direction {
+        Direction::Up if gap.piece < pivots.len() => Some(one.min(other).max(gap.piece + 1)),
+        Direction::Down if gap.piece > 0 => Some(one.max(other).min(gap.piece - 1)),
+        _ => None,
     }
 }
 
@@ -130,6 +161,33 @@ fn next_piece<A: Allocator>(
         }
         _ => gap,
     }
+}
+
+/// Carries the gap from the start of its piece to that of the index `stop`, over the pieces between.
+fn carry_to<A: Allocator>(
+    rows: &mut Rows<A>,
+    pivots: &mut Pivots<A>,
+    gap: Gap,
+    direction: Direction,
+    stop: usize,
+) -> Gap
+    requires gap { HasGapAt pivots.old.list rows.old.items gap }
+    requires start { 0 < gap.piece → (slice_index_or pivots.old.list (gap.piece - 1) (pos 0, 0)).1 ≡ gap.low }
+    requires stop { stop ≤ length pivots.old.list }
+    ensures gap { HasGapAt pivots.new.list rows.new.items result }
+    ensures width { result.high - result.low ≡ gap.high - gap.low }
+    ensures rows { IsPermutation rows.old.items rows.new.items }
+    ensures frame { KeepsFrame rows.old pivots.old rows.new pivots.new }
+{
+    if gap.low == gap.high {
+        return empty_gap_at(pivots.list(), rows.len(), stop);
+    }
+    let mut carried = gap;
+    for _piece in 0..stop.abs_diff(gap.piece) {
+        carried = next_piece(rows, pivots, carried, direction);
+        carried = sink_gap(rows, pivots, carried);
+    }
+    carried
 }
 
 /// Carries the gap over the pieces above it, and cuts it off.
@@ -182,10 +240,10 @@ pub fn run_pass<A: Allocator + Copy>(
     let mut gap = open_gap(rows, pivots, pass.piece, width);
     gap = change_piece(rows, pivots, gap, pending, pass, filter);
     for _passed in 0..pivots.len() {
-        if !goes_on(pivots, gap, pending, pass) {
+        let Some(stop) = next_stop(pivots, gap, pending, pass) else {
             break;
-        }
-        gap = next_piece(rows, pivots, gap, pass.direction);
+        };
+        gap = carry_to(rows, pivots, gap, pass.direction, stop);
         gap = change_piece(rows, pivots, gap, pending, pass, filter);
     }
     lift_out(rows, pivots, gap);

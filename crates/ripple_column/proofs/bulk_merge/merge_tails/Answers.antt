@@ -1,4 +1,4 @@
-use Rattle.std.proofs.Common.{◌≡◌, ◌≤◌, ℕ, ℤ, List, length, subst, arith}
+use Rattle.std.proofs.Common.{◌≤◌, length, arith}
 use Rattle.std.proofs.lemmas.List.Sorted.{length_permutation}
 use Rattle.ripple_column.proofs.Counts.{count_moved}
 use Rattle.ripple_column.proofs.Frames.{KeepsFrame-more}
@@ -33,10 +33,8 @@ loop-turn-preserved g c =
     let kept' = length-kept c.run_pass-piece.new.rows.items insertions' deletions'
     c.run_pass.new.rows.items c.run_pass.new.pending.insertions.items c.run_pass.new.pending.deletions.items down.content down.deletions.less in
     let same_i = length_permutation _ _ c.reverse_from-in-loop-turn.ensures.rows in
-    let same : c.list-in-loop-turn.result.now ≡ c.run_pass-piece.new.pivots.list = c.list-in-loop-turn.ensures.value in
-    let top : c.next_surplus-down.result.piece ≤ length c.run_pass-piece.new.pivots.list = subst (λ (l : List (ℤ × ℕ)). c.next_surplus-down.result.piece ≤ length l) same s.piece in
     record {
-      piece = omega (arith, top, length-values _ _ down.frame.values);
+      piece = omega (arith, s.piece, length-values _ _ down.frame.values);
       content = λ p.
           let moved_d = count_moved p deletions deletions' c.reverse_from.ensures.rows in
           let moved_i = count_moved p insertions insertions' c.reverse_from-in-loop-turn.ensures.rows in

@@ -9,13 +9,13 @@ use Rattle.ripple_column.proofs.merge_pass.run_pass.Goals as goal
 pub loop-passed-preserved : goal.loop-passed-preserved
 loop-passed-preserved g c =
     let v = c.loop-passed.invariant in
-    let n = c.next_piece-gap.ensures in
+    let n = c.carry_to-gap.ensures in
     let d = c.change_piece-gap-in-loop-passed.ensures in
     record {
       gap = d.gap;
       start = d.start;
       content = λ p.
-          let moved = count_moved p c.loop-passed.rows.items c.next_piece-gap.new.rows.items n.rows in
+          let moved = count_moved p c.loop-passed.rows.items c.carry_to-gap.new.rows.items n.rows in
           let wide = ap (λ (m : ℕ). count_by p (replicate m blank)) n.width in
           omega (arith, moved, wide, d.content p, v.content p);
       deletions = TakenFrom-more _ _ _ _ v.deletions d.deletions;
