@@ -113,6 +113,7 @@ pub fn empty_gap_at(pivots: &[(i64, usize)], rows_len: usize, piece: usize) -> G
     ensures gap { (rows : List (ℤ × List ℕ)) (i low : ℕ) → rows_len ≡ length rows → HasGap pivots.now rows i low low
         → HasGapAt pivots.now rows result }
     ensures empty { result.low ≡ result.high }
+    ensures piece { result.piece ≡ piece }
 {
     let place = place_or(pivots, piece, rows_len);
     Gap {
