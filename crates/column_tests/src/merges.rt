@@ -88,27 +88,27 @@ fn take(
     Ok(())
 }
 
-// Adds rows and takes rows out, `adds` of four times an addition. Where `often`, all that waits is
-// merged after each ten changes, and so row by row.
+// Adds rows and takes rows out, `adds` of four times an addition, and merges all that waits after each `each` of these
+// changes.
 fn change(
     alloc: Global,
     column: &mut Column<Global>,
     held: &mut Vec<Row<Global>>,
     numbers: &mut Numbers,
     adds: u32,
-    often: bool,
+    each: u32,
 ) -> Result<(), AllocError>
     requires { Holds column.old held.old.items }
     ensures { OnOk result (Holds column.new held.new.items) }
 {
-    for i in 0..600u32 {
+    for i in 1..601u32 {
         if numbers.next() % 4 < adds || held.is_empty() {
             add(alloc, column, held, numbers)?;
         } else {
             let index = numbers.below(held.len());
             take(column, held, index)?;
         }
-        if often && i % 10 == 0 {
+        if i.checked_rem(each) == Some(0) {
             column.merge_all()?;
         }
     }
@@ -159,23 +159,47 @@ fn expect_alike<R: Abort>(
     expect_same_rows(rt, alloc, rows, other.rows(0, other.len()))
 }
 
-// A column, the rows that it holds, and the numbers that drive it.
+// A narrow range from a score on.
+fn range_from(low: i64) -> Range {
+    Range {
+        min: Bound::Incl(low),
+        max: Bound::Excl(low.saturating_add(30)),
+    }
+}
+
+// A column, the rows that it holds, the numbers that drive it, and after how many changes each all that waits is
+// merged.
 #[derive(Drop)]
 struct Driven {
     column: Column<Global>,
     held: Vec<Row<Global>>,
     numbers: Numbers,
+    each: u32,
 }
 
 impl Driven {
-    fn new(alloc: Global, numbers: Numbers) -> Self
+    fn new(alloc: Global, numbers: Numbers, each: u32) -> Self
         ensures { Holds result.column result.held.items }
     {
         Driven {
             column: Column::new(alloc),
             held: Vec::new(alloc),
             numbers,
+            each,
         }
+    }
+
+    // Selects so many ranges apart from each other, each of which leaves two pivots.
+    fn show_pivots(&mut self, ranges: u32) -> Result<(), AllocError>
+        requires { Holds self.old.column self.old.held.items }
+        ensures { OnOk result (Holds self.new.column self.new.held.items) }
+    {
+        for turn in 0..ranges {
+            let low = i64::from(turn).saturating_mul(900);
+            self.column
+                .select(&range_from(low.saturating_sub(500_000)))?;
+        }
+        Ok(())
     }
 }
 
@@ -187,17 +211,14 @@ fn drive(
     held: &mut Vec<Row<Global>>,
     numbers: &mut Numbers,
     adds: u32,
-    often: bool,
+    each: u32,
 ) -> Result<(i64, usize), AllocError>
     requires { Holds column.old held.old.items }
     ensures { OnOk result (Holds column.new held.new.items) }
 {
-    change(alloc, column, held, numbers, adds, often)?;
+    change(alloc, column, held, numbers, adds, each)?;
     let low = numbers.score();
-    let range = Range {
-        min: Bound::Incl(low),
-        max: Bound::Excl(low.saturating_add(30)),
-    };
+    let range = range_from(low);
     let (from, to) = column.select(&range)?;
     let start = from.saturating_add(numbers.below(1000)).min(to);
     column.narrow(&range, start, start.saturating_add(10).min(to));
@@ -232,30 +253,33 @@ fn drive_both<R: Abort>(
     ensures one { OnOk result (Holds one.new.column one.new.held.items) }
     ensures other { OnOk result (Holds other.new.column other.new.held.items) }
 {
-    let at_once = drive(
+    let answer = drive(
         alloc,
         &mut one.column,
         &mut one.held,
         &mut one.numbers,
         adds,
-        false,
+        one.each,
     )?;
-    let by_row = drive(
+    let like = drive(
         alloc,
         &mut other.column,
         &mut other.held,
         &mut other.numbers,
         adds,
-        true,
+        other.each,
     )?;
-    assert_eq!(rt; at_once, by_row);
+    assert_eq!(rt; answer, like);
     Ok(())
 }
 
-// How many scores rows have, and of four changes how many add a row, in rounds in turn.
+// How many scores rows have, how many ranges are selected before there are rows, in how many rounds rows then come and
+// go, and of four changes how many add a row, in rounds in turn.
 #[derive(Clone, Copy)]
 struct Course {
     scores: u32,
+    ranges: u32,
+    rounds: usize,
     adds: [u32; 4],
 }
 
@@ -283,13 +307,13 @@ fn drive_in_rounds<R: Abort>(
     alloc: Global,
     one: &mut Driven,
     other: &mut Driven,
-    adds: [u32; 4],
+    course: Course,
 ) -> Result<(), AllocError>
     requires one { Holds one.old.column one.old.held.items }
     requires other { Holds other.old.column other.old.held.items }
 {
-    for round in 0..40u32 {
-        drive_both(rt, alloc, one, other, adds[round as usize % 4])?;
+    for round in 0..course.rounds {
+        drive_both(rt, alloc, one, other, course.adds[round % 4])?;
         if round % 3 == 0 {
             expect_merged_alike(rt, alloc, one, other)?;
         }
@@ -297,13 +321,25 @@ fn drive_in_rounds<R: Abort>(
     Ok(())
 }
 
-// Random changes, merges and selects lead to the same whether many rows are merged at once or each
-// by its own ripple move, and to the rows of a plain list: the same numbers drive both columns.
-fn run_both<R: Abort>(rt: &R, alloc: Global, state: u64, course: Course) -> Result<(), AllocError> {
-    let Course { scores, adds } = course;
-    let mut seldom = Driven::new(alloc, Numbers { state, scores });
-    let mut often = Driven::new(alloc, Numbers { state, scores });
-    drive_in_rounds(rt, alloc, &mut seldom, &mut often, adds)
+// Random changes, merges and selects lead to the same rows and pivots, however many changes each all that waits is
+// merged, and to the rows of a plain list: the same numbers drive both columns.
+fn run_both<R: Abort>(
+    rt: &R,
+    alloc: Global,
+    state: u64,
+    course: Course,
+    each: (u32, u32),
+) -> Result<(), AllocError> {
+    let Course { scores, ranges, .. } = course;
+    let mut one = Driven::new(alloc, Numbers { state, scores }, each.0);
+    let mut other = Driven::new(alloc, Numbers { state, scores }, each.1);
+    one.show_pivots(ranges)?;
+    other.show_pivots(ranges)?;
+    assert_eq!(rt;
+        one.column.pivot_list().len(),
+        (ranges as usize).saturating_mul(2)
+    );
+    drive_in_rounds(rt, alloc, &mut one, &mut other, course)
 }
 
 // Rows come, stay as many, go, and come and go.
@@ -312,14 +348,24 @@ const TO_AND_FRO: [u32; 4] = [4, 2, 1, 2];
 // Past 10,000 rows.
 const MORE_AND_MORE: [u32; 4] = [4, 4, 2, 3];
 
+// Many rows at once, and few: among few pivots these move each by itself.
+const SELDOM_AND_OFTEN: (u32, u32) = (u32::MAX, 10);
+
+// 40 rounds with few pivots, of a test's numbers.
+fn few_pivots(scores: u32, adds: [u32; 4]) -> Course {
+    Course {
+        scores,
+        ranges: 0,
+        rounds: 40,
+        adds,
+    }
+}
+
 #[test]
 fn merging_at_once_is_merging_row_by_row(rt: HostRuntime) -> Result<(), AllocError> {
     for (state, scores) in [(0, 200), (1, 200), (2, 3), (3, 1)] {
-        let course = Course {
-            scores,
-            adds: TO_AND_FRO,
-        };
-        run_both(&rt, rt.alloc(), state, course)?;
+        let course = few_pivots(scores, TO_AND_FRO);
+        run_both(&rt, rt.alloc(), state, course, SELDOM_AND_OFTEN)?;
     }
     Ok(())
 }
@@ -327,11 +373,23 @@ fn merging_at_once_is_merging_row_by_row(rt: HostRuntime) -> Result<(), AllocErr
 #[test]
 fn many_rows_are_merged_alike(rt: HostRuntime) -> Result<(), AllocError> {
     for (state, scores) in [(4, 1_000_000), (5, 2)] {
-        let course = Course {
-            scores,
-            adds: MORE_AND_MORE,
-        };
-        run_both(&rt, rt.alloc(), state, course)?;
+        let course = few_pivots(scores, MORE_AND_MORE);
+        run_both(&rt, rt.alloc(), state, course, SELDOM_AND_OFTEN)?;
+    }
+    Ok(())
+}
+
+// Among many pivots two rows and more are merged by a pass, which goes from one to the next.
+#[test]
+fn few_rows_among_many_pivots_are_merged_as_one_is(rt: HostRuntime) -> Result<(), AllocError> {
+    let course = Course {
+        scores: 1_000_000,
+        ranges: 1_100,
+        rounds: 9,
+        adds: TO_AND_FRO,
+    };
+    for (state, each) in [(6, 2), (7, 5), (8, 31)] {
+        run_both(&rt, rt.alloc(), state, course, (each, 1))?;
     }
     Ok(())
 }
