@@ -1,11 +1,18 @@
+//! Files on a file system some of whose calls fail, and devices.
+
+ghost use Rattle.std.specs.Prelude.{◌≡◌, None, IfOk};
+
 use crate::failing::{Failing, Fails};
+use crate::records::{LISTING, Owner, replies_to};
 use append_log::{
-    FileFault, Loaded, OpenFault, ReloadFault, RenewFault, RewriteFault, open_to_append,
-    open_to_read, reload, write_anew,
+    FileFault, FileSink, Loaded, Log, LoggedOwner, OpenFault, ReloadFault, RenewFault,
+    RewriteFault, open_to_append, open_to_read, reload, write_anew,
 };
 use resp_wire::MemorySource;
-use std::fs;
+use std::fs::{self, File, OpenOptions};
 use std::hash::RandomState;
+use std::marker::Brand;
+use std::sync::ledger::{Blank, Ledger};
 use std::test::Fail;
 use zset_core::OneOwner;
 
@@ -49,11 +56,19 @@ fn reading(rt: &HostRuntime, fails: Fails, path: &str) -> Result<Result<Loaded, 
     }
 }
 
-/// What becomes of a new file for the sets of the record.
-fn renewed(rt: &HostRuntime, fails: Fails, path: &str) -> Result<Result<u64, RenewFault>, Fail> {
+/// The owner of the record's set.
+fn owner_of_record(rt: &HostRuntime) -> Result<Owner, Fail>
+    ensures { IfOk result (λ owner. owner.next ≡ None) }
+{
     let mut owner = OneOwner::new(rt.alloc(), RandomState::new(rt)?);
     let mut source = MemorySource::new(RECORD, 64);
     reload(rt.alloc(), &mut source, &mut owner, 64, 10)?;
+    Ok(owner)
+}
+
+/// What becomes of a new file for the sets of the record.
+fn renewed(rt: &HostRuntime, fails: Fails, path: &str) -> Result<Result<u64, RenewFault>, Fail> {
+    let owner = owner_of_record(rt)?;
     Ok(write_anew(&failing(rt, fails), rt.alloc(), path, &owner))
 }
 
@@ -170,5 +185,43 @@ fn a_draft_in_use_is_left_alone(rt: HostRuntime) -> Result<(), Fail> {
 fn a_device_keeps_no_records(rt: HostRuntime) -> Result<(), Fail> {
     let refused = Err(OpenFault::File(FileFault::NotRegular));
     assert!(rt; appending(&rt, Fails::Nothing, "/dev/null")? == refused);
+    Ok(())
+}
+
+/// The replies to commands on the record's set, whose changes go to a file, and whether the log is broken then.
+fn played_over<L: Ledger>(
+    rt: &HostRuntime,
+    blank: Blank,
+    file: File,
+    commands: &[&str],
+) -> Result<(String, bool), Fail>
+    requires name { blank.name ≡ L.name }
+    requires parts { blank.parts ≡ L.parts }
+    requires two { blank.parts ≡ 2 }
+{
+    let alloc = rt.alloc();
+    let owner = owner_of_record(rt)?;
+    let log = Log::<_, L>::new(blank, FileSink::new(file), 10);
+    let mut owner = LoggedOwner::new(alloc, owner, log);
+    let replies = replies_to(alloc, &mut owner, commands)?;
+    let (_, log) = owner.into_parts();
+    Ok((replies, log.is_broken()))
+}
+
+/// A change, a reading, a change after it, one that changes nothing, and the listing.
+const ON_A_FULL_DEVICE: [&str; 5] = [
+    "ZADD k 2 a 5 b",
+    "ZCARD k",
+    "ZREM k a",
+    "ZADD k 1 a",
+    LISTING,
+];
+
+#[test]
+fn a_full_device_breaks_the_log(rt: HostRuntime) -> Result<(), Fail> {
+    let full = OpenOptions::new().write(true).open(&rt, "/dev/full")?;
+    let (replies, is_broken) = played_over::<Brand>(&rt, Blank::new(2), full, &ON_A_FULL_DEVICE)?;
+    assert_eq!(rt; replies.as_str(), "r16 :1~ r14 :0~ *2~$1~a~$1~1~ ");
+    assert!(rt; is_broken);
     Ok(())
 }

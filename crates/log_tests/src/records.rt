@@ -1,6 +1,8 @@
 ghost use Rattle.std.specs.Prelude.{◌≡◌, ◌≤◌, ◌^◌, None};
 
-use append_log::{FuseSink, Loaded, Log, LoggedOwner, MemorySink, ReloadFault, reload, rewrite};
+use append_log::{
+    FuseSink, Loaded, Log, LogSink, LoggedOwner, MemorySink, ReloadFault, reload, rewrite,
+};
 use resp_wire::{Bytes, BytesList, MemorySource, Reply, Request, write_reply, write_request};
 use std::alloc::Global;
 use std::hash::RandomState;
@@ -11,7 +13,7 @@ use zset_core::{Command, OneOwner, Refusal};
 
 pub type Owner = OneOwner<RandomState, Global>;
 
-type Logged<L> = LoggedOwner<RandomState, FuseSink<MemorySink<Global>>, L, Global>;
+pub type Logged<S, L> = LoggedOwner<RandomState, S, L, Global>;
 
 // The request of a text's arguments, which single spaces part.
 fn request(alloc: Global, text: &str) -> Result<Request<Global>, Fail> {
@@ -64,16 +66,20 @@ pub struct Played {
 }
 
 // The reply to a command, or the number of its refusal.
-fn answered<L: Ledger>(alloc: Global, owner: &mut Logged<L>, text: &str) -> Result<String, Fail> {
+fn answered<S: LogSink, L: Ledger>(
+    alloc: Global,
+    owner: &mut Logged<S, L>,
+    text: &str,
+) -> Result<String, Fail> {
     let command = command(alloc, text)?;
     let answer = owner.run(&command);
     shown(alloc, &answer)
 }
 
 // The replies to commands in turn, each with a space behind it.
-fn replies_to<L: Ledger>(
+pub fn replies_to<S: LogSink, L: Ledger>(
     alloc: Global,
-    owner: &mut Logged<L>,
+    owner: &mut Logged<S, L>,
     commands: &[&str],
 ) -> Result<String, Fail> {
     let mut replies = String::new(alloc);
@@ -242,7 +248,7 @@ pub const THREE_RECORDS: &[u8] =
     b"*4\r\n$4\r\nZADD\r\n$1\r\nk\r\n$1\r\n1\r\n$1\r\na\r\n*4\r\n$4\r\nZADD\r\n$1\r\nk\r\n$1\r\n2\r\n$1\r\nb\r\n*3\r\n$4\r\nZREM\r\n$1\r\nk\r\n$1\r\na\r\n";
 
 /// ZADD j -3 x and ZADD k 1 B 1 a 1 b: records of 36 and 63 bytes.
-const TWO_SETS: &[u8] =
+pub const TWO_SETS: &[u8] =
     b"*4\r\n$4\r\nZADD\r\n$1\r\nj\r\n$2\r\n-3\r\n$1\r\nx\r\n*8\r\n$4\r\nZADD\r\n$1\r\nk\r\n$1\r\n1\r\n$1\r\nB\r\n$1\r\n1\r\n$1\r\na\r\n$1\r\n1\r\n$1\r\nb\r\n";
 
 #[test]

@@ -2,8 +2,8 @@
 
 ghost use Rattle.std.specs.Prelude.{◌≡◌, ◌≤◌, None};
 
-use crate::records::{LISTING, Played, THREE_RECORDS, answer, loaded, play};
-use append_log::{FuseSink, Loaded, MemorySink, ReloadFault, reload};
+use crate::records::{LISTING, Owner, Played, THREE_RECORDS, TWO_SETS, answer, loaded, play};
+use append_log::{FuseSink, Loaded, MemorySink, ReloadFault, RewriteFault, reload, rewrite};
 use resp_wire::{FuseSource, MemorySource};
 use std::alloc::Global;
 use std::hash::RandomState;
@@ -89,27 +89,48 @@ fn are_of_the_accepted(rt: &HostRuntime, replies: &str) -> Result<bool, Fail> {
     Ok(true)
 }
 
-/// The replies of an owner after a reload: the listings of both sets.
+/// How a change is refused: in the call that fails, and once the log is broken.
+fn refusal(is_broken: bool) -> &'static str {
+    if is_broken { "r14" } else { "r16" }
+}
+
+/// Whether the first refusal is that of the call that failed, and each behind it that of a broken log.
+fn are_refused_in_turn(replies: &str) -> bool {
+    let mut is_broken = false;
+    for reply in replies.split(' ') {
+        if reply.starts_with('r') {
+            if reply != refusal(is_broken) {
+                return false;
+            }
+            is_broken = true;
+        }
+    }
+    true
+}
+
+/// The listings of both sets, a space behind each.
+fn both_listed(alloc: Global, owner: &mut Owner) -> Result<String, Fail>
+    requires { owner.old.next ≡ None }
+{
+    let of_k = answer(alloc, owner, LISTING)?;
+    let of_j = answer(alloc, owner, "ZRANGEBYSCORE j -inf +inf WITHSCORES")?;
+    Ok(format!(in alloc; "{of_k} {of_j} ")?)
+}
+
+/// The listings of both sets after a reload.
 fn listed_after(rt: &HostRuntime, bytes: &[u8]) -> Result<String, Fail> {
     let alloc = rt.alloc();
     let mut owner = OneOwner::new(alloc, RandomState::new(rt)?);
     let mut source = MemorySource::new(bytes, 65_536);
-    if reload(alloc, &mut source, &mut owner, 35, 1000).is_err() {
-        return Err("no records")?;
-    }
-    let mut listed = String::new(alloc);
-    for text in COMMANDS.iter().skip(8) {
-        listed.push_str(answer(alloc, &mut owner, text)?.as_str())?;
-        listed.push(' ')?;
-    }
-    Ok(listed)
+    reload(alloc, &mut source, &mut owner, 35, 1000)?;
+    both_listed(alloc, &mut owner)
 }
 
-/// Whether a run answered as an owner of the accepted commands, and, where no call failed, its records lead to the
-/// same sets.
+/// Whether a run answered as an owner of the accepted commands, refused the others as it should, and, where no call
+/// failed, its records lead to the same sets.
 fn is_replayed(rt: &HostRuntime, played: Played) -> Result<bool, Fail> {
     let replies = played.replies;
-    if !are_of_the_accepted(rt, replies.as_str())? {
+    if !are_refused_in_turn(replies.as_str()) || !are_of_the_accepted(rt, replies.as_str())? {
         return Ok(false);
     }
     let sink = played.sink.into_inner();
@@ -159,14 +180,46 @@ fn a_file_is_cut_after_each_byte(rt: HostRuntime) -> Result<(), Fail> {
     Ok(())
 }
 
-/// What a reload gives where a byte of the first record is another: damage, no command, or three records.
-fn with_byte_changed(at: usize) -> (Result<Loaded, ReloadFault>, &'static str) {
-    match at {
-        8..=11 | 25 => (Err(ReloadFault::NotACommand(0)), "*0~"),
-        18 => (loaded(3, 98, 0), "*2~$1~b~$1~2~"),
-        32 => (loaded(3, 98, 0), "*4~$1~!~$1~1~$1~b~$1~2~"),
-        _ => (Err(ReloadFault::Damaged(0)), "*0~"),
+/// What a reload gives, and then the listing of k and the score of `a` under the key `!`.
+#[derive(Clone, Copy)]
+struct Reloaded {
+    found: Result<Loaded, ReloadFault>,
+    listed: &'static str,
+    score: &'static str,
+}
+
+/// The same, without a set of the key `!`.
+fn without_other_key(found: Result<Loaded, ReloadFault>, listed: &'static str) -> Reloaded {
+    Reloaded {
+        found,
+        listed,
+        score: "$-1~",
     }
+}
+
+/// What a byte of the first record makes of it where it is another: damage, no command, another key, another
+/// member.
+fn with_byte_changed(at: usize) -> Reloaded {
+    match at {
+        8..=11 | 25 => without_other_key(Err(ReloadFault::NotACommand(0)), "*0~"),
+        18 => Reloaded {
+            found: loaded(3, 98, 0),
+            listed: "*2~$1~b~$1~2~",
+            score: "$1~1~",
+        },
+        32 => without_other_key(loaded(3, 98, 0), "*4~$1~!~$1~1~$1~b~$1~2~"),
+        _ => without_other_key(Err(ReloadFault::Damaged(0)), "*0~"),
+    }
+}
+
+/// Whether bytes are reloaded so, in reads of at most so many.
+fn is_reloaded(rt: &HostRuntime, bytes: &[u8], chunk: usize, wanted: Reloaded) -> Result<bool, Fail>
+    requires { 1 ≤ chunk }
+{
+    let from = Device { chunk, fails_at: 0 };
+    let (found, listed) = reload_from(rt, bytes, from, 1000, LISTING)?;
+    let (_, score) = reload_from(rt, bytes, from, 1000, "ZSCORE ! a")?;
+    Ok(found == wanted.found && listed.as_str() == wanted.listed && score.as_str() == wanted.score)
 }
 
 #[test]
@@ -176,15 +229,9 @@ fn each_byte_of_a_record_is_damaged(rt: HostRuntime) -> Result<(), Fail> {
         if let Some(byte) = damaged.get_mut(at) {
             *byte = b'!';
         }
-        let (wanted, listed) = with_byte_changed(at);
         for chunk in CHUNKS.iter() {
-            let from = Device {
-                chunk: *chunk,
-                fails_at: 0,
-            };
-            let (found, reply) = reload_from(&rt, &damaged, from, 1000, LISTING)?;
-            assert!(rt; found == wanted, "byte {at}");
-            assert_eq!(rt; reply.as_str(), listed);
+            let wanted = with_byte_changed(at);
+            assert!(rt; is_reloaded(&rt, &damaged, *chunk, wanted)?, "byte {at}");
         }
     }
     Ok(())
@@ -207,5 +254,93 @@ fn a_reload_stops_at_its_reads(rt: HostRuntime) -> Result<(), Fail> {
     let (found, reply) = reload_from(&rt, THREE_RECORDS, failing, 1000, "ZSCORE k a")?;
     assert!(rt; found == Err(ReloadFault::ReadFault));
     assert_eq!(rt; reply.as_str(), "$1~1~");
+    Ok(())
+}
+
+/// The listing of k after the records that stand whole in so many bytes of the three.
+fn listed_of(bytes: usize) -> &'static str {
+    match bytes {
+        0..=34 => "*0~",
+        35..=69 => "*2~$1~a~$1~1~",
+        70..=97 => "*4~$1~a~$1~1~$1~b~$1~2~",
+        _ => "*2~$1~b~$1~2~",
+    }
+}
+
+/// How many reads of a reload failed, one in each run, until a run had none that did.
+fn failing_reads(rt: &HostRuntime, chunk: usize) -> Result<u64, Fail>
+    requires { 1 ≤ chunk }
+{
+    for fails_at in 1..1000u64 {
+        let from = Device { chunk, fails_at };
+        let (found, listed) = reload_from(rt, THREE_RECORDS, from, 1000, LISTING)?;
+        let before = chunk.saturating_mul(fails_at as usize - 1);
+        if listed.as_str() != listed_of(before) {
+            return Err("k is not that of the records that were read")?;
+        }
+        if found == loaded(3, 98, 0) {
+            return Ok(fails_at - 1);
+        }
+        if found != Err(ReloadFault::ReadFault) {
+            return Err("no read fault")?;
+        }
+    }
+    Err("no end")?
+}
+
+// 98 bytes, and the read behind them that finds the end.
+#[test]
+fn each_failing_read_leaves_the_records_before(rt: HostRuntime) -> Result<(), Fail> {
+    for (chunk, reads) in [(1usize, 99u64), (3, 34), (7, 15)] {
+        assert_eq!(rt; failing_reads(&rt, chunk)?, reads, "{chunk} bytes a read");
+    }
+    Ok(())
+}
+
+/// What a rewrite of two sets to such a sink gives, and their listings after it.
+fn rewrite_to(rt: &HostRuntime, to: Device) -> Result<(Result<u64, RewriteFault>, String), Fail>
+    requires { 1 ≤ to.chunk }
+{
+    let alloc = rt.alloc();
+    let mut owner = OneOwner::new(alloc, RandomState::new(rt)?);
+    let mut source = MemorySource::new(TWO_SETS, 65_536);
+    reload(alloc, &mut source, &mut owner, 35, 1000)?;
+    let mut sink = FuseSink::new(MemorySink::new(alloc, to.chunk), to.fails_at);
+    let found = rewrite(alloc, &owner, &mut sink);
+    Ok((found, both_listed(alloc, &mut owner)?))
+}
+
+/// The listings of both.
+const TWO_LISTED: &str = "*6~$1~B~$1~1~$1~a~$1~1~$1~b~$1~1~ *2~$1~x~$2~-3~ ";
+
+/// How many calls of a rewrite's sink failed, one in each run, until a run had none that did.
+fn failing_calls_of_a_rewrite(rt: &HostRuntime, chunk: usize) -> Result<u64, Fail>
+    requires { 1 ≤ chunk }
+{
+    for fails_at in 1..1000u64 {
+        let (found, listed) = rewrite_to(rt, Device { chunk, fails_at })?;
+        if listed.as_str() != TWO_LISTED {
+            return Err("the sets are not as before")?;
+        }
+        if found == Ok(2) {
+            return Ok(fails_at - 1);
+        }
+        if found != Err(RewriteFault::Sink) {
+            return Err("not the sink's failure")?;
+        }
+    }
+    Err("no end")?
+}
+
+// Records of 36 and 63 bytes, and a sync.
+#[test]
+fn a_rewrite_meets_each_failing_call(rt: HostRuntime) -> Result<(), Fail> {
+    for (chunk, calls) in [(1usize, 100u64), (3, 34), (7, 16)] {
+        assert_eq!(rt;
+            failing_calls_of_a_rewrite(&rt, chunk)?,
+            calls,
+            "{chunk} bytes a write"
+        );
+    }
     Ok(())
 }

@@ -1,13 +1,15 @@
-//! Each allocation of a reload, of a rewrite and of a logged command refused in turn.
+//! Each allocation of a reload, of a rewrite and of a logged command refused in turn, and what these answer
+//! when they are asked again with memory.
 
-ghost use Rattle.std.specs.Prelude.{◌≡◌, ◌≤◌, None};
+ghost use Rattle.std.specs.Prelude.{◌≡◌, ◌≤◌, ◌^◌, None};
 
-use crate::records::{THREE_RECORDS, loaded};
+use crate::records::{LISTING, THREE_RECORDS, TWO_SETS, loaded};
 use append_log::{
-    Loaded, Log, LoggedOwner, MemorySink, NoSink, ReloadFault, RewriteFault, reload, rewrite,
+    FuseSink, Loaded, Log, LoggedOwner, MemorySink, NoSink, ReloadFault, RewriteFault, reload,
+    rewrite,
 };
 use fuse_alloc::Fuse;
-use resp_wire::{Bytes, BytesList, MemorySource, Reply, Request};
+use resp_wire::{Bytes, BytesList, MemorySource, Reply, Request, write_reply};
 use std::alloc::{Allocator, Global};
 use std::hash::RandomState;
 use std::marker::Brand;
@@ -34,69 +36,131 @@ pub fn number<A: Allocator + Copy>(answer: &Result<Reply<A>, Refusal>) -> i64 {
     }
 }
 
-/// What came of a reload one of whose allocations was refused, and how many members k then has.
-#[derive(Drop)]
+/// The listings of k after none of the three records, after one, after two and after all of them.
+const LISTINGS: [&str; 4] = [
+    "*0\r\n",
+    "*2\r\n$1\r\na\r\n$1\r\n1\r\n",
+    "*4\r\n$1\r\na\r\n$1\r\n1\r\n$1\r\nb\r\n$1\r\n2\r\n",
+    "*2\r\n$1\r\nb\r\n$1\r\n2\r\n",
+];
+
+/// How many records were replayed that lead to this listing of k.
+fn replayed_to(listed: &[u8]) -> Option<usize> {
+    for (records, listing) in LISTINGS.iter().enumerate() {
+        if listing.as_bytes() == listed {
+            return Some(records);
+        }
+    }
+    None
+}
+
+/// How many of the three records were replayed, by the listing of k.
+fn replayed<A: Allocator + Copy>(
+    heap: A,
+    owner: &mut OneOwner<RandomState, A>,
+) -> Result<Option<usize>, Fail>
+    requires { owner.old.next ≡ None }
+    ensures { owner.new.next ≡ None }
+{
+    let listing = command(heap, LISTING)?;
+    let Ok(reply) = owner.run(&listing) else {
+        return Err("refused")?;
+    };
+    let mut bytes = Vec::new(heap);
+    write_reply(&reply, &mut bytes)?;
+    Ok(replayed_to(&bytes))
+}
+
+/// What came of a reload one of whose allocations was refused.
+#[derive(Clone, Copy)]
 struct AfterReload {
     is_whole: bool,
     found: Result<Loaded, ReloadFault>,
-    members: i64,
+    /// How many records were replayed, where the sets are those after some.
+    records: Option<usize>,
 }
 
-fn reload_refused<A: Allocator + Copy>(
+/// Reloads the three records, and then looks at the sets with memory.
+fn reload_once<A: Allocator + Copy>(
     heap: A,
     fuse: &Fuse<Global>,
-    hasher: RandomState,
-) -> Result<AfterReload, Fail> {
-    let mut owner = OneOwner::new(heap, hasher);
+    owner: &mut OneOwner<RandomState, A>,
+) -> Result<AfterReload, Fail>
+    requires { owner.old.next ≡ None }
+    ensures { owner.new.next ≡ None }
+{
     let mut source = MemorySource::new(THREE_RECORDS, 7);
-    let found = reload(heap, &mut source, &mut owner, 35, 1000);
+    let found = reload(heap, &mut source, owner, 35, 1000);
     let is_whole = fuse.is_armed();
     fuse.arm(0);
-    let card = command(heap, "ZCARD k")?;
     Ok(AfterReload {
         is_whole,
         found,
-        members: number(&owner.run(&card)),
+        records: replayed(heap, owner)?,
     })
 }
 
-/// Whether all records were replayed.
-fn is_made(after: &AfterReload) -> bool {
-    after.found == loaded(3, 98, 0) && after.members == 1
+/// A reload one of whose allocations is refused, and another on the same sets, with memory.
+fn reload_twice<A: Allocator + Copy>(
+    heap: A,
+    fuse: &Fuse<Global>,
+    hasher: RandomState,
+) -> Result<(AfterReload, AfterReload), Fail> {
+    let mut owner = OneOwner::new(heap, hasher);
+    let first = reload_once(heap, fuse, &mut owner)?;
+    let again = reload_once(heap, fuse, &mut owner)?;
+    Ok((first, again))
 }
 
+/// Whether all records were replayed.
+fn is_made(after: AfterReload) -> bool {
+    after.found == loaded(3, 98, 0) && after.records == Some(3)
+}
+
+/// Whether memory ran out behind some of the records.
+fn is_refused(after: AfterReload) -> bool {
+    after.found == Err(ReloadFault::NoMemory) && matches!(after.records, Some(0..=2))
+}
+
+/// The least number of allocations that a reload of the three records makes.
+const LEAST_OF_A_RELOAD: u64 = 25;
+
 /// Each allocation of a reload is refused, one in each run, until a run has no more. Each run leaves the sets
-/// that the first so many records replay to: of k these have 0, 1, 2 and 1 members. The last record is a removal, which
-/// takes what is kept back where it finds no memory.
+/// that the first so many records replay to. The last record is a removal, which takes what is kept back where it
+/// finds no memory.
 #[test]
 fn a_reload_meets_each_refused_allocation(rt: HostRuntime) -> Result<(), Fail> {
     let alloc = rt.alloc();
     let hasher = RandomState::new(&rt)?;
     for allocation in 1..1000u64 {
         let fuse = Fuse::new(alloc, allocation);
-        let after = reload_refused(&fuse, &fuse, hasher)?;
-        if after.is_whole {
-            assert!(rt; is_made(&after) && allocation > 20);
+        let (first, again) = reload_twice(&fuse, &fuse, hasher)?;
+        assert!(rt; is_made(again), "{allocation}");
+        if first.is_whole {
+            assert!(rt;
+                is_made(first) && allocation > LEAST_OF_A_RELOAD,
+                "{allocation}"
+            );
             return Ok(());
         }
-        let is_refused = after.found == Err(ReloadFault::NoMemory);
-        assert!(rt;
-            is_refused && (0..3).contains(&after.members) || is_made(&after),
-            "{allocation}"
-        );
+        assert!(rt; is_refused(first) || is_made(first), "{allocation}");
     }
     Err("no end")?
 }
 
-/// What came of a rewrite one of whose allocations was refused, and how many bytes it wrote.
-#[derive(Drop)]
+/// What came of a rewrite one of whose allocations was refused, and of another with memory.
+#[derive(Clone, Copy)]
 struct AfterRewrite {
     is_whole: bool,
     found: Result<u64, RewriteFault>,
+    /// How many bytes it wrote.
     bytes: usize,
+    again: Result<u64, RewriteFault>,
+    /// Whether the other one wrote the records of both sets.
+    is_rewritten: bool,
 }
 
-fn rewrite_refused<A: Allocator + Copy>(
+fn rewrite_twice<A: Allocator + Copy>(
     heap: A,
     fuse: &Fuse<Global>,
     hasher: RandomState,
@@ -111,12 +175,21 @@ fn rewrite_refused<A: Allocator + Copy>(
     let mut sink = MemorySink::new(heap, 7);
     fuse.arm(allocation);
     let found = rewrite(heap, &owner, &mut sink);
+    let is_whole = fuse.is_armed();
+    fuse.arm(0);
+    let mut other = MemorySink::new(heap, 7);
+    let again = rewrite(heap, &owner, &mut other);
     Ok(AfterRewrite {
-        is_whole: fuse.is_armed(),
+        is_whole,
         found,
         bytes: sink.bytes().len(),
+        again,
+        is_rewritten: other.bytes() == TWO_SETS,
     })
 }
+
+/// The least number of allocations that a rewrite of two sets makes, its sink's included.
+const LEAST_OF_A_REWRITE: u64 = 20;
 
 #[test]
 fn a_rewrite_meets_each_refused_allocation(rt: HostRuntime) -> Result<(), Fail> {
@@ -124,23 +197,64 @@ fn a_rewrite_meets_each_refused_allocation(rt: HostRuntime) -> Result<(), Fail> 
     let hasher = RandomState::new(&rt)?;
     for allocation in 1..1000u64 {
         let fuse = Fuse::new(alloc, 0);
-        let after = rewrite_refused(&fuse, &fuse, hasher, allocation)?;
+        let after = rewrite_twice(&fuse, &fuse, hasher, allocation)?;
+        assert!(rt; after.again == Ok(2) && after.is_rewritten, "{allocation}");
         if after.is_whole {
             assert!(rt; after.found == Ok(2) && after.bytes == 99);
-            assert!(rt; allocation > 5);
+            assert!(rt; allocation > LEAST_OF_A_REWRITE, "{allocation}");
             return Ok(());
         }
-        // a sink in memory that can't grow fails
-        assert!(rt;
-            after.found == Err(RewriteFault::NoMemory) || after.found == Err(RewriteFault::Sink)
-        );
-        assert!(rt; after.bytes < 99);
+        // out of memory, or the sink in memory failed, which could not grow
+        assert!(rt; after.found.is_err() && after.bytes < 99, "{allocation}");
     }
     Err("no end")?
 }
 
+/// How many records a log takes, and which call of its sink fails, 0 for none.
+#[derive(Clone, Copy)]
+struct Limits {
+    max_records: u64,
+    fails_at: u64,
+}
+
+/// A log that takes all records of a test.
+const AMPLE: Limits = Limits {
+    max_records: 10,
+    fails_at: 0,
+};
+
+/// An owner whose changes go to a log that keeps nothing.
+type Logged<L, A> = LoggedOwner<RandomState, FuseSink<NoSink>, L, A>;
+
+/// The owner of a set k with `a` at 9, whose changes go to such a log from the first record on, that of another set:
+/// it may break the log, or fill it.
+fn logged_over<L: Ledger, A: Allocator + Copy>(
+    heap: A,
+    hasher: RandomState,
+    blank: Blank,
+    limits: Limits,
+) -> Result<Logged<L, A>, Fail>
+    requires name { blank.name ≡ L.name }
+    requires parts { blank.parts ≡ L.parts }
+    requires two { blank.parts ≡ 2 }
+    requires some { 1 ≤ limits.max_records }
+    requires limited { limits.max_records ≤ 2 ^ 40 }
+{
+    let mut owner = OneOwner::new(heap, hasher);
+    let before = command(heap, "ZADD k 9 a")?;
+    if owner.run(&before).is_err() {
+        return Err("refused")?;
+    }
+    let sink = FuseSink::new(NoSink::new(), limits.fails_at);
+    let log = Log::<_, L>::new(blank, sink, limits.max_records);
+    let mut owner = LoggedOwner::new(heap, owner, log);
+    let first = command(heap, "ZADD j 1 x")?;
+    let _answer = owner.run(&first);
+    Ok(owner)
+}
+
 /// What came of a change one of whose allocations was refused.
-#[derive(Drop)]
+#[derive(Clone, Copy)]
 struct AfterChange {
     is_whole: bool,
     changed: i64,
@@ -158,18 +272,16 @@ fn change_refused<L: Ledger, A: Allocator + Copy>(
     fuse: &Fuse<Global>,
     hasher: RandomState,
     blank: Blank,
+    limits: Limits,
     allocation: u64,
 ) -> Result<AfterChange, Fail>
     requires name { blank.name ≡ L.name }
     requires parts { blank.parts ≡ L.parts }
     requires two { blank.parts ≡ 2 }
+    requires some { 1 ≤ limits.max_records }
+    requires limited { limits.max_records ≤ 2 ^ 40 }
 {
-    let log = Log::<_, L>::new(blank, NoSink::new(), 10);
-    let mut owner = LoggedOwner::new(heap, OneOwner::new(heap, hasher), log);
-    let first = command(heap, "ZADD k 9 a")?;
-    if owner.run(&first).is_err() {
-        return Err("refused")?;
-    }
+    let mut owner = logged_over::<L, A>(heap, hasher, blank, limits)?;
     let change = command(heap, "ZADD k 1 a 2 b")?;
     fuse.arm(allocation);
     let changed = number(&owner.run(&change));
@@ -191,21 +303,76 @@ fn change_refused<L: Ledger, A: Allocator + Copy>(
     })
 }
 
+/// The least number of allocations that the change makes, its record's included.
+const LEAST_OF_A_CHANGE: u64 = 5;
+
 #[test]
 fn a_logged_change_meets_each_refused_allocation(rt: HostRuntime) -> Result<(), Fail> {
     let alloc = rt.alloc();
     let hasher = RandomState::new(&rt)?;
     for allocation in 1..1000u64 {
         let fuse = Fuse::new(alloc, 0);
-        let after = change_refused::<Brand, _>(&fuse, &fuse, hasher, Blank::new(2), allocation)?;
+        let blank = Blank::new(2);
+        let after = change_refused::<Brand, _>(&fuse, &fuse, hasher, blank, AMPLE, allocation)?;
         let found = [after.changed, after.members, after.kept, after.again];
         assert_eq!(rt; after.appended, 2);
         if after.is_whole {
             assert_eq!(rt; found, [1, 2, 0, 0]);
-            assert!(rt; allocation > 5);
+            assert!(rt; allocation > LEAST_OF_A_CHANGE, "{allocation}");
             return Ok(());
         }
         assert_eq!(rt; found, [-1, 1, 1, 1]);
     }
     Err("no end")?
+}
+
+/// Whether the set stayed, and the change was refused for want of memory, or by the log: in one way the first time that
+/// the log is asked, and in another after it.
+fn is_refused_by_a_log(after: AfterChange, first: i64, later: i64) -> bool {
+    let (answer, again) = if after.is_whole {
+        (first, later)
+    } else {
+        (-1, first)
+    };
+    after.changed == answer && after.again == again && after.members == 1 && after.kept == 1
+}
+
+/// How many allocations of a change over a log that refuses it were refused, one in each run, until a run had none
+/// that was.
+fn allocations_over(rt: &HostRuntime, limits: Limits, first: i64, later: i64) -> Result<u64, Fail>
+    requires some { 1 ≤ limits.max_records }
+    requires limited { limits.max_records ≤ 2 ^ 40 }
+{
+    let alloc = rt.alloc();
+    let hasher = RandomState::new(rt)?;
+    for allocation in 1..1000u64 {
+        let fuse = Fuse::new(alloc, 0);
+        let blank = Blank::new(2);
+        let after = change_refused::<Brand, _>(&fuse, &fuse, hasher, blank, limits, allocation)?;
+        if !is_refused_by_a_log(after, first, later) {
+            return Err("neither out of memory nor the log's refusal")?;
+        }
+        if after.is_whole {
+            return Ok(allocation - 1);
+        }
+    }
+    Err("no end")?
+}
+
+/// A log that was broken by the record before, one that is full with it, and one whose sink fails at its next call.
+#[test]
+fn a_change_that_a_log_refuses_meets_each_refused_allocation(rt: HostRuntime) -> Result<(), Fail> {
+    for (max_records, fails_at, first, later) in [
+        (10u64, 1u64, -14i64, -14i64),
+        (1, 0, -15, -15),
+        (10, 3, -16, -14),
+    ] {
+        let limits = Limits {
+            max_records,
+            fails_at,
+        };
+        let made = allocations_over(&rt, limits, first, later)?;
+        assert!(rt; made >= LEAST_OF_A_CHANGE, "refusal {first}: {made}");
+    }
+    Ok(())
 }
