@@ -1,16 +1,30 @@
-"""What the tests of the built program share: they run it, and compare what they find with what they want."""
+"""What the tests of the built program share: they run it, compare what they find with what they want, and end in time.
+
+A script that uses this is run as `SCRIPT [PROGRAM [TEST ..]]`: on the program that was built in crates/zcrackd or on another
+one, all its tests or those of these names. PATIENCE in the environment is by how much longer it may run than it says, for
+a busy machine: `PATIENCE=3 scripts/serve_test`.
+"""
 import os
+import shutil
 import signal
 import subprocess
 import sys
 import tempfile
+import time
 
 HERE = os.path.dirname(os.path.realpath(__file__))
 PROGRAM = os.path.realpath(sys.argv[1] if len(sys.argv) > 1 else f"{HERE}/../crates/zcrackd/out/zcrackd")
+PATIENCE = float(os.environ.get("PATIENCE", 1))
 SECONDS = 20
-TEST_SECONDS = 300
+# What a test may take to clean up once its time is over.
+LAST_SECONDS = 5
 
 tests = []
+started = []
+
+
+class TookTooLong(Exception):
+    """The time of a test is over. It is no OSError, which tests take for a peer that is gone."""
 
 
 def test(function):
@@ -18,11 +32,31 @@ def test(function):
     return function
 
 
+def start(words, **how):
+    """Starts a process that ends with the test at the latest."""
+    process = subprocess.Popen(words, **how)
+    started.append(process)
+    return process
+
+
+def end_started():
+    for process in started:
+        if process.poll() is None:
+            process.kill()
+            process.wait()
+    started.clear()
+
+
 def run(*words, given=b"", **how):
     """Runs the program to its end; gives its status, standard output and standard error."""
-    how = {"stdout": subprocess.PIPE, "stderr": subprocess.PIPE, "timeout": SECONDS, **how}
-    ended = subprocess.run([PROGRAM, *words], input=given, **how)
-    return ended.returncode, ended.stdout, ended.stderr
+    how = {"stdin": None if given is None else subprocess.PIPE, "stdout": subprocess.PIPE, "stderr": subprocess.PIPE, **how}
+    process = start([PROGRAM, *words], **how)
+    with process:
+        try:
+            out, lines = process.communicate(given, timeout=SECONDS)
+        finally:
+            process.kill()
+    return process.returncode, out, lines
 
 
 def same(found, wanted):
@@ -41,30 +75,71 @@ def read(path):
 
 
 def refusing():
-    """A library that refuses allocations and paths, as refusing.c says."""
+    """A library that refuses allocations, threads and paths, as refusing.c says."""
     library = os.path.abspath("refusing.so")
     subprocess.run(["cc", "-shared", "-fPIC", "-o", library, f"{HERE}/refusing.c", "-ldl"], check=True)
     return library
 
 
-def stop(_signal, _frame):
-    raise TimeoutError(f"{TEST_SECONDS} seconds")
+class Run:
+    """The tests of a script in turn, each in an empty folder of its own, and how many passed and failed."""
 
+    def __init__(self, seconds, chosen):
+        self.begun, self.seconds, self.chosen = time.monotonic(), seconds * PATIENCE, chosen
+        self.passed, self.rings, self.room = 0, 0, None
 
-def main():
-    """Runs the tests, each in an empty folder of its own; the last line is 'N passed, M failed'."""
-    failed = 0
-    signal.signal(signal.SIGALRM, stop)
-    for function in tests:
-        with tempfile.TemporaryDirectory(prefix="program-test-") as room:
-            os.chdir(room)
-            signal.alarm(TEST_SECONDS)
-            try:
-                function()
-            except Exception as error:
-                failed += 1
-                print(f"FAILED {function.__name__}: {type(error).__name__}: {error}")
-            signal.alarm(0)
+    def left(self):
+        return self.begun + self.seconds - time.monotonic()
+
+    def ring(self, _signal, _frame):
+        """Ends the test that runs; and the script, where the test did not end by that."""
+        self.rings += 1
+        if self.rings == 1:
+            raise TookTooLong(f"{self.seconds:.0f} seconds for the script are over")
+        print("FAILED: a test did not end once its time was over")
+        end_started()
+        os.chdir("/")
+        shutil.rmtree(self.room, ignore_errors=True)
+        self.tell()
+        sys.stdout.flush()
+        os._exit(1)
+
+    def guard(self, function):
+        """Runs a test until the script's time is over."""
+        self.rings = 0
+        try:
+            signal.setitimer(signal.ITIMER_REAL, max(self.left(), 0.001), LAST_SECONDS)
+            function()
+            self.passed += 1
+        except Exception as error:
+            print(f"FAILED {function.__name__}: {type(error).__name__}: {error}", flush=True)
+        finally:
+            end_started()
+            signal.setitimer(signal.ITIMER_REAL, 0)
+
+    def one(self, function):
+        with tempfile.TemporaryDirectory(prefix="program-test-") as self.room:
+            os.chdir(self.room)
+            begun = time.monotonic()
+            self.guard(function)
             os.chdir("/")
-    print(f"{len(tests) - failed} passed, {failed} failed")
-    return 1 if failed else 0
+        if len(self.chosen) < len(tests):
+            print(f"{function.__name__}: {time.monotonic() - begun:.1f} s", flush=True)
+
+    def tell(self):
+        print(f"{os.path.basename(sys.argv[0])}: {time.monotonic() - self.begun:.0f} s")
+        print(f"{self.passed} passed, {len(self.chosen) - self.passed} failed")
+
+
+def main(seconds):
+    """Runs the tests, for so many seconds at most; the last line is 'N passed, M failed', the one before tells the seconds."""
+    names = sys.argv[2:]
+    unknown = set(names) - {it.__name__ for it in tests}
+    if unknown:
+        sys.exit(f"there is no test {', '.join(sorted(unknown))}")
+    todo = Run(seconds, [it for it in tests if not names or it.__name__ in names])
+    signal.signal(signal.SIGALRM, todo.ring)
+    for function in todo.chosen:
+        todo.one(function)
+    todo.tell()
+    return 0 if todo.passed == len(todo.chosen) else 1

@@ -3,7 +3,7 @@ import socket
 import struct
 import subprocess
 
-from harness import PROGRAM, SECONDS, same
+from harness import PROGRAM, SECONDS, same, start
 
 LOOPBACK = ("--listen", "127.0.0.1:0")
 LISTENING = b"listening on "
@@ -15,12 +15,30 @@ def request(*words):
     return b"*%d\r\n" % len(words) + b"".join(b"$%d\r\n%s\r\n" % (len(word), word) for word in words)
 
 
+def read_reply(file):
+    """The next reply, by its bytes; an array by those of its elements. A ConnectionError where it doesn't come whole."""
+    line = file.readline()
+    if line[:1] == b"*" and line[-1:] == b"\n":
+        return [read_reply(file) for _ in range(int(line[1:]))]
+    if line[:1] == b"$" and line[-1:] == b"\n" and line != b"$-1\r\n":
+        line += file.read(int(line[1:]) + 2)
+    if line[-1:] != b"\n":
+        raise ConnectionError(f"the connection ended behind {line!r}")
+    return line
+
+
+def flat(reply):
+    """The bytes of a reply."""
+    return reply if isinstance(reply, bytes) else b"*%d\r\n" % len(reply) + b"".join(map(flat, reply))
+
+
 class Server:
     """A server on a free port of 127.0.0.1, or wherever its words say."""
 
-    def __init__(self, *words, listen=LOOPBACK, **how):
-        words = [PROGRAM, "serve", *listen, *map(str, words)]
-        self.process = subprocess.Popen(words, stdout=subprocess.PIPE, stderr=subprocess.PIPE, **how)
+    def __init__(self, *words, listen=LOOPBACK, program=PROGRAM, **how):
+        words = [program, "serve", *listen, *map(str, words)]
+        self.process = start(words, stdout=subprocess.PIPE, stderr=subprocess.PIPE, **how)
+        self.is_ending = False
         self.line = self.process.stdout.readline()
         same(self.line[: len(LISTENING)], LISTENING)
         self.address, port = self.line[len(LISTENING) :].decode().strip().rsplit(":", 1)
@@ -36,6 +54,13 @@ class Server:
         finally:
             self.process.kill()
         return self.process.returncode, out, lines
+
+    def end_by(self, number):
+        """Ends it by a signal, and waits for it. From then on its clients may find it gone."""
+        self.is_ending = True
+        self.process.send_signal(number)
+        self.process.communicate()
+        same(self.process.returncode, -number)
 
     def __enter__(self):
         return self
@@ -56,13 +81,7 @@ class Client:
         self.socket.sendall(data)
 
     def reply(self):
-        """The next reply, by its bytes; an array by those of its elements."""
-        line = self.file.readline()
-        if line[:1] == b"$" and line != b"$-1\r\n":
-            return line + self.file.read(int(line[1:]) + 2)
-        if line[:1] == b"*":
-            return [self.reply() for _ in range(int(line[1:]))]
-        return line
+        return read_reply(self.file)
 
     def ask(self, *words):
         self.send(request(*words))

@@ -1,0 +1,1 @@
+"""The tests of hostile_test, by what they take from a server."""
