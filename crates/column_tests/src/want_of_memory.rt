@@ -1,5 +1,5 @@
-//! Each allocation of a column's calls refused in turn: where one is, the column is as before and answers once it
-//! is asked again.
+//! Each allocation of a column's calls refused in turn: where a call is refused for want of one, the column is as
+//! before and answers once it is asked again. Inner pivots are done without.
 
 use crack_kernel::Row;
 use fuse_alloc::Fuse;
@@ -15,18 +15,29 @@ enum Call {
     /// Room for one more row.
     Reserve,
     Select(Range),
+    /// Inner pivots near two places, which is never refused.
+    Narrow(usize, usize),
     MergeAll,
 }
+
+const ALL: Range = Range {
+    min: Bound::NegInf,
+    max: Bound::PosInf,
+};
 
 fn is_made<A: Allocator + Copy>(column: &mut Column<A>, call: Call) -> bool {
     match call {
         Call::Reserve => column.reserve_write(1).is_ok(),
         Call::Select(range) => column.select(&range).is_ok(),
+        Call::Narrow(from, to) => {
+            column.narrow(&ALL, from, to);
+            true
+        }
         Call::MergeAll => column.merge_all().is_ok(),
     }
 }
 
-/// A column in numbers: its rows, those that wait as insertions and as deletions, and its pivots.
+/// A column in numbers: its rows, those that wait as insertions and as deletions, and the pivots that it shows.
 #[derive(Clone, Copy, PartialEq, Eq)]
 struct Numbers {
     rows: usize,
@@ -96,6 +107,36 @@ fn made<A: Allocator + Copy>(alloc: A, setup: Setup) -> Result<Column<A>, AllocE
     Ok(column)
 }
 
+/// The scores of the rows with which a column is filled, in order.
+fn scores_of(alloc: Global, setup: Setup) -> Result<Vec<i64>, AllocError> {
+    let mut scores = Vec::new(alloc);
+    for count in [setup.first, setup.then] {
+        for i in 0..count {
+            scores.push(i64::from(i))?;
+        }
+    }
+    scores.sort_unstable();
+    Ok(scores)
+}
+
+/// Whether a column has the rows with which it was filled, once all that waits is merged.
+fn has_rows_of<A: Allocator + Copy>(
+    alloc: Global,
+    column: &mut Column<A>,
+    setup: Setup,
+) -> Result<bool, AllocError> {
+    column.merge_all()?;
+    let rows = column.rows(0, column.len());
+    let mut scores: Vec<i64> = rows.iter().map(|row| row.score()).collect(alloc)?;
+    scores.sort_unstable();
+    let are_named = rows.iter().all(|row| row
+        .score()
+        .to_be_bytes()
+        .strip_suffix(row.member())
+        .is_some());
+    Ok(are_named && scores == scores_of(alloc, setup)?)
+}
+
 /// What came of a call one of whose allocations was refused.
 #[derive(Clone, Copy)]
 struct After {
@@ -103,13 +144,16 @@ struct After {
     is_whole: bool,
     is_made: bool,
     has_stayed: bool,
-    /// The column once the call was asked again.
+    /// The column once the call was asked again, and how many pivots it then has with the inner ones.
     end: Numbers,
+    with_inner: usize,
+    has_rows: bool,
 }
 
 fn refused<A: Allocator + Copy>(
     alloc: A,
     fuse: &Fuse<Global>,
+    room: Global,
     setup: Setup,
     call: Call,
     allocation: u64,
@@ -129,21 +173,39 @@ fn refused<A: Allocator + Copy>(
         is_made: is_made_at_once,
         has_stayed,
         end: numbers_of(&column),
+        with_inner: column.piece_list().len(),
+        has_rows: has_rows_of(room, &mut column, setup)?,
     })
 }
 
-/// How many allocations of a call were refused, one in each run, until a run had none that was. Each run ends with
-/// these numbers. A refused call leaves the column as it was; one that was made all the same did without.
-fn allocations_of(rt: &HostRuntime, setup: Setup, call: Call, end: Numbers) -> Result<u64, Fail> {
+/// How many allocations of a call were refused, one in each run, how often the call was refused for want of one, and
+/// how many inner pivots the column has where none was refused.
+#[derive(Clone, Copy, Debug)]
+struct Points {
+    all: u64,
+    refused: u64,
+    inner: usize,
+}
+
+/// Refuses each allocation of a call, until a run has no more. Each run ends with these numbers and with all rows. A
+/// refused call leaves the column as it was; one that was made all the same did without.
+fn points_of(rt: &HostRuntime, setup: Setup, call: Call, end: Numbers) -> Result<Points, Fail> {
+    let mut refusals = 0u64;
     for allocation in 1..100u64 {
         let fuse = Fuse::new(rt.alloc(), 0);
-        let after = refused(&fuse, &fuse, setup, call, allocation)?;
-        if after.end != end || !(after.is_made || after.has_stayed && !after.is_whole) {
+        let after = refused(&fuse, &fuse, rt.alloc(), setup, call, allocation)?;
+        let is_right = after.is_made || after.has_stayed && !after.is_whole;
+        if after.end != end || !is_right || !after.has_rows {
             return Err("neither refused nor made")?;
         }
         if after.is_whole {
-            return Ok(allocation - 1);
+            return Ok(Points {
+                all: allocation - 1,
+                refused: refusals,
+                inner: after.with_inner.saturating_sub(end.pivots),
+            });
         }
+        refusals = refusals.saturating_add(u64::from(!after.is_made));
     }
     Err("no end")?
 }
@@ -171,7 +233,8 @@ fn a_first_range_meets_each_refused_allocation(rt: HostRuntime) -> Result<(), Fa
         pending: (6, 0),
         pivots: 2,
     };
-    assert!(rt; allocations_of(&rt, setup, Call::Select(FOUR), end)? >= 1);
+    let points = points_of(&rt, setup, Call::Select(FOUR), end)?;
+    assert!(rt; points.refused >= 1, "{points:?}");
     Ok(())
 }
 
@@ -188,7 +251,8 @@ fn dropped_pivots_meet_each_refused_allocation(rt: HostRuntime) -> Result<(), Fa
         pending: (1, 0),
         pivots: 2,
     };
-    allocations_of(&rt, setup, Call::Select(SCORES), end)?;
+    let points = points_of(&rt, setup, Call::Select(SCORES), end)?;
+    assert!(rt; points.refused >= 1, "{points:?}");
     Ok(())
 }
 
@@ -205,7 +269,42 @@ fn a_full_list_meets_each_refused_allocation(rt: HostRuntime) -> Result<(), Fail
         pending: (0, 0),
         pivots: 0,
     };
-    assert!(rt; allocations_of(&rt, setup, Call::Reserve, end)? >= 1);
-    assert!(rt; allocations_of(&rt, setup, Call::MergeAll, end)? >= 1);
+    for call in [Call::Reserve, Call::MergeAll] {
+        let points = points_of(&rt, setup, call, end)?;
+        assert!(rt; points.refused >= 1, "{points:?}");
+    }
+    Ok(())
+}
+
+/// A piece of 4,096 rows, and one that waits behind them.
+const LONG: Setup = Setup {
+    first: 4097,
+    ranges: 0,
+    then: 0,
+};
+
+/// Calls on a long piece, how many pivots it then shows, and how often each is refused and is made without inner pivots
+/// at the least.
+const LONG_CALLS: [(Call, usize, (u64, u64)); 2] = [
+    (Call::Select(FOUR), 2, (1, 1)),
+    (Call::Narrow(1000, 1010), 0, (0, 1)),
+];
+
+// Cuts near its end and a window part the piece at inner pivots.
+#[test]
+fn a_long_piece_does_without_inner_pivots(rt: HostRuntime) -> Result<(), Fail> {
+    for (call, pivots, least) in LONG_CALLS {
+        let end = Numbers {
+            rows: 4096,
+            pending: (1, 0),
+            pivots,
+        };
+        let points = points_of(&rt, LONG, call, end)?;
+        let made = points.all.saturating_sub(points.refused);
+        assert!(rt;
+            points.refused >= least.0 && made >= least.1 && points.inner >= 1,
+            "{points:?}"
+        );
+    }
     Ok(())
 }
