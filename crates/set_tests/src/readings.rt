@@ -98,6 +98,17 @@ fn refused_requests(rt: HostRuntime) -> Result<(), Fail> {
     Ok(())
 }
 
+// No command has a name as long as an argument may be.
+#[test]
+fn the_longest_name_is_unknown(rt: HostRuntime) -> Result<(), Fail> {
+    let name = "P".repeat(rt.alloc(), 65_536)?;
+    match Command::read(rt.alloc(), request(rt.alloc(), name.as_str())?) {
+        Ok(_) => Err("it is read")?,
+        Err(given) => assert_eq!(rt; given, Refusal::UnknownCommand),
+    }
+    Ok(())
+}
+
 // Requests that are read: the key, whether they write, and whether they create.
 const READ: [(&str, Option<&str>, bool, bool); 19] = [
     ("PING", None, false, false),

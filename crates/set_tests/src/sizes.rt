@@ -36,6 +36,12 @@ fn removal(alloc: Global, count: u32) -> Result<String, Fail> {
     Ok(text)
 }
 
+/// `ZREM missing` with as many members as there may be, each of which is `x`.
+fn removal_of_one_name(alloc: Global) -> Result<String, Fail> {
+    let names = " x".repeat(alloc, NAMES as usize)?;
+    Ok(format!(in alloc; "ZREM missing{names}")?)
+}
+
 /// Commands in turn, with their replies.
 fn expect(alloc: Global, owner: &mut Owner, talk: &[(&str, &str)]) -> Result<(), Fail>
     requires { owner.old.next ≡ None }
@@ -67,7 +73,9 @@ fn the_longest_commands_are_answered(rt: HostRuntime) -> Result<(), Fail> {
     let mut owner = OneOwner::new(alloc, RandomState::new(&rt)?);
     let added = addition(alloc, 0, PAIRS)?;
     let removed = removal(alloc, NAMES)?;
+    let missed = removal_of_one_name(alloc)?;
     let talk = [
+        (missed.as_str(), ":0~"),
         (added.as_str(), ":512~"),
         ("ZCOUNT k 100 199", ":100~"),
         (removed.as_str(), ":512~"),
