@@ -1,10 +1,11 @@
-//! Each allocation of a cell's answer refused in turn, under its lock alone and beside other readers.
+//! Each allocation of a cell's answer refused in turn, under its lock alone and beside other readers. The log is called
+//! for the records of changes that are made, and for nothing else.
 
 ghost use Rattle.std.specs.Prelude.{◌≡◌, ◌≤◌, None, IsSome};
 ghost use Rattle.zset_core.specs.AbstractCommand.{key_of};
 
 use crate::want_of_memory::{Ample, LISTING, Outcome, bytes_of, request, with_memory};
-use append_log::{Log, NoSink};
+use append_log::{FuseSink, Log, MemorySink};
 use fuse_alloc::Fuse;
 use resp_wire::Reply;
 use set_table::{Answer, Cell, Shares};
@@ -16,12 +17,36 @@ use std::sync::{Mutex, Wait};
 use std::test::*;
 use zset_core::{Command, OneOwner, Refusal};
 
+/// A sink that counts its calls, with memory of its own.
+type Sink = FuseSink<MemorySink<Global>>;
+
 /// A cell, the shares of a pass, and a log.
 #[derive(Drop)]
 struct Single<L: Ledger, A: Allocator + Copy> {
     cell: Cell<RandomState, L, A>,
     shares: Shares,
-    log: Mutex<Log<NoSink, L>>,
+    log: Mutex<Log<Sink, L>>,
+}
+
+/// How many records a log has, and how often its sink was called.
+#[derive(Clone, Copy, PartialEq, Eq)]
+struct Appended {
+    records: u64,
+    calls: u64,
+}
+
+/// The log's numbers, once cell and pass are gone.
+fn appended_to<L: Ledger, A: Allocator + Copy>(single: Single<L, A>) -> Appended {
+    let Single {
+        cell: _,
+        shares: _,
+        log,
+    } = single;
+    let log = log.into_inner();
+    Appended {
+        records: log.appended(),
+        calls: log.into_sink().calls(),
+    }
 }
 
 /// The call by which a cell is asked.
@@ -31,18 +56,21 @@ enum Asked {
     Ready,
 }
 
-/// A command by its words, how it is asked, and which of its allocations is refused.
+/// A command by its words, how it is asked, which of its allocations is refused, and the log's numbers once it is
+/// answered.
 #[derive(Clone, Copy)]
 struct Question<'w> {
     asked: Asked,
     words: &'w str,
     allocation: u64,
+    wanted: Appended,
 }
 
-/// A cell with an empty set of an owner.
+/// A cell with an empty set of an owner, and a log over a sink.
 fn opened_cell<L: Ledger, A: Allocator + Copy>(
     alloc: A,
     blank: Blank,
+    sink: Sink,
     owner: &OneOwner<RandomState, A>,
 ) -> Result<Single<L, A>, Fail>
     requires idle { owner.now.next ≡ None }
@@ -50,7 +78,7 @@ fn opened_cell<L: Ledger, A: Allocator + Copy>(
     requires parts { blank.parts ≡ L.parts }
     requires many { 2 ≤ blank.parts }
 {
-    let mut log = Log::<_, L>::new(blank, NoSink::new(), 1 << 40);
+    let mut log = Log::<_, L>::new(blank, sink, 1 << 40);
     let share = log.split();
     Ok(Single {
         cell: Cell::new(alloc, 0, owner.empty_set()?, 1000, 1, share)?,
@@ -187,11 +215,13 @@ fn refuse_one<'f, L: Ledger, R: Wait>(
     }
 }
 
-/// Refuses one allocation of a command behind those that set up its set.
+/// Refuses one allocation of a command behind those that set up its set. The command is answered once, at once or asked
+/// again, and the log has the numbers that are wanted then: so the refused call did not call the sink.
 fn refuse<'f, L: Ledger, R: Wait>(
     rt: &R,
     fuse: &'f Fuse<Global>,
     blank: Blank,
+    sink: Sink,
     hasher: RandomState,
     question: Question<'_>,
     ample: &Ample,
@@ -201,24 +231,35 @@ fn refuse<'f, L: Ledger, R: Wait>(
     requires many { 2 ≤ blank.parts }
 {
     let owner = OneOwner::new(fuse, hasher);
-    let mut single = opened_cell::<L, _>(fuse, blank, &owner)?;
+    let mut single = opened_cell::<L, _>(fuse, blank, sink, &owner)?;
     set_up(rt, fuse, &mut single)?;
-    refuse_one(rt, fuse, &mut single, question, ample)
+    let outcome = refuse_one(rt, fuse, &mut single, question, ample)?;
+    let is_logged = appended_to(single) == question.wanted;
+    Ok(if is_logged { outcome } else { Outcome::Wrong })
 }
 
 /// How many allocations of the command were refused, one in each run, until a run had no more. `locks` waits for
 /// the log's lock.
-fn refused<R: Wait>(rt: &HostRuntime, locks: &R, asked: Asked, words: &str) -> Result<u64, Fail> {
+fn refused<R: Wait>(
+    rt: &HostRuntime,
+    locks: &R,
+    asked: Asked,
+    words: &str,
+    wanted: Appended,
+) -> Result<u64, Fail> {
     let ample = with_memory(rt, &SETUP, words)?;
     for allocation in 1..1000u64 {
         let fuse = Fuse::new(rt.alloc(), 0);
+        let sink = FuseSink::new(MemorySink::new(rt.alloc(), 65_536), 0);
         let hasher = RandomState::new(rt)?;
         let question = Question {
             asked,
             words,
             allocation,
+            wanted,
         };
-        match refuse::<Brand, _>(locks, &fuse, Blank::new(2), hasher, question, &ample)? {
+        let blank = Blank::new(2);
+        match refuse::<Brand, _>(locks, &fuse, blank, sink, hasher, question, &ample)? {
             Outcome::Whole => return Ok(allocation - 1),
             Outcome::Refused => {}
             Outcome::Made | Outcome::Wrong => return Err("neither refused nor as with memory")?,
@@ -234,19 +275,35 @@ const SETUP: [&str; 3] = [
     "ZADD k 12 e",
 ];
 
+/// The log's numbers with the records of the set-up alone: each is one write and one sync.
+const READ: Appended = Appended {
+    records: 2,
+    calls: 4,
+};
+
+/// The same with one record more.
+const CHANGED: Appended = Appended {
+    records: 3,
+    calls: 6,
+};
+
+const COMMANDS: [(&str, Appended); 7] = [
+    ("ZADD k 3 a 7 f", CHANGED),
+    ("ZADD k INCR 4 b", CHANGED),
+    ("ZREM k b", CHANGED),
+    ("ZREMRANGEBYSCORE k 5 9", CHANGED),
+    ("ZSCORE k a", READ),
+    ("ZCOUNT k 2 9", READ),
+    ("ZRANGEBYSCORE k 2 13 WITHSCORES", READ),
+];
+
 #[test]
 fn each_run_is_refused_or_answered(rt: HostRuntime) -> Result<(), Fail> {
-    let commands = [
-        "ZADD k 3 a 7 f",
-        "ZADD k INCR 4 b",
-        "ZREM k b",
-        "ZREMRANGEBYSCORE k 5 9",
-        "ZSCORE k a",
-        "ZCOUNT k 2 9",
-        "ZRANGEBYSCORE k 2 13 WITHSCORES",
-    ];
-    for words in commands {
-        assert!(rt; refused(&rt, &rt, Asked::Run, words)? >= 1, "{words}");
+    for (words, wanted) in COMMANDS {
+        assert!(rt;
+            refused(&rt, &rt, Asked::Run, words, wanted)? >= 1,
+            "{words}"
+        );
     }
     Ok(())
 }
@@ -254,10 +311,13 @@ fn each_run_is_refused_or_answered(rt: HostRuntime) -> Result<(), Fail> {
 #[test]
 fn each_reading_beside_others_is_refused_or_answered(rt: HostRuntime) -> Result<(), Fail> {
     for words in ["ZRANGEBYSCORE k 4 6 WITHSCORES", "ZSCORE k a"] {
-        assert!(rt; refused(&rt, &rt, Asked::Ready, words)? >= 1, "{words}");
+        assert!(rt;
+            refused(&rt, &rt, Asked::Ready, words, READ)? >= 1,
+            "{words}"
+        );
     }
     for words in ["ZCOUNT k 4 6", "ZCARD k"] {
-        assert_eq!(rt; refused(&rt, &rt, Asked::Ready, words)?, 0);
+        assert_eq!(rt; refused(&rt, &rt, Asked::Ready, words, READ)?, 0);
     }
     Ok(())
 }

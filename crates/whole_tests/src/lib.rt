@@ -11,7 +11,11 @@ mod devices;
 #[cfg(test)]
 mod exchange;
 #[cfg(test)]
+mod failing_calls;
+#[cfg(test)]
 mod flushing;
+#[cfg(test)]
+mod logged_sessions;
 #[cfg(test)]
 mod logging;
 #[cfg(test)]
@@ -22,3 +26,5 @@ mod sessions;
 mod want_of_memory;
 #[cfg(test)]
 mod wire;
+#[cfg(test)]
+mod worked_examples;

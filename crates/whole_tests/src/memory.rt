@@ -4,60 +4,137 @@
 ghost use Rattle.std.specs.Prelude.{◌≤◌};
 
 use crate::exchange::write_words;
-use crate::want_of_memory::reply;
+use crate::want_of_memory::{LISTING, reply};
 use fuse_alloc::Fuse;
 use resp_wire::{MemoryDrain, MemorySource, Reply, write_reply};
 use score_bounds::write_score;
-use session_core::{SessionFault, serve};
-use std::alloc::Global;
+use session_core::{Ended, Exec, SessionFault, serve};
+use std::alloc::{AllocGlobal, Allocator, Global};
 use std::hash::RandomState;
 use std::test::Fail;
 use zset_core::OneOwner;
 
-/// The requests of one session by their words.
-const REMOVALS: [&str; 4] = [
-    "ZADD k 5 a",
-    "ZRANGEBYSCORE k 5 5",
-    "ZREMRANGEBYSCORE k (3 5",
-    "PING hi",
-];
+/// What a client sends in one session: requests by their words, and bytes behind these that begin no request, with the
+/// error reply to them.
+#[derive(Clone, Copy)]
+pub struct Script<'t> {
+    pub requests: &'t [&'t str],
+    pub behind: &'t [u8],
+    pub error: &'t [u8],
+}
 
-const LISTINGS: [&str; 4] = [
-    "ZADD k 5 a",
-    "ZRANGEBYSCORE k 5 5",
-    "ZADD k 1 b 1 a 1 B",
-    "ZRANGEBYSCORE k -inf +inf WITHSCORES",
-];
+const REMOVALS: Script<'static> = Script {
+    requests: &[
+        "ZADD k 5 a",
+        "ZRANGEBYSCORE k 5 5",
+        "ZREMRANGEBYSCORE k (3 5",
+        "PING hi",
+    ],
+    behind: b"",
+    error: b"",
+};
 
-/// The bytes of the requests.
-fn input_of(rt: &HostRuntime, requests: &[&str]) -> Result<Vec<u8>, Fail> {
-    let mut input = Vec::new(rt.alloc());
-    for words in requests {
-        write_words(rt.alloc(), words, &mut input)?;
+const LISTINGS: Script<'static> = Script {
+    requests: &[
+        "ZADD k 5 a",
+        "ZRANGEBYSCORE k 5 5",
+        "ZADD k 1 b 1 a 1 B",
+        "ZRANGEBYSCORE k -inf +inf WITHSCORES",
+    ],
+    behind: b"",
+    error: b"",
+};
+
+const FAULT: Script<'static> = Script {
+    requests: &["ZADD k 5 a", "ZADD k INCR 1.0 a"],
+    behind: b"*0\r\nPING\r\n",
+    error: b"-ERR protocol 2 not an array\r\n",
+};
+
+impl<'t> Script<'t> {
+    /// The first so many of its requests, and nothing behind them.
+    fn first(self, count: usize) -> Script<'t> {
+        Script {
+            requests: self.requests.get(..count).unwrap_or(self.requests),
+            behind: b"",
+            error: b"",
+        }
     }
+
+    /// Whether a session ends so that has memory for its buffers, and whose drain does not fail.
+    fn ends_so(self, end: Result<Ended, SessionFault>) -> bool {
+        match end {
+            Ok(_) => self.error.is_empty(),
+            Err(SessionFault::Wire(_)) => !self.error.is_empty(),
+            Err(_) => false,
+        }
+    }
+}
+
+/// The bytes of a script.
+pub fn input_of(alloc: Global, script: Script<'_>) -> Result<Vec<u8>, Fail> {
+    let mut input = Vec::new(alloc);
+    for words in script.requests {
+        write_words(alloc, words, &mut input)?;
+    }
+    input.extend_from_slice(script.behind)?;
     Ok(input)
 }
 
-/// The replies where the request of an index is refused, or none if there is no such.
-fn replies(rt: &HostRuntime, requests: &[&str], refused: usize) -> Result<Vec<u8>, Fail> {
-    let alloc = rt.alloc();
-    let mut owner = OneOwner::new(alloc, RandomState::new(rt)?);
-    let mut bytes = Vec::new(alloc);
-    for (index, words) in requests.iter().enumerate() {
-        if index == refused {
-            bytes.extend_from_slice(b"-ERR 1 out of memory\r\n")?;
-        } else {
-            bytes.extend_from_slice(reply(alloc, &mut owner, words)?.as_slice())?;
-        }
-    }
-    Ok(bytes)
+/// What a session came to: the bytes that were written, and the listing of the set then.
+#[derive(Drop)]
+pub struct Told {
+    pub written: Vec<u8>,
+    pub listed: Vec<u8>,
 }
 
-/// Whether these are the replies where one request is refused.
-fn is_one_refused(rt: &HostRuntime, requests: &[&str], written: &[u8]) -> Result<bool, Fail> {
-    for refused in 0..requests.len() {
-        if replies(rt, requests, refused)?.as_slice() == written {
+impl Told {
+    fn agrees_with(&self, other: &Told) -> bool {
+        self.written == other.written && self.listed == other.listed
+    }
+}
+
+/// What a session comes to where the request of an index is refused, or none if there is no such.
+fn told_without(rt: &HostRuntime, script: Script<'_>, refused: usize) -> Result<Told, Fail> {
+    let alloc = rt.alloc();
+    let mut owner = OneOwner::new(alloc, RandomState::new(rt)?);
+    let mut written = Vec::new(alloc);
+    for (index, words) in script.requests.iter().enumerate() {
+        if index == refused {
+            written.extend_from_slice(b"-ERR 1 out of memory\r\n")?;
+        } else {
+            written.extend_from_slice(reply(alloc, &mut owner, words)?.as_slice())?;
+        }
+    }
+    written.extend_from_slice(script.error)?;
+    let listed = reply(alloc, &mut owner, LISTING)?;
+    Ok(Told { written, listed })
+}
+
+/// Whether this is what a session comes to where no request is refused.
+fn is_whole(rt: &HostRuntime, script: Script<'_>, told: &Told) -> Result<bool, Fail> {
+    Ok(told_without(rt, script, script.requests.len())?.agrees_with(told))
+}
+
+/// Whether this is what a session comes to where one request is refused.
+fn is_one_refused(rt: &HostRuntime, script: Script<'_>, told: &Told) -> Result<bool, Fail> {
+    for refused in 0..script.requests.len() {
+        if told_without(rt, script, refused)?.agrees_with(told) {
             return Ok(true);
+        }
+    }
+    Ok(false)
+}
+
+/// Whether a session ended behind the replies to some first requests: these were run, and of the others at most the
+/// next one.
+fn is_cut_off(rt: &HostRuntime, script: Script<'_>, told: &Told) -> Result<bool, Fail> {
+    for count in 0..script.requests.len().saturating_add(1) {
+        let here = told_without(rt, script.first(count), count)?;
+        if here.written == told.written {
+            let next = count.saturating_add(1);
+            let further = told_without(rt, script.first(next), next)?;
+            return Ok(told.listed == here.listed || told.listed == further.listed);
         }
     }
     Ok(false)
@@ -65,7 +142,7 @@ fn is_one_refused(rt: &HostRuntime, requests: &[&str], written: &[u8]) -> Result
 
 /// What came of a session one of whose allocations was refused.
 #[derive(Clone, Copy, PartialEq, Eq)]
-enum Outcome {
+pub enum Outcome {
     /// There were fewer allocations.
     Whole,
     /// One request was refused, and the requests behind it were answered on the sets that then stood.
@@ -77,87 +154,178 @@ enum Outcome {
     Wrong,
 }
 
-/// How a session ended: without a fault, for want of memory, or at a failed write of so many bytes before.
-#[derive(Clone, Copy)]
-enum End {
-    Served,
-    NoMemory,
-    WriteFault(u128),
-    Other,
+/// A session one of whose allocations was to be refused: whether there were fewer, how it ended, and what it came to.
+#[derive(Drop)]
+pub struct Served {
+    pub has_fewer: bool,
+    pub end: Result<Ended, SessionFault>,
+    pub told: Told,
 }
 
-/// Serves requests, in pieces of so many bytes, with one allocation refused.
-fn serve_refused(
+/// What came of it.
+pub fn judged(rt: &HostRuntime, script: Script<'_>, session: &Served) -> Result<Outcome, Fail> {
+    let told = &session.told;
+    let (outcome, is_right) = match session.end {
+        end if session.has_fewer => (
+            Outcome::Whole,
+            script.ends_so(end) && is_whole(rt, script, told)?,
+        ),
+        Err(SessionFault::NoMemory) => (Outcome::Ended, is_cut_off(rt, script, told)?),
+        Err(SessionFault::WriteFault(out)) => (
+            Outcome::Failed,
+            out == told.written.len() as u128 && is_cut_off(rt, script, told)?,
+        ),
+        end => (
+            Outcome::Replied,
+            script.ends_so(end) && is_one_refused(rt, script, told)?,
+        ),
+    };
+    Ok(if is_right { outcome } else { Outcome::Wrong })
+}
+
+/// Serves what comes from a source, with memory from a heap.
+fn serve_from<R, A: Allocator + Copy, D: Allocator, E: Exec<R, A>>(
+    rt: &R,
+    heap: A,
+    source: &mut MemorySource<'_>,
+    drain: &mut MemoryDrain<D>,
+    exec: &mut E,
+) -> Result<Ended, SessionFault>
+    requires { E.settled exec.old }
+    ensures { E.settled exec.new }
+{
+    serve(rt, heap, source, drain, exec, 64, 1 << 40)
+}
+
+/// The listing of the set, by a session of its own.
+fn listed_by<R: AllocGlobal, A: Allocator + Copy, E: Exec<R, A>>(
+    rt: &R,
+    heap: A,
+    exec: &mut E,
+) -> Result<Vec<u8>, Fail>
+    requires { E.settled exec.old }
+    ensures { E.settled exec.new }
+{
+    let alloc = rt.alloc();
+    let mut listing = Vec::new(alloc);
+    write_words(alloc, LISTING, &mut listing)?;
+    let mut source = MemorySource::new(&listing, 64);
+    let mut drain = MemoryDrain::new(alloc, 65_536);
+    serve_from(rt, heap, &mut source, &mut drain, exec)?;
+    Ok(Vec::from_slice(alloc, drain.bytes())?)
+}
+
+/// Serves what comes from a source, with memory of a heap under a fuse, but for the drain's; and then lists the set.
+pub fn serve_refused<R: AllocGlobal, A: Allocator + Copy, D: Allocator, E: Exec<R, A>>(
+    rt: &R,
+    heap: A,
+    fuse: &Fuse<Global>,
+    source: &mut MemorySource<'_>,
+    room: D,
+    exec: &mut E,
+) -> Result<Served, Fail>
+    requires { E.settled exec.old }
+    ensures { E.settled exec.new }
+{
+    let mut drain = MemoryDrain::new(room, 65_536);
+    let end = serve_from(rt, heap, source, &mut drain, exec);
+    let has_fewer = fuse.is_armed();
+    fuse.arm(0);
+    let written = Vec::from_slice(rt.alloc(), drain.bytes())?;
+    let listed = listed_by(rt, heap, exec)?;
+    Ok(Served {
+        has_fewer,
+        end,
+        told: Told { written, listed },
+    })
+}
+
+/// Serves a script over an owner, with one allocation refused. The drain of one that ends in a fault has room.
+fn refuse(
     rt: &HostRuntime,
-    requests: &[&str],
+    script: Script<'_>,
     piece: usize,
     allocation: u64,
 ) -> Result<Outcome, Fail>
     requires { 1 ≤ piece }
 {
-    let input = input_of(rt, requests)?;
-    let fuse = Fuse::new(rt.alloc(), allocation);
+    let alloc = rt.alloc();
+    let input = input_of(alloc, script)?;
+    let fuse = Fuse::new(alloc, allocation);
     let mut owner = OneOwner::new(&fuse, RandomState::new(rt)?);
     let mut source = MemorySource::new(&input, piece);
-    let mut drain = MemoryDrain::new(&fuse, 65_536);
-    let end = match serve(rt, &fuse, &mut source, &mut drain, &mut owner, 64, 1 << 40) {
-        Ok(_) => End::Served,
-        Err(SessionFault::NoMemory) => End::NoMemory,
-        Err(SessionFault::WriteFault(out)) => End::WriteFault(out),
-        Err(_) => End::Other,
+    let session = if script.error.is_empty() {
+        serve_refused(rt, &fuse, &fuse, &mut source, &fuse, &mut owner)?
+    } else {
+        serve_refused(rt, &fuse, &fuse, &mut source, alloc, &mut owner)?
     };
-    judged(rt, requests, end, fuse.is_armed(), drain.bytes())
+    judged(rt, script, &session)
 }
 
-fn judged(
-    rt: &HostRuntime,
-    requests: &[&str],
-    end: End,
-    is_whole: bool,
-    written: &[u8],
-) -> Result<Outcome, Fail> {
-    let all = replies(rt, requests, requests.len())?;
-    let is_begun = !is_whole && all.starts_with(written);
-    Ok(match end {
-        End::Served if is_whole && all.as_slice() == written => Outcome::Whole,
-        End::Served if !is_whole && is_one_refused(rt, requests, written)? => Outcome::Replied,
-        End::NoMemory if is_begun => Outcome::Ended,
-        End::WriteFault(out) if is_begun && out == written.len() as u128 => Outcome::Failed,
-        _ => Outcome::Wrong,
-    })
+/// How many allocations were refused, one in each session, and in which ways the sessions came out.
+#[derive(Clone, Copy, Debug, PartialEq, Eq)]
+pub struct Seen {
+    pub points: u64,
+    pub replied: bool,
+    pub ended: bool,
+    pub failed: bool,
 }
 
-/// How many allocations were refused, one in each session, until a session had no more, and whether sessions came
-/// out in each of three ways.
-fn outcomes(rt: &HostRuntime, requests: &[&str], piece: usize) -> Result<(u64, [bool; 3]), Fail>
+impl Seen {
+    pub fn nothing() -> Self {
+        Seen {
+            points: 0,
+            replied: false,
+            ended: false,
+            failed: false,
+        }
+    }
+
+    /// Notes what came of a session, and answers whether it was the last.
+    pub fn note(&mut self, outcome: Outcome) -> Result<bool, Fail> {
+        match outcome {
+            Outcome::Whole => return Ok(true),
+            Outcome::Replied => self.replied = true,
+            Outcome::Ended => self.ended = true,
+            Outcome::Failed => self.failed = true,
+            Outcome::Wrong => return Err("neither refused nor answered as with memory")?,
+        }
+        self.points = self.points.saturating_add(1);
+        Ok(false)
+    }
+}
+
+/// Refuses each allocation of a session, until a session has no more.
+fn refused(rt: &HostRuntime, script: Script<'_>, piece: usize) -> Result<Seen, Fail>
     requires { 1 ≤ piece }
 {
-    let mut seen = [false; 3];
+    let mut seen = Seen::nothing();
     for allocation in 1..1000u64 {
-        match serve_refused(rt, requests, piece, allocation)? {
-            Outcome::Whole => return Ok((allocation - 1, seen)),
-            Outcome::Replied => seen[0] = true,
-            Outcome::Ended => seen[1] = true,
-            Outcome::Failed => seen[2] = true,
-            Outcome::Wrong => return Err("neither refused nor answered as with memory")?,
+        if seen.note(refuse(rt, script, piece, allocation)?)? {
+            return Ok(seen);
         }
     }
     Err("no end")?
 }
 
+/// The scripts, the least number of allocations of a session of each, and whether the drain may fail.
+const SCRIPTS: [(Script<'static>, u64, bool); 3] = [
+    (REMOVALS, 35, true),
+    (LISTINGS, 60, true),
+    (FAULT, 25, false),
+];
+
 #[test]
 fn each_refused_allocation_is_told(rt: HostRuntime) -> Result<(), Fail> {
-    for piece in [65_536usize, 1] {
-        let (refused, seen) = outcomes(&rt, &REMOVALS, piece)?;
-        assert!(rt;
-            refused > 20 && seen == [true; 3],
-            "{refused} in pieces of {piece}"
-        );
-        let (refused, seen) = outcomes(&rt, &LISTINGS, piece)?;
-        assert!(rt;
-            refused > 20 && seen == [true; 3],
-            "{refused} in pieces of {piece}"
-        );
+    for (script, least, failed) in SCRIPTS {
+        for piece in [65_536usize, 1] {
+            let seen = refused(&rt, script, piece)?;
+            let ways = (seen.replied, seen.ended, seen.failed);
+            assert!(rt;
+                seen.points >= least && ways == (true, true, failed),
+                "{seen:?} in pieces of {piece}"
+            );
+        }
     }
     Ok(())
 }

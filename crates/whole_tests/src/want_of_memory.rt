@@ -1,15 +1,19 @@
-//! Each allocation of each command refused in turn.
+//! Each allocation of each command refused in turn, on a set with rows that wait and on a long one. The worked examples
+//! are in `worked_examples`.
 
 ghost use Rattle.std.specs.Prelude.{◌≡◌, ◌≤◌, None};
 
 use fuse_alloc::Fuse;
 use resp_wire::{Bytes, BytesList, Reply, Request, write_reply};
-use std::alloc::Allocator;
+use std::alloc::{Allocator, Global};
 use std::hash::RandomState;
 use std::test::Fail;
 use zset_core::{Command, OneOwner, Refusal};
 
 type Owner<A> = OneOwner<RandomState, A>;
+
+/// A command by its words, behind those that set up its sets.
+pub type Example<'w> = (&'w [&'w str], &'w str);
 
 /// The request whose words stand between single blanks, in memory of the owner's kind.
 pub fn request<A: Allocator + Copy>(alloc: A, words: &str) -> Result<Request<A>, Fail> {
@@ -31,6 +35,15 @@ fn answer<A: Allocator + Copy>(
 {
     let command = Command::read(alloc, request)?;
     owner.run(&command)
+}
+
+/// What a client is told, a refusal by its error reply. None for want of memory.
+fn told<A: Allocator>(answer: Result<Reply<A>, Refusal>) -> Option<Reply<A>> {
+    match answer {
+        Ok(reply) => Some(reply),
+        Err(Refusal::NoMemory) => None,
+        Err(refusal) => Some(Reply::Fault(refusal.text())),
+    }
 }
 
 /// The bytes of a reply.
@@ -55,6 +68,21 @@ pub fn reply<A: Allocator + Copy>(
     }
 }
 
+/// The bytes of what a client is told where there is memory.
+fn told_bytes<A: Allocator + Copy>(
+    alloc: A,
+    owner: &mut Owner<A>,
+    words: &str,
+) -> Result<Vec<u8, A>, Fail>
+    requires { owner.old.next ≡ None }
+    ensures { owner.new.next ≡ None }
+{
+    match told(answer(alloc, owner, request(alloc, words)?)) {
+        Some(reply) => bytes_of(alloc, &reply),
+        None => Err("out of memory")?,
+    }
+}
+
 /// Runs commands none of which is refused.
 fn run_all<A: Allocator + Copy>(
     alloc: A,
@@ -72,7 +100,7 @@ fn run_all<A: Allocator + Copy>(
 
 pub const LISTING: &str = "ZRANGEBYSCORE k -inf +inf WITHSCORES";
 
-/// What ample memory gives: the listing of the set before a command, and the reply to the command.
+/// What ample memory gives: the listing of the set before a command, and what the command is told.
 #[derive(Drop)]
 pub struct Ample {
     pub before: Vec<u8>,
@@ -88,7 +116,7 @@ pub fn with_memory(rt: &HostRuntime, setup: &[&str], words: &str) -> Result<Ampl
     run_all(alloc, &mut asked, setup)?;
     Ok(Ample {
         before: reply(alloc, &mut listed, LISTING)?,
-        reply: reply(alloc, &mut asked, words)?,
+        reply: told_bytes(alloc, &mut asked, words)?,
     })
 }
 
@@ -97,9 +125,9 @@ pub fn with_memory(rt: &HostRuntime, setup: &[&str], words: &str) -> Result<Ampl
 pub enum Outcome {
     /// There were fewer allocations.
     Whole,
-    /// It was refused, the set stayed, and asked again it gave its reply.
+    /// It was refused for want of memory, the set stayed, and asked again it was told as with memory.
     Refused,
-    /// Its reply came all the same.
+    /// It was told as with memory all the same.
     Made,
     Wrong,
 }
@@ -113,6 +141,21 @@ impl Outcome {
             false => Outcome::Wrong,
         }
     }
+}
+
+/// Whether a command that was refused for want of memory left the set, and is told as with memory now.
+fn recovers<A: Allocator + Copy>(
+    alloc: A,
+    owner: &mut Owner<A>,
+    words: &str,
+    ample: &Ample,
+) -> Result<bool, Fail>
+    requires { owner.old.next ≡ None }
+    ensures { owner.new.next ≡ None }
+{
+    let stayed = reply(alloc, owner, LISTING)?.as_slice() == ample.before.as_slice();
+    let again = told_bytes(alloc, owner, words)?.as_slice() == ample.reply.as_slice();
+    Ok(stayed && again)
 }
 
 /// Refuses one allocation of the command behind those that set up its set.
@@ -130,36 +173,37 @@ fn refuse(
     run_all(heap, &mut owner, setup)?;
     let request = request(heap, words)?;
     fuse.arm(allocation);
-    let found = answer(heap, &mut owner, request);
+    let found = told(answer(heap, &mut owner, request));
     let is_whole = fuse.is_armed();
     fuse.arm(0);
     match found {
-        Ok(reply) => {
+        Some(reply) => {
             let bytes = bytes_of(heap, &reply)?;
             Ok(Outcome::of_reply(is_whole, bytes.as_slice(), ample))
         }
-        Err(Refusal::NoMemory) if !is_whole => {
-            let stayed = reply(heap, &mut owner, LISTING)?.as_slice() == ample.before.as_slice();
-            let again = reply(heap, &mut owner, words)?.as_slice() == ample.reply.as_slice();
-            Ok(if stayed && again {
-                Outcome::Refused
-            } else {
-                Outcome::Wrong
-            })
-        }
-        _ => Ok(Outcome::Wrong),
+        None if !is_whole && recovers(heap, &mut owner, words, ample)? => Ok(Outcome::Refused),
+        None => Ok(Outcome::Wrong),
     }
 }
 
-/// How many allocations of the command were refused, one in each run, until a run had no more, and whether the
-/// command was refused for want of one.
-fn refused(rt: &HostRuntime, setup: &[&str], words: &str) -> Result<(u64, bool), Fail> {
+/// How many allocations of a command were refused, one in each run, and how often it was refused for want of one.
+#[derive(Clone, Copy, Debug, PartialEq, Eq)]
+pub struct Points {
+    pub all: u64,
+    pub refused: u64,
+}
+
+/// Refuses each allocation of a command, until a run has no more.
+pub fn refused(rt: &HostRuntime, setup: &[&str], words: &str) -> Result<Points, Fail> {
     let ample = with_memory(rt, setup, words)?;
-    let mut was_refused = false;
+    let mut refused = 0u64;
     for allocation in 1..1000u64 {
         match refuse(rt, setup, words, &ample, allocation)? {
-            Outcome::Whole => return Ok((allocation - 1, was_refused)),
-            Outcome::Refused => was_refused = true,
+            Outcome::Whole => return Ok(Points {
+                all: allocation - 1,
+                refused,
+            }),
+            Outcome::Refused => refused = refused.saturating_add(1),
             Outcome::Made => {}
             Outcome::Wrong => return Err("neither refused nor answered as with memory")?,
         }
@@ -176,67 +220,27 @@ const SETUP: [&str; 5] = [
     "ZADD j 1 x",
 ];
 
-/// Commands behind those that set up their sets, of the worked examples.
-const EXAMPLES: [(&[&str], &str); 12] = [
-    (&["ZADD k 1 b 1 a 1 B"], LISTING),
-    (&[], "ZADD k CH 1 a 2 a"),
-    (
-        &["ZADD k 9223372036854775807 a"],
-        "ZCOUNT k (9223372036854775806 +inf",
-    ),
-    (&["ZADD k 5 a"], "ZCOUNT k -inf inf"),
-    (&["ZADD k 1 a"], "ZADD k INCR 1.0 a"),
-    (&["ZADD k 2 a"], "ZADD k XX CH 7 a 8 b"),
-    (
-        &[
-            "ZADD k 1 m1 2 m2 3 m3 4 m4 5 m5 6 m6 7 m7 8 m8 9 m9 10 m10",
-            "ZCOUNT k 3 6",
-            "ZADD k 1 x 5 y 9 z",
-            "ZREM k y",
-        ],
-        "ZRANGEBYSCORE k 0 10",
-    ),
-    (
-        &["ZADD k 1 a 5 b 9 c", "ZCOUNT k 4 6", "ZADD k CH 8 a"],
-        "ZCOUNT k -inf (4",
-    ),
-    (&["ZADD k 1 a", "ZCOUNT k 0 2", "ZREM k a"], "ZADD k 1 b"),
-    (
-        &["ZADD k 1 a 2 b 3 c 4 d"],
-        "ZRANGEBYSCORE k -inf +inf LIMIT 1 2",
-    ),
-    (&["ZADD k 1 a 2 b"], "ZREM k a a x"),
-    (&["ZADD k 1 a 2 b 3 c"], "ZREMRANGEBYSCORE k (1 2"),
+/// Commands on that set, and how often each is refused at the least.
+const COMMANDS: [(&str, u64); 11] = [
+    ("PING hi", 1),
+    ("ZADD k 1 i 2 j 3 k 4 l 5 m 6 n 7 o 8 p", 6),
+    ("ZADD new 1 a", 8),
+    ("ZADD k XX CH 3 a 9 nobody", 3),
+    ("ZADD k INCR 4 b", 3),
+    ("ZADD k GT CH 9 b 1 z", 3),
+    ("ZSCORE k a", 1),
+    ("ZCOUNT k (6 +inf", 1),
+    ("ZCOUNT k (5 (8", 1),
+    ("ZRANGEBYSCORE k -inf 8 WITHSCORES", 10),
+    ("ZRANGEBYSCORE k 0 +inf LIMIT 1 3", 5),
 ];
 
 #[test]
-fn each_example_is_refused_or_answered(rt: HostRuntime) -> Result<(), Fail> {
-    for (setup, words) in EXAMPLES {
-        refused(&rt, setup, words)?;
-    }
-    Ok(())
-}
-
-#[test]
 fn each_command_is_refused_or_answered(rt: HostRuntime) -> Result<(), Fail> {
-    let commands = [
-        "PING hi",
-        "ZADD k 1 i 2 j 3 k 4 l 5 m 6 n 7 o 8 p",
-        "ZADD new 1 a",
-        "ZADD k XX CH 3 a 9 nobody",
-        "ZADD k INCR 4 b",
-        "ZADD k GT CH 9 b 1 z",
-        "ZREM k a b nobody",
-        "ZREMRANGEBYSCORE k (6 8",
-        "ZSCORE k a",
-        "ZCOUNT k (6 +inf",
-        "ZRANGEBYSCORE k -inf 8 WITHSCORES",
-        "ZRANGEBYSCORE k 0 +inf LIMIT 1 3",
-    ];
-    for words in commands {
-        assert!(rt; refused(&rt, &SETUP, words)?.0 >= 1, "{words}");
+    for (words, least) in COMMANDS {
+        let points = refused(&rt, &SETUP, words)?;
+        assert!(rt; points.refused >= least, "{words}: {points:?}");
     }
-    assert_eq!(rt; refused(&rt, &SETUP, "ZCARD k")?, (0, false));
     Ok(())
 }
 
@@ -244,8 +248,56 @@ fn each_command_is_refused_or_answered(rt: HostRuntime) -> Result<(), Fail> {
 #[test]
 fn a_removal_is_made_whichever_allocation_is_refused(rt: HostRuntime) -> Result<(), Fail> {
     for words in ["ZREM k a b nobody", "ZREMRANGEBYSCORE k (6 8"] {
-        let (allocations, was_refused) = refused(&rt, &SETUP, words)?;
-        assert!(rt; allocations >= 1 && !was_refused, "{words}");
+        let points = refused(&rt, &SETUP, words)?;
+        assert!(rt;
+            points.all >= 1 && points.refused == 0,
+            "{words}: {points:?}"
+        );
+    }
+    Ok(())
+}
+
+/// `ZADD k` with 500 pairs from a number on, each with its number as its score.
+fn addition(alloc: Global, first: u64) -> Result<String, Fail> {
+    let mut text = "ZADD k".to_string(alloc)?;
+    for index in 0..500u64 {
+        let number = first.saturating_add(index);
+        text.push_str(&format!(in alloc; " {number} m{number}")?)?;
+    }
+    Ok(text)
+}
+
+/// Additions of 2,500 members, a count that merges them, and the removal of one.
+fn long_setup(alloc: Global) -> Result<Vec<String>, Fail> {
+    let mut commands = Vec::new(alloc);
+    for first in [0u64, 500, 1000, 1500, 2000] {
+        commands.push(addition(alloc, first)?)?;
+    }
+    commands.push("ZCOUNT k -inf +inf".to_string(alloc)?)?;
+    commands.push("ZREM k m1234".to_string(alloc)?)?;
+    Ok(commands)
+}
+
+/// Readings of that set, and how often each is refused and is made all the same at the least.
+const LONG_READINGS: [(&str, u64, u64); 2] = [
+    ("ZCOUNT k -inf +inf", 0, 1),
+    ("ZRANGEBYSCORE k -inf +inf LIMIT 700 3", 4, 1),
+];
+
+// The removed row is searched for in a long piece, which is parted first, as is the one around a window. An inner
+// pivot for which there is no memory is done without.
+#[test]
+fn a_long_set_is_read_without_inner_pivots(rt: HostRuntime) -> Result<(), Fail> {
+    let alloc = rt.alloc();
+    let texts = long_setup(alloc)?;
+    let setup: Vec<&str> = texts.iter().map(|text| text.as_str()).collect(alloc)?;
+    for (words, least_refused, least_made) in LONG_READINGS {
+        let points = refused(&rt, &setup, words)?;
+        let made = points.all.saturating_sub(points.refused);
+        assert!(rt;
+            points.refused >= least_refused && made >= least_made,
+            "{words}: {points:?}"
+        );
     }
     Ok(())
 }

@@ -2,11 +2,12 @@
 
 ghost use Rattle.std.specs.Prelude.{◌≡◌, ◌+◌, length};
 
+use fuse_alloc::Fuse;
 use resp_wire::{
     Bytes, BytesList, Decoder, MAX_READ_BUFFER, MAX_READS, ProtocolFault, READ_BUFFER, Request,
     WireFault,
 };
-use std::alloc::{AllocError, Global};
+use std::alloc::{AllocError, Allocator, Global};
 use std::test::Fail;
 
 /// What a text fed byte by byte is answered first: a fault with the number of bytes that were fed
@@ -86,4 +87,114 @@ fn requests_keep_their_limits(rt: HostRuntime) -> Result<(), Fail> {
 fn reads_have_their_sizes(rt: HostRuntime) {
     assert!(rt; READ_BUFFER == 16_384 && MAX_READ_BUFFER == 65_536);
     assert!(rt; MAX_READS == 1_099_511_627_776);
+}
+
+/// What a decoder gave: the words of its requests, a blank behind each, and the fault that it told; and whether it
+/// was fed or asked again, where there was no memory.
+#[derive(Drop)]
+struct Given {
+    words: Vec<u8>,
+    fault: Option<WireFault>,
+    was_fed_again: bool,
+    was_asked_again: bool,
+}
+
+/// Notes the words of a request.
+fn note<A: Allocator>(request: &Request<A>, words: &mut Vec<u8>) -> Result<(), AllocError> {
+    for word in request.words() {
+        words.extend_from_slice(word.as_slice())?;
+        words.push(b' ')?;
+    }
+    Ok(())
+}
+
+/// Feeds a byte, and once more where there was no memory for it.
+fn feed<A: Allocator + Copy>(
+    decoder: &mut Decoder<A>,
+    byte: u8,
+    given: &mut Given,
+) -> Result<(), Fail> {
+    if decoder.taken() > 1000 || decoder.rest_len() > 1000 {
+        return Err("a long text")?;
+    }
+    if decoder.feed(&[byte]).is_err() {
+        given.was_fed_again = true;
+        decoder.feed(&[byte])?;
+    }
+    Ok(())
+}
+
+/// Takes the next request, which is asked for once more where there was no memory for it.
+fn take_next<A: Allocator + Copy>(
+    decoder: &mut Decoder<A>,
+    given: &mut Given,
+) -> Result<(), AllocError> {
+    let mut next = decoder.next();
+    if matches!(next, Err(WireFault::NoMemory)) {
+        given.was_asked_again = true;
+        next = decoder.next();
+    }
+    match next {
+        Ok(None) => {}
+        Ok(Some(request)) => note(&request, &mut given.words)?,
+        Err(fault) => given.fault = Some(fault),
+    }
+    Ok(())
+}
+
+/// Feeds a text byte by byte, and asks for a request behind each.
+fn decode<A: Allocator + Copy>(alloc: Global, heap: A, text: &[u8]) -> Result<Given, Fail> {
+    let mut decoder = Decoder::new(heap);
+    let mut given = Given {
+        words: Vec::new(alloc),
+        fault: None,
+        was_fed_again: false,
+        was_asked_again: false,
+    };
+    for byte in text {
+        feed(&mut decoder, *byte, &mut given)?;
+        take_next(&mut decoder, &mut given)?;
+    }
+    Ok(given)
+}
+
+/// Requests with what is skipped between them, and a byte that begins none.
+const TEXT: &[u8] = b"*2\r\n$4\r\nPING\r\n$2\r\nhi\r\n*0\r\n*1\r\n$4\r\nPING\r\nP";
+
+/// Whether a decoder gave what stands there.
+fn is_whole(given: &Given) -> bool {
+    given.words.as_slice() == b"PING hi PING ".as_slice()
+        && given.fault == Some(WireFault::Protocol(ProtocolFault::NotAnArray))
+}
+
+/// Refuses each allocation of a decoder, until it has no more: how many runs had a byte that was fed again, and how
+/// many a request that was asked for again. Each gives all that stands there.
+fn refused(alloc: Global) -> Result<(u64, u64), Fail> {
+    let (mut fed, mut asked) = (0u64, 0u64);
+    for allocation in 1..1000u64 {
+        let fuse = Fuse::new(alloc, allocation);
+        let given = decode(alloc, &fuse, TEXT)?;
+        if !is_whole(&given) {
+            return Err("not what stands there")?;
+        }
+        if fuse.is_armed() {
+            return Ok((fed, asked));
+        }
+        fed = fed.saturating_add(u64::from(given.was_fed_again));
+        asked = asked.saturating_add(u64::from(given.was_asked_again));
+    }
+    Err("no end")?
+}
+
+/// The least number of runs in which a byte was fed again, and in which a request was asked for again.
+const LEAST: (u64, u64) = (1, 4);
+
+#[test]
+fn a_decoder_without_memory_is_asked_again(rt: HostRuntime) -> Result<(), Fail> {
+    let (fed, asked) = refused(rt.alloc())?;
+    assert!(rt;
+        fed >= LEAST.0 && asked >= LEAST.1,
+        "{fed} fed, {asked} asked"
+    );
+    Ok(())
 }
