@@ -133,6 +133,8 @@ class Run:
 
 def main(seconds):
     """Runs the tests, for so many seconds at most; the last line is 'N passed, M failed', the one before tells the seconds."""
+    # A shell's background job ignores SIGINT, and so would the programs that it starts, which the tests signal.
+    signal.signal(signal.SIGINT, signal.default_int_handler)
     names = sys.argv[2:]
     unknown = set(names) - {it.__name__ for it in tests}
     if unknown:
