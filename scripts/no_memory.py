@@ -59,27 +59,28 @@ def each_refused_allocation_of_a_session_is_told():
     judge_sweep(each_refused_allocation("a session", attempt))
 
 
+def session_with_a_file(room, env, before, world):
+    """The same over a file of these records, which make those sets, or over a new one: what was answered is behind them."""
+    if before:
+        write(f"{room}/kept", before)
+    left, ended = session_with_a_refusal(env, world, "--file", f"{room}/kept")
+    kept = read(f"{room}/kept") if os.path.exists(f"{room}/kept") else b""
+    same(kept in [before + b"".join(it.log) for it in left], True)
+    return ended
+
+
 @test
 def each_refused_allocation_of_a_session_with_a_new_file_is_told():
-    def attempt(room, env):
-        left, ended = session_with_a_refusal(env, Sets(), "--file", f"{room}/kept")
-        kept = read(f"{room}/kept") if os.path.exists(f"{room}/kept") else b""
-        same(kept in [b"".join(it.log) for it in left], True)
-        return ended
-
-    judge_sweep(each_refused_allocation("a session with a new file", attempt))
+    judge_sweep(each_refused_allocation("a session with a new file", lambda room, env: session_with_a_file(room, env, b"", Sets())))
 
 
 @test
 def each_refused_allocation_of_a_session_with_a_file_is_told():
     def attempt(room, env):
-        write(f"{room}/kept", RECORDS)
         world = Sets()
         world.ask("ZADD", "k", 2, "b")
         world.restart()
-        left, ended = session_with_a_refusal(env, world, "--file", f"{room}/kept")
-        same(read(f"{room}/kept") in [RECORDS + b"".join(it.log) for it in left], True)
-        return ended
+        return session_with_a_file(room, env, RECORDS, world)
 
     judge_sweep(each_refused_allocation("a session with a file", attempt))
 

@@ -171,23 +171,23 @@ def rounds_on_shared_keys(signals, seed):
     return told
 
 
+def fifty_kills(rounds, seed, what):
+    told = rounds([signal.SIGKILL] * KILLS, seed)
+    print(f"{KILLS} kills under {what}: {told} were acknowledged and kept", flush=True)
+
+
 @test
 def acknowledged_changes_outlive_fifty_kills():
-    told = rounds_on_own_keys([signal.SIGKILL] * KILLS, 1)
-    print(f"{KILLS} kills under changes of own keys: {told} changes were acknowledged and kept", flush=True)
-
-
-@test
-def other_signals_leave_the_file_as_a_kill_does():
-    rounds_on_own_keys([signal.SIGTERM, signal.SIGINT] * 5, 2)
+    fifty_kills(rounds_on_own_keys, 1, "changes of own keys")
 
 
 @test
 def members_added_to_shared_keys_outlive_fifty_kills():
-    told = rounds_on_shared_keys([signal.SIGKILL] * KILLS, 3)
-    print(f"{KILLS} kills under additions to shared keys: {told} additions were acknowledged and kept", flush=True)
+    fifty_kills(rounds_on_shared_keys, 3, "additions to shared keys")
 
 
 @test
-def other_signals_leave_shared_keys_as_a_kill_does():
-    rounds_on_shared_keys([signal.SIGTERM, signal.SIGINT] * 3, 4)
+def other_signals_leave_the_file_as_a_kill_does():
+    for rounds, seed in [(rounds_on_own_keys, 2), (rounds_on_shared_keys, 4)]:
+        rounds([signal.SIGTERM, signal.SIGINT] * 5, seed)
+        os.remove("kept")
