@@ -2,3 +2,4 @@ pub mod Blocks
 pub mod PartMoves
 pub mod PartChanges
 pub mod PivotOrder
+pub mod MovedPivots

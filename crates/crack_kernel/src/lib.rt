@@ -7,6 +7,7 @@
 
 pub mod crack;
 mod ends;
+mod insertion;
 pub mod pivots;
 pub mod row;
 

@@ -2,8 +2,9 @@
 
 ghost use Rattle.std.specs.Prelude.{◌≡◌, ◌+◌, ◌<◌, ◌≤◌, ◌^◌, [], ◌∷◌, ◌++◌, ◌↔◌, true, false, take, drop, map, pos, set, slice_index_or, length, All, Contains, IsPermutation, IsTrue, IsFalse, IsOk, OnOk, MatchOption, vec_len, vec_capacity};
 ghost use Rattle.std.specs.List.{AllWithin};
-ghost use Rattle.crack_kernel.specs.PivotList.{ArePlacedInOrder, IsRising, IsNewValue, RisesPast, IsPieceOf, moved, shifted, closed_up};
+ghost use Rattle.crack_kernel.specs.PivotList.{ArePlacedInOrder, IsRising, IsNewValue, RisesPast, IsPieceOf, piece_start, piece_end, moved, shifted, closed_up};
 
+use crate::insertion::put_last_at;
 use std::alloc::{AllocError, Allocator};
 use std::marker::Model;
 
@@ -87,6 +88,25 @@ impl<A: Allocator> Pivots<A> {
         piece_of(&self.list, v, rows_len)
     }
 
+    /// The place of the pivot with the value `v`, if there is one, where `index` pivots have a value up to `v`.
+    pub fn find_at(&self, index: usize, v: i64) -> Option<usize>
+        requires { RisesPast v self.now.list index }
+        ensures { MatchOption result (IsNewValue v self.now.list) (λ place. Contains self.now.list
+            (v, place)) }
+    {
+        find_at(&self.list, index, v)
+    }
+
+    /// The piece below the pivot of the index `index`, or behind the last pivot, among `rows_len` rows: where
+    /// it begins and where it ends.
+    pub fn piece_at(&self, index: usize, rows_len: usize) -> (usize, usize)
+        requires { index ≤ length self.now.list }
+        ensures start { result.0 ≡ piece_start self.now.list index }
+        ensures end { result.1 ≡ piece_end self.now.list index rows_len }
+    {
+        piece_at(&self.list, index, rows_len)
+    }
+
     /// Makes room for `n` more pivots.
     pub fn reserve(&mut self, n: usize) -> Result<(), AllocError>
         ensures list { self.new.list ≡ self.old.list }
@@ -106,7 +126,21 @@ impl<A: Allocator> Pivots<A> {
         ensures rising { IsRising self.new.list }
         ensures spare { self.new.spare + 1 ≡ self.old.spare }
     {
-        add(&mut self.list, v, place);
+        let index = count_upto(&self.list, v);
+        add_at(&mut self.list, index, v, place);
+    }
+
+    /// The same where `index` pivots have a value up to `v`: nothing is searched for.
+    pub fn add_at(&mut self, index: usize, v: i64, place: usize)
+        requires room { 0 < self.old.spare }
+        requires few { length self.old.list < MAX_PIVOTS }
+        requires new { IsNewValue v self.old.list }
+        requires index { RisesPast v self.old.list index }
+        ensures list { IsPermutation ((v, place) ∷ self.old.list) self.new.list }
+        ensures rising { IsRising self.new.list }
+        ensures spare { self.new.spare + 1 ≡ self.old.spare }
+    {
+        add_at(&mut self.list, index, v, place);
     }
 
     /// Moves the places of the pivots from the index `from_index` on one up or one down.
@@ -184,7 +218,15 @@ fn find(list: &[(i64, usize)], v: i64) -> Option<usize>
     requires { IsRising list.now }
     ensures { MatchOption result (IsNewValue v list.now) (λ place. Contains list.now (v, place)) }
 {
-    let index = count_upto(list, v);
+    find_at(list, count_upto(list, v), v)
+}
+
+/// The same where the first `index` pivots have a value up to `v`, and the others have not.
+fn find_at(list: &[(i64, usize)], index: usize, v: i64) -> Option<usize>
+    requires rising { IsRising list.now }
+    requires past { RisesPast v list.now index }
+    ensures { MatchOption result (IsNewValue v list.now) (λ place. Contains list.now (v, place)) }
+{
     if index == 0 {
         return None;
     }
@@ -197,7 +239,15 @@ fn piece_of(list: &[(i64, usize)], v: i64, rows_len: usize) -> (usize, usize)
     requires { IsRising list.now }
     ensures { IsPieceOf v list.now rows_len result }
 {
-    let index = count_upto(list, v);
+    piece_at(list, count_upto(list, v), rows_len)
+}
+
+/// The piece below the pivot of the index `index`, or behind the last pivot.
+fn piece_at(list: &[(i64, usize)], index: usize, rows_len: usize) -> (usize, usize)
+    requires { index ≤ length list.now }
+    ensures start { result.0 ≡ piece_start list.now index }
+    ensures end { result.1 ≡ piece_end list.now index rows_len }
+{
     let start = if index == 0 { 0 } else { list[index - 1].1 };
     let end = if index < list.len() {
         list[index].1
@@ -207,20 +257,19 @@ fn piece_of(list: &[(i64, usize)], v: i64, rows_len: usize) -> (usize, usize)
     (start, end)
 }
 
-/// Adds a pivot at its place in the order.
-fn add<A: Allocator>(list: &mut Vec<(i64, usize), A>, v: i64, place: usize)
+/// Adds a pivot behind the first `index` ones, which have values up to its own.
+fn add_at<A: Allocator>(list: &mut Vec<(i64, usize), A>, index: usize, v: i64, place: usize)
     requires rising { IsRising list.old.items }
     requires room { vec_len list.old < vec_capacity list.old }
     requires new { IsNewValue v list.old.items }
+    requires past { RisesPast v list.old.items index }
     ensures list { IsPermutation ((v, place) ∷ list.old.items) list.new.items }
     ensures rising { IsRising list.new.items }
     ensures len { vec_len list.new ≡ vec_len list.old + 1 }
     ensures capacity { vec_capacity list.new ≡ vec_capacity list.old }
 {
-    let index = count_upto(list, v);
-    if list.insert(index, (v, place)).is_err() {
-        unreachable!();
-    }
+    list.push_reserved((v, place));
+    put_last_at(&mut list[..], index);
 }
 
 /// Takes other pivots in the place of those in the list.

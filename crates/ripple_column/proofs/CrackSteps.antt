@@ -6,7 +6,7 @@ use Rattle.std.proofs.lemmas.Int.{ints}
 use Rattle.std.proofs.lemmas.List.{get_or_default, get_or_past}
 use Rattle.std.proofs.lemmas.List.Sorted.{All-permutation, length_permutation}
 use Rattle.crack_kernel.specs.Parts.{IsBelow, IsFrom, IsParted, ChangesWithin}
-use Rattle.crack_kernel.specs.PivotList.{IsRising, ObeysPivots, RisesPast, IsPieceOf, piece_start}
+use Rattle.crack_kernel.specs.PivotList.{IsRising, ObeysPivots, RisesPast, IsPieceOf, piece_start, piece_end}
 use Rattle.crack_kernel.proofs.PartChanges.{ChangesWithin-front, ChangesWithin-back, IsParted-changed}
 use Rattle.ripple_column.specs.CutPivots.{IsApart}
 use Rattle.ripple_column.proofs.Hole.{Places, Places-from_law, bound_from, bound_upto, bound_within}
@@ -67,6 +67,17 @@ IsPiece-from u v ps rows piece same law of =
                 absurd (omega arith)
           ];
     }
+
+-- the piece at an index that parts the pivots by a value
+pub IsPiece-at : (u v : ℤ) (n : ℕ) (ps : List (ℤ × ℕ)) (rows : List (ℤ × List ℕ)) (rows_len : ℕ) (piece : ℕ × ℕ) → u ≡ v → rows_len ≡ length rows → ObeysPivots ps rows → RisesPast u ps n
+    → piece.0 ≡ piece_start ps n → piece.1 ≡ piece_end ps n rows_len → IsPiece v ps rows piece.0 piece.1
+IsPiece-at u v n ps rows rows_len piece same long law past start end =
+    IsPiece-from u v ps rows piece same law (record {
+      index = n;
+      past = past;
+      start = start;
+      end = rw long at end;
+    })
 
 -- the rows outside the piece stay
 pub still_apart : (v : ℤ) (ps : List (ℤ × ℕ)) (xs ys : List (ℤ × List ℕ)) (from to : ℕ) → IsPiece v ps xs from to → ChangesWithin from to xs ys

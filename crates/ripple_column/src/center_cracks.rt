@@ -9,7 +9,7 @@ ghost use Rattle.ripple_column.specs.CutPivots.{IsUncracked};
 ghost use Rattle.ripple_column.specs.InnerCrackEffects.{AreCracked, shown};
 ghost use Rattle.score_bounds.specs.declared.bounds.Cut.TheVariants.{At};
 
-use crate::inner_cracks::{SAMPLE, crack_inside, parting_score_at, sorted_sample};
+use crate::inner_cracks::{SAMPLE, crack_inside, parting_score_at, sample_of};
 use crate::pieces::Pieces;
 use crate::ripple::{place_or, start_below};
 use crack_kernel::{Pivots, Row};
@@ -50,11 +50,12 @@ pub fn are_short<A: Allocator>(pivots: &Pivots<A>, rows_len: usize) -> bool {
 
 /// A score that parts these rows in the center, where a cut at `v` would come near an end of them.
 fn center_score<A: Allocator>(rows: &[Row<A>], v: i64) -> Option<i64> {
-    let sample = sorted_sample(rows)?;
-    let below = sample.partition_point(|score| *score < v);
+    let mut sample = sample_of(rows)?;
+    let below = sample.iter().filter(|score| **score < v).count();
     if below >= NEAR && below <= SAMPLE - NEAR {
         return None;
     }
+    sample.sort_unstable();
     parting_score_at(&sample, SAMPLE / 2)
 }
 
@@ -66,11 +67,12 @@ fn crack_center<A: Allocator>(pieces: &mut Pieces<A>, v: i64) -> bool
         → slice_index_or pieces.new.cracked.rows.items k d ≡ slice_index_or pieces.old.cracked.rows.items k d }
 {
     let cracked = &pieces.cracked;
-    if cracked.pivots.find(v).is_some() {
+    let index = cracked.pivots.count_upto(v);
+    if cracked.pivots.find_at(index, v).is_some() {
         return false;
     }
     let rows_len = cracked.rows.len();
-    let (from, to) = cracked.pivots.piece_of(v, rows_len);
+    let (from, to) = cracked.pivots.piece_at(index, rows_len);
     if from >= to || to > rows_len || to - from < LONG_PIECE {
         return false;
     }

@@ -1,7 +1,7 @@
 //! The cracking of a column at a cut.
 
 ghost use Rattle.std.specs.Prelude.{◌≡◌, ◌+◌, ◌<◌, ◌≤◌, ℕ, ℤ, List, ◌∷◌, ◌++◌, true, length, IsPermutation, slice_index_or, vec_capacity};
-ghost use Rattle.crack_kernel.specs.PivotList.{IsNewValue};
+ghost use Rattle.crack_kernel.specs.PivotList.{IsNewValue, RisesPast};
 ghost use Rattle.ripple_column.specs.CutPivots.{is_before, values, count_with_cuts, new_values, values_with_cuts, StandsAt, IsApart, IsUncracked};
 ghost use Rattle.ripple_column.specs.ShownPivots.{IsAmong};
 
@@ -73,16 +73,21 @@ fn crack_at_cut<A: Allocator>(cracked: &mut Cracked<A>, cut: &Cut) -> usize
 {
     match *cut {
         Cut::Start => 0,
-        Cut::At(v) => match cracked.pivots.find(v) {
-            Some(place) => place,
-            None => crack_at(cracked, v),
-        },
+        Cut::At(v) => {
+            let index = cracked.pivots.count_upto(v);
+            match cracked.pivots.find_at(index, v) {
+                Some(place) => place,
+                None => crack_at(cracked, index, v),
+            }
+        }
         Cut::End => cracked.rows.len(),
     }
 }
 
-/// Cracks the piece of `v`, which becomes a pivot, and answers its place.
-pub fn crack_at<A: Allocator>(cracked: &mut Cracked<A>, v: i64) -> usize
+/// Cracks the piece of `v`, which becomes a pivot, and answers its place. The first `index` pivots have a
+/// value up to `v`, and the others have not.
+pub fn crack_at<A: Allocator>(cracked: &mut Cracked<A>, index: usize, v: i64) -> usize
+    requires index { RisesPast v cracked.old.pivots.list index }
     requires new { IsNewValue v cracked.old.pivots.list }
     requires room { 0 < cracked.old.pivots.spare }
     requires few { length cracked.old.pivots.list < MAX_PIVOTS }
@@ -93,8 +98,8 @@ pub fn crack_at<A: Allocator>(cracked: &mut Cracked<A>, v: i64) -> usize
     ensures still { (k : ℕ) (d : ℤ × List ℕ) → IsApart v cracked.old.pivots.list k
         → slice_index_or cracked.new.rows.items k d ≡ slice_index_or cracked.old.rows.items k d }
 {
-    let (from, to) = cracked.pivots.piece_of(v, cracked.rows.len());
+    let (from, to) = cracked.pivots.piece_at(index, cracked.rows.len());
     let place = cracked.rows.crack(from, to, v);
-    cracked.pivots.add(v, place);
+    cracked.pivots.add_at(index, v, place);
     place
 }

@@ -49,15 +49,16 @@ pub fn crack_inside<A: Allocator>(pieces: &mut Pieces<A>, v: i64) -> bool
     }
     match pieces.cracked.pivots.reserve(3) {
         Ok(()) => {
-            let _place = crack_at(&mut pieces.cracked, v);
+            let index = pieces.cracked.pivots.count_upto(v);
+            let _place = crack_at(&mut pieces.cracked, index, v);
             true
         }
         Err(_) => false,
     }
 }
 
-/// The scores of so many of these rows, at equal distances, in order. None where there are fewer rows.
-pub fn sorted_sample<A: Allocator>(rows: &[Row<A>]) -> Option<[i64; SAMPLE]> {
+/// The scores of so many of these rows, at equal distances. None where there are fewer rows.
+pub fn sample_of<A: Allocator>(rows: &[Row<A>]) -> Option<[i64; SAMPLE]> {
     let step = rows.len() / SAMPLE;
     if step == 0 {
         return None;
@@ -68,7 +69,6 @@ pub fn sorted_sample<A: Allocator>(rows: &[Row<A>]) -> Option<[i64; SAMPLE]> {
         sample[i] = rows.get(at)?.score();
         at = at.saturating_add(step);
     }
-    sample.sort_unstable();
     Some(sample)
 }
 
@@ -87,7 +87,8 @@ pub fn parting_score_at(sample: &[i64; SAMPLE], index: usize) -> Option<i64> {
 /// in order, and `beside` places of the sample beside it, on the side where more rows are. None where
 /// the sample has one score alone.
 fn parting_score<A: Allocator>(rows: &[Row<A>], place: usize, beside: usize) -> Option<i64> {
-    let sample = sorted_sample(rows)?;
+    let mut sample = sample_of(rows)?;
+    sample.sort_unstable();
     let near = place / (rows.len() / SAMPLE).max(1);
     let index = if near < SAMPLE / 2 {
         near.saturating_add(beside)

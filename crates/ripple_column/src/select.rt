@@ -1,6 +1,6 @@
 //! The selection of a range: what waits in it is merged, and the column is cracked at its cuts.
 
-ghost use Rattle.std.specs.Prelude.{◌≡◌, ◌⊎◌, ◌+◌, ◌<◌, ◌≤◌, ◌++◌, ℕ, ℤ, List, [], true, false, min, max, Contains, IsErr, length, count_by, slice_index_or, IsPermutation, IfOk, OnOk, OnErr, IfSome, OnSome, vec_len, vec_capacity};
+ghost use Rattle.std.specs.Prelude.{◌≡◌, ◌⊎◌, ◌+◌, ◌<◌, ◌≤◌, ◌++◌, ℕ, ℤ, List, [], true, false, IsTrue, min, max, Contains, IsErr, length, count_by, slice_index_or, IsPermutation, IfOk, OnOk, OnErr, IfSome, OnSome, vec_len, vec_capacity};
 ghost use Rattle.crack_kernel.specs.RowBag.{IsSubBag};
 ghost use Rattle.crack_kernel.specs.PivotList.{IsRising};
 ghost use Rattle.ripple_column.specs.Content.{has_score_in, NoneIn, SameOutside};
@@ -43,6 +43,15 @@ fn drop_few_inner<A: Allocator>(pieces: &mut Pieces<A>, pending: &Pending<A>, ra
     }
 }
 
+/// Whether two more pivots fit beside all, and beside those that are shown, whatever the cuts are.
+fn fit_two_more<A: Allocator>(pieces: &Pieces<A>) -> bool
+    ensures all { IsTrue result → length pieces.now.cracked.pivots.list + 2 ≤ MAX_PIVOTS }
+    ensures shown { IsTrue result → length (shown pieces.now) + 2 ≤ MAX_PIVOTS }
+{
+    let most = pieces.shown().len().max(pieces.cracked.pivots.len());
+    most + 2 <= MAX_PIVOTS
+}
+
 /// Drops pivots where there is no room for the two cuts beside them: the inner ones alone, if that
 /// is enough.
 fn fit_cuts<A: Allocator>(pieces: &mut Pieces<A>, first: &Cut, second: &Cut)
@@ -56,6 +65,9 @@ fn fit_cuts<A: Allocator>(pieces: &mut Pieces<A>, first: &Cut, second: &Cut)
     ensures room { HasRoom pieces.new }
     ensures few { count_with_cuts first.now second.now pieces.new.cracked.pivots.list ≤ MAX_PIVOTS }
 {
+    if fit_two_more(pieces) {
+        return;
+    }
     let shown = pieces.shown();
     let needed = shown.len() + count_missing(shown, first) + count_missing(shown, second);
     let all = &pieces.cracked.pivots;

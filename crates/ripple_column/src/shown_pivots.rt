@@ -198,9 +198,10 @@ fn show_cut<A: Allocator>(kept: &mut Pivots<A>, cut: &Cut, place: usize)
     ensures spare { kept.old.spare ≡ kept.new.spare + length (new_values cut.now (values kept.old.list)) }
 {
     if let Cut::At(v) = *cut {
-        match kept.find(v) {
+        let index = kept.count_upto(v);
+        match kept.find_at(index, v) {
             Some(_) => {}
-            None => kept.add(v, place),
+            None => kept.add_at(index, v, place),
         }
     }
 }

@@ -8,8 +8,8 @@ use Rattle.ripple_column.proofs.InnerPivots.{found_more, shown_own}
 use Rattle.ripple_column.proofs.Values.{Contains-added}
 use Rattle.ripple_column.proofs.inner_cracks.crack_inside.Goals as goal
 
-pub invariant_of-pieces-in-Ok : goal.invariant_of-pieces-in-Ok
-invariant_of-pieces-in-Ok g c =
+pub invariant_of-pieces-in-Ok-2 : goal.invariant_of-pieces-in-Ok-2
+invariant_of-pieces-in-Ok-2 g c =
     let apart = c.set_apart.new.self in
     let qs = c.crack_at-place.new.cracked.pivots.list in
     let moved = rw c.reserve.ensures.list at c.crack_at-place.ensures.pivots in
