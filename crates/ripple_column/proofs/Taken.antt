@@ -1,10 +1,12 @@
 -- Rows that are taken from the end of a list.
-use Rattle.std.proofs.Common.{◌≡◌, ℕ, ℤ, true, ◌+◌, ◌≤◌, List, length, take, ◌∙◌, arith, IsPermutation}
+use Rattle.std.proofs.Common.{◌≡◌, ◌≢◌, ℕ, ℤ, pos, true, ◌+◌, ◌<◌, ◌≤◌, List, [], length, take, get_or, ◌∙◌, sym, arith, IsPermutation}
+use Rattle.std.specs.List.{swap_remove}
+use Rattle.std.proofs.lemmas.List.{ext_get_or, get_or-take, length-take-le}
 use Rattle.std.proofs.lemmas.List.Sorted.{length_permutation}
 use Rattle.crack_kernel.specs.RowBag.{IsSubBag}
 use Rattle.ripple_column.specs.Content.{KeepsContent}
 use Rattle.ripple_column.specs.MergeGap.{TakenFrom}
-use Rattle.ripple_column.proofs.Counts.{count_moved, count_all}
+use Rattle.ripple_column.proofs.Counts.{count_moved, count_all, count_swapped_out}
 use Rattle.ripple_column.proofs.Blanks.{take-less}
 
 pub TakenFrom-more : (n : ℕ) (xs ys zs : List (ℤ × List ℕ)) → TakenFrom n xs ys → TakenFrom n ys zs → TakenFrom n xs zs
@@ -20,6 +22,20 @@ TakenFrom-turned n xs ys fits moves same = record {
   before = same;
   less = λ p. omega (arith, count_moved p xs ys moves);
 }
+
+-- one is taken out, and the last one takes its place
+pub TakenFrom-swapped_out : (n i : ℕ) (xs ys : List (ℤ × List ℕ)) (x : ℤ × List ℕ) → n ≤ i → i < length xs → x ≡ get_or xs i x → ys ≡ swap_remove xs i x → length ys + 1 ≡ length xs
+    → ((k : ℕ) (d : ℤ × List ℕ) → k ≢ i → k + 1 < length xs → get_or ys k d ≡ get_or xs k d) → TakenFrom n xs ys
+TakenFrom-swapped_out n i xs ys x low inside at is len others =
+    let d : ℤ × List ℕ = (pos 0, []) in
+    let ny : length (take n ys) ≡ n = length-take-le n ys (omega arith) in
+    let nx : length (take n xs) ≡ n = length-take-le n xs (omega arith) in
+    record {
+      within = omega arith;
+      before = ext_get_or d (take n ys) (take n xs) (ny ∙ sym nx)
+          (λ k h. let below : k < n = omega arith in get_or-take n ys k d below ∙ others k d (omega arith) (omega arith) ∙ sym (get_or-take n xs k d below));
+      less = λ p. omega (arith, count_swapped_out p xs ys i x inside at is);
+    }
 
 -- rows that came stand where rows waited to come: there is as much room as before
 pub length-kept : (rows ins del rows' ins' del' : List (ℤ × List ℕ)) → KeepsContent rows ins del rows' ins' del' → IsSubBag del' del

@@ -14,10 +14,15 @@ ghost use Rattle.ripple_column.specs.MergeEffects.{KeepsFrame};
 use crate::deletion_bloom::DeletionBloom;
 use crate::fingerprinted_rows::Rows;
 use crate::front_room_rows::blank_row;
+use crate::indexed_deletions::take_out_many;
 use crate::pending_lists::{PendingList, row_cmp};
 use crate::ripple::{place_or, start_below};
 use crack_kernel::{Pivots, Row};
 use std::alloc::Allocator;
+
+/// So many rows that leave one piece are found by an index: the rows that wait move up behind each that
+/// leaves else, which costs less where they are fewer.
+const INDEXED: usize = 64;
 
 /// A gap of blank rows: from the place `low` on and before the place `high`, above rows of the piece
 /// of the index `piece`.
@@ -288,8 +293,12 @@ pub fn take_out<A: Allocator + Copy>(
     ensures len { length rows.new.items ≡ length rows.old.items }
     ensures capacity { vec_capacity rows.new ≡ vec_capacity rows.old }
 {
-    if deletions.len() == tail.from {
+    let count = deletions.len() - tail.from;
+    if count == 0 {
         return high;
+    }
+    if count >= INDEXED {
+        return take_out_many(rows, high, end, deletions, tail.from, filter);
     }
     let mut top = high;
     let mut at = rows.next_within(high, end, filter);
