@@ -3,7 +3,8 @@
 # same client and the same requests, in turns. Prints for each work the processor time of the servers a command, as
 # means over the rounds, or the resident bytes a member, and their ratio (zcrackd to Redis; below 1 is quicker or
 # smaller). Use: bench/everyday/run.sh [MEMBERS [WORK..]]. Redis is Debian's: apt-get install redis-server. ROUNDS is
-# 5 if not given. OLDER names an older build of the program, which is driven in turns too; a last column has zcrackd to it.
+# 5 if not given. OLDER names an older build of the program, which is driven in turns too; a last column has zcrackd to it,
+# but where it does not know the command.
 set -eu
 source "$(dirname "$0")/../common.sh"
 compile drive
@@ -18,7 +19,7 @@ for round in $(seq "${ROUNDS:-5}"); do
     for work_name in $works; do
         "$work/drive" "$work_name" "$members" "$round" pair "$server" stdio >> "$work/ours"
         if [ -n "${OLDER:-}" ]; then
-            "$work/drive" "$work_name" "$members" "$round" pair "$OLDER" stdio >> "$work/older"
+            "$work/drive" "$work_name" "$members" "$round" pair "$OLDER" stdio >> "$work/older" 2> /dev/null || true
         fi
         start_redis 0 --appendonly no --unixsocket "$work/socket"
         until redis-cli -s "$work/socket" ping > /dev/null 2>&1; do sleep 0.02; done
