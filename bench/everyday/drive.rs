@@ -209,6 +209,9 @@ fn main() -> io::Result<()> {
     let mut server = Server::of_arguments(&arguments[4..])?;
     let (members, seed) = (arguments[2].parse().unwrap(), arguments[3].parse().unwrap());
     let mut work = Work { random: Random(seed), members, requests: Vec::new(), count: 0 };
+    // A first command, so that the program's own pages are not counted as members' bytes.
+    work.put(&["ZADD", "other", "1", "member"]);
+    work.send(&mut server)?;
     let before = resident(server.pid)?;
     match name {
         "load" => work.load(SCORES, ""),
