@@ -1,8 +1,7 @@
 -- A decoder's fields, and what they stand for.
 use Rattle.std.specs.Prelude.{◌≡◌, ◌+◌, ◌-◌, ◌<◌, ◌≤◌, ◌^◌, ◌++◌, length, drop, All}
 use Rattle.resp_wire.specs.declared.decoder.Decoder.TheInside.{Inside}
-use Rattle.resp_wire.specs.declared.request.TheConstants.{MAX_ARGUMENTS}
-use Rattle.resp_wire.specs.RequestEncoding.{IsArgument}
+use Rattle.resp_wire.specs.RequestEncoding.{most_arguments, IsArgument}
 use Rattle.resp_wire.specs.DecoderView.{DecoderView, begun}
 
 abbrev pub wire_of : {A : Type 0} → Inside A → DecoderView
@@ -10,7 +9,7 @@ wire_of d = record { held = begun d.count d.arguments.items ++ drop d.start d.by
 
 pub record IsSound {A : Type 0} (d : Inside A) : Type 0 where
   pub start : d.start ≤ length d.bytes.items
-  pub count : d.count ≤ MAX_ARGUMENTS
+  pub count : d.count ≤ most_arguments
   pub few : length d.arguments.items ≤ d.count
   pub each : All IsArgument d.arguments.items
   pub begun_is : d.begun ≡ length (begun d.count d.arguments.items)

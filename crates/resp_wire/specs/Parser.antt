@@ -2,12 +2,11 @@
 -- too soon to say; or there is a byte that no encoding allows, and its place says which fault it is.
 use Rattle.std.specs.Prelude.{ℕ, zero, suc, ◌+◌, ◌*◌, ◌-◌, List, [], ◌∷◌, length, take, drop, Option, Some, None, Result, Ok, Err, nat_lt, ◌==◌, if◌then◌else◌}
 use Rattle.std.specs.Char.{is_ascii_digit}
-use Rattle.resp_wire.specs.declared.request.TheConstants.{MAX_ARGUMENTS, MAX_LENGTH}
 use Rattle.resp_wire.specs.declared.fault.ProtocolFault.{ProtocolFault}
 use Rattle.resp_wire.specs.declared.fault.ProtocolFault.TheVariants.{NotAnArray, BadNumber, TooManyArguments, TooLong, BadBulk}
 use Rattle.resp_wire.specs.declared.fault.Stop.{Stop}
 use Rattle.resp_wire.specs.declared.fault.Stop.TheVariants.{Short, Wrong}
-use Rattle.resp_wire.specs.RequestEncoding.{Item, Ask, SkipZero, SkipMinus}
+use Rattle.resp_wire.specs.RequestEncoding.{most_arguments, longest_argument, Item, Ask, SkipZero, SkipMinus}
 
 -- one thing after another
 infixl 10 ◌>>=◌
@@ -44,7 +43,7 @@ body_at n bytes = if nat_lt (length bytes) n then Err Short else (line_end_at Ba
 
 -- an argument
 unfoldable pub argument_at : List ℕ → Result (List ℕ × List ℕ) Stop
-argument_at bytes = byte_at 36 BadBulk bytes >>= λ rest. (number_at MAX_LENGTH TooLong rest >>= λ n. body_at n.0 n.1)
+argument_at bytes = byte_at 36 BadBulk bytes >>= λ rest. (number_at longest_argument TooLong rest >>= λ n. body_at n.0 n.1)
 
 -- so many arguments
 unfoldable pub arguments_at : ℕ → List ℕ → Result (List (List ℕ) × List ℕ) Stop
@@ -56,7 +55,7 @@ unfoldable pub count_at : List ℕ → Result (Option ℕ × List ℕ) Stop
 count_at [] = Err Short
 count_at (b ∷ bytes) =
     if b == 45 then (byte_at 49 BadNumber bytes >>= λ rest. (line_end_at BadNumber rest >>= λ after. Ok (None, after)))
-    else (number_at MAX_ARGUMENTS TooManyArguments (b ∷ bytes) >>= λ n. Ok (Some n.0, n.1))
+    else (number_at most_arguments TooManyArguments (b ∷ bytes) >>= λ n. Ok (Some n.0, n.1))
 
 -- the first line of an item
 unfoldable pub head_at : List ℕ → Result (Option ℕ × List ℕ) Stop

@@ -6,8 +6,7 @@ use Rattle.resp_wire.specs.declared.fault.Failure.TheVariants as failures
 use Rattle.resp_wire.specs.declared.steps.End.{End}
 use Rattle.resp_wire.specs.declared.steps.End.TheVariants as ends
 use Rattle.resp_wire.specs.declared.steps.Step.{Step}
-use Rattle.resp_wire.specs.declared.request.TheConstants.{MAX_ARGUMENTS}
-use Rattle.resp_wire.specs.RequestEncoding.{Item, IsSkip, IsArgument, encoding_of}
+use Rattle.resp_wire.specs.RequestEncoding.{most_arguments, Item, IsSkip, IsArgument, encoding_of}
 use Rattle.resp_wire.specs.Parser.{argument_at, item_at}
 use Rattle.resp_wire.specs.DecoderView.{begun}
 
@@ -55,7 +54,7 @@ StepEnd (ends.Stopped stop) P Q = Q
 pub record Stepped (count : ℕ) (before : List (List ℕ)) (bytes : List ℕ) (step : Step) (after : List (List ℕ)) : Type 0 where
   pub text : Skips (begun count before ++ bytes) (begun step.count after ++ drop step.used bytes) step.skipped
   pub used : (step.skipped ≤ step.used) × (step.used ≤ length bytes)
-  pub within : step.count ≤ MAX_ARGUMENTS
+  pub within : step.count ≤ most_arguments
   pub each : All IsArgument after
   pub few : length after ≤ step.count
   pub end_is : EndIs step.count before step.end after (drop step.used bytes)

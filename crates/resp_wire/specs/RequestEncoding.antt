@@ -1,7 +1,14 @@
 -- Requests as bytes (RESP2: an array of bulk strings), and the two arrays that stand for no request.
 use Rattle.std.specs.Prelude.{ℕ, ◌<◌, ◌≤◌, List, [], ◌∷◌, ◌++◌, length, decimal, All}
 use Rattle.std.specs.List.{flat_map}
-use Rattle.resp_wire.specs.declared.request.TheConstants.{MAX_ARGUMENTS, MAX_LENGTH}
+
+-- the most arguments of a request, its command's name among them
+abbrev pub most_arguments : ℕ
+most_arguments = 1027
+
+-- the most bytes of an argument
+abbrev pub longest_argument : ℕ
+longest_argument = 65536
 
 -- a number in decimal, and the end of its line
 abbrev pub line : ℕ → List ℕ
@@ -15,14 +22,14 @@ argument value = 36 ∷ (line (length value) ++ (value ++ 13 ∷ 10 ∷ []))
 abbrev pub request : List (List ℕ) → List ℕ
 request arguments = 42 ∷ (line (length arguments) ++ flat_map argument arguments)
 
--- an argument has at most 65,536 bytes
+-- an argument is no longer than that
 abbrev pub IsArgument : List ℕ → Type 0
-IsArgument value = length value ≤ MAX_LENGTH
+IsArgument value = length value ≤ longest_argument
 
--- a request has 1 to 1,027 arguments
+-- a request has an argument or more
 pub record IsRequest (arguments : List (List ℕ)) : Type 0 where
   pub some : 0 < length arguments
-  pub few : length arguments ≤ MAX_ARGUMENTS
+  pub few : length arguments ≤ most_arguments
   pub each : All IsArgument arguments
 
 -- what a stream consists of: requests, and the empty and the null array, which ask for nothing
