@@ -8,3 +8,5 @@ pub mod NextLemmas
 pub mod Completion
 pub mod LawProofs
 pub mod CallerLemmas
+pub mod FaultRows
+pub mod FaultsTold

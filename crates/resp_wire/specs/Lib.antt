@@ -3,6 +3,7 @@ pub mod Parser
 pub mod Stream
 pub mod Response
 pub mod FaultTexts
+pub mod FaultTable
 pub mod DecoderView
 pub mod Device
 pub mod ParserAgreement

@@ -1,12 +1,14 @@
 //! Laws of the format, each the contract of a function that does nothing: what an encoding, a
 //! stream and its cuts are, without the recursion of the definitions.
 
-ghost use Rattle.std.specs.Prelude.{◌≡◌, ℕ, List, [], ◌++◌, ◌∷◌, Some, Err, Ok};
+ghost use Rattle.std.specs.Prelude.{◌≡◌, ◌↔◌, ◌⊎◌, ℕ, List, [], ◌++◌, ◌∷◌, Some, Err, Ok};
 ghost use Rattle.std.specs.List.{flat_map, AllByRecursion};
 ghost use Rattle.resp_wire.specs.declared.fault.ProtocolFault.{ProtocolFault as Fault};
+ghost use Rattle.resp_wire.specs.declared.fault.ProtocolFault.TheVariants.{NotAnArray, BadNumber, TooManyArguments, TooLong, BadBulk};
 ghost use Rattle.resp_wire.specs.declared.fault.Stop.TheVariants.{Short, Wrong};
 ghost use Rattle.resp_wire.specs.RequestEncoding.{Item, IsItem, encoding_of};
 ghost use Rattle.resp_wire.specs.Parser.{item_at};
+ghost use Rattle.resp_wire.specs.FaultTable.{HasNoStar, HasTooManyArguments, HasWrongCount, HasNoDollar, HasTooLong, HasWrongLength, HasNoEnd};
 ghost use Rattle.resp_wire.specs.Stream.{items, requests, rest, fault};
 
 /// An encoding is read as its item, whatever follows, and what is read is an encoding of its item.
@@ -35,6 +37,19 @@ pub fn faults()
     ensures first { (text : List ℕ) (f : Fault) → item_at text ≡ Err (Wrong f) → (start : List ℕ)
         × (b : ℕ) × (more : List ℕ) × (text ≡ start ++ b ∷ more) × (item_at start ≡ Err Short)
         × (item_at (start ++ b ∷ []) ≡ Err (Wrong f)) }
+{}
+
+/// Which fault is told: each exactly where the text has, at its first wrong byte, what a row of the
+/// table in docs/FORMATS.md says of it.
+pub fn fault_table()
+    ensures not_an_array { (text : List ℕ) → item_at text ≡ Err (Wrong NotAnArray) ↔ HasNoStar text }
+    ensures bad_number { (text : List ℕ) → item_at text ≡ Err (Wrong BadNumber)
+        ↔ (HasWrongCount text ⊎ HasWrongLength text) }
+    ensures too_many_arguments { (text : List ℕ) → item_at text ≡ Err (Wrong TooManyArguments)
+        ↔ HasTooManyArguments text }
+    ensures too_long { (text : List ℕ) → item_at text ≡ Err (Wrong TooLong) ↔ HasTooLong text }
+    ensures bad_bulk { (text : List ℕ) → item_at text ≡ Err (Wrong BadBulk)
+        ↔ (HasNoDollar text ⊎ HasNoEnd text) }
 {}
 
 /// The items of a text are the longest list of items whose encodings, joined, are a prefix of it.

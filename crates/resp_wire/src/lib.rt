@@ -27,7 +27,7 @@ pub use device::{
 };
 pub use fault::{ProtocolFault, WireFault};
 pub use fuse::{FuseDrain, FuseSource};
-pub use laws::{cut, encoding_round_trip, faults, longest, one_encoding};
+pub use laws::{cut, encoding_round_trip, fault_table, faults, longest, one_encoding};
 pub use memory::{MemoryDrain, MemorySource};
 pub use reply::Reply;
 pub use request::Request;
