@@ -6,6 +6,7 @@
 mod client;
 
 use client::{Random, Server, request};
+use std::collections::BTreeSet;
 use std::io;
 
 const SCORES: u64 = 100_000_000;
@@ -27,6 +28,8 @@ struct Work {
     members: u64,
     requests: Vec<u8>,
     count: u64,
+    /// The jobs of a schedule, by their times and numbers.
+    jobs: BTreeSet<(u64, u64)>,
 }
 
 impl Work {
@@ -79,6 +82,54 @@ impl Work {
     fn load_window(&mut self) {
         for now in 0..self.members {
             self.put(&["ZADD", "board", &now.to_string(), &format!("request:{now}")]);
+        }
+    }
+
+    fn put_job(&mut self, time: u64, number: u64) {
+        self.put(&["ZADD", "board", &time.to_string(), &format!("job:{number}")]);
+        self.jobs.insert((time, number));
+    }
+
+    /// The jobs of a schedule, each at a random time.
+    fn load_jobs(&mut self) {
+        for number in 0..self.members {
+            let time = self.random.below(self.members);
+            self.put_job(time, number);
+        }
+    }
+
+    /// One turn of a schedule: a job comes for a random time, those that are due are listed and taken.
+    fn take_what_is_due(&mut self, now: u64) {
+        let time = now + 1 + self.random.below(self.members);
+        self.put_job(time, self.members + now);
+        self.put(&["ZRANGEBYSCORE", "board", "-inf", &now.to_string(), "LIMIT", "0", "10"]);
+        for _ in 0..10 {
+            match self.jobs.first() {
+                Some(&(time, number)) if time <= now => self.put(&["ZREM", "board", &format!("job:{number}")]),
+                _ => break,
+            }
+            self.jobs.pop_first();
+        }
+    }
+
+    /// Pages of 100 of a time index, each behind the last one's last time, while new times come.
+    fn read_pages(&mut self) {
+        let mut last = self.random.below(self.members);
+        for page in 0..1000 {
+            let now = self.members + page;
+            self.put(&["ZADD", "board", &now.to_string(), &format!("request:{now}")]);
+            self.put(&["ZRANGEBYSCORE", "board", &format!("({last}"), "+inf", "LIMIT", "0", "100"]);
+            last = if last + 100 < self.members { last + 100 } else { self.random.below(self.members) };
+        }
+    }
+
+    /// The same pages by how many members stand before them.
+    fn read_pages_by_offset(&mut self) {
+        for page in 0..1000 {
+            let now = self.members + page;
+            self.put(&["ZADD", "board", &now.to_string(), &format!("request:{now}")]);
+            let offset = (100 * page) % self.members;
+            self.put(&["ZRANGEBYSCORE", "board", "-inf", "+inf", "LIMIT", &offset.to_string(), "100"]);
         }
     }
 
@@ -175,6 +226,18 @@ fn put_work(work: &mut Work, name: &str) {
     if name == "rate_limiter" {
         (0..TURNS).for_each(|turn| work.limit_rate(work.members + turn));
     }
+    if name == "schedule" {
+        (0..TURNS).for_each(|turn| work.take_what_is_due(turn));
+    }
+    if name == "pages_of_100" {
+        work.read_pages();
+    }
+    if name == "pages_by_offset" {
+        work.read_pages_by_offset();
+    }
+    if name == "emptied" {
+        work.put(&["ZREMRANGEBYSCORE", "board", "-inf", "+inf"]);
+    }
     if let Some(members) = name.strip_prefix("removals_of_") {
         let members = members.parse().unwrap();
         (0..REMOVED / members).for_each(|_| work.remove_range_of(members));
@@ -191,7 +254,8 @@ fn prepare(work: &mut Work, server: &mut Server, name: &str) -> io::Result<()> {
         "two_scores" => work.load(2, ""),
         "ten_scores" => work.load(10, ""),
         "hundred_scores" => work.load(100, ""),
-        "rate_limiter" => work.load_window(),
+        "rate_limiter" | "pages_of_100" | "pages_by_offset" => work.load_window(),
+        "schedule" => work.load_jobs(),
         _ => work.load(SCORES, ""),
     }
     if name.ends_with("_after_ranges") || name.starts_with("ranges_of_100") {
@@ -208,7 +272,7 @@ fn main() -> io::Result<()> {
     let name = arguments[1].as_str();
     let mut server = Server::of_arguments(&arguments[4..])?;
     let (members, seed) = (arguments[2].parse().unwrap(), arguments[3].parse().unwrap());
-    let mut work = Work { random: Random(seed), members, requests: Vec::new(), count: 0 };
+    let mut work = Work { random: Random(seed), members, requests: Vec::new(), count: 0, jobs: BTreeSet::new() };
     // A first command, so that the program's own pages are not counted as members' bytes.
     work.put(&["ZADD", "other", "1", "member"]);
     work.send(&mut server)?;
