@@ -1,4 +1,5 @@
 """What the tests of clients share: how a client is run, and how one that is not there is told."""
+import functools
 import shutil
 import subprocess
 
@@ -21,6 +22,7 @@ def at(server):
     return ("-h", "127.0.0.1", "-p", server.port)
 
 
+@functools.cache
 def python_with_redis():
     """A python3 that has Debian's redis, where another one stands before it on the path; or None."""
     pythons = (it for it in ("/usr/bin/python3", "python3") if shell(it, "-c", "import redis")[0] == 0)

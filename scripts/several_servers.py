@@ -109,7 +109,7 @@ def run_several_servers():
     if "SEVERAL" in os.environ:
         print(f"{7 * key_count} requests in {time.monotonic() - begun:.1f} s")
     # What a client changed, another one reads.
-    ask_all(reversed(clients), [[(request("ZCARD", key), b":2\r\n")] for key in keys[:client_count]])
+    ask_all(clients[::-1], [[(request("ZCARD", key), b":2\r\n")] for key in keys[:client_count]])
     found = [keys_of(server, keys) for server in servers]
     if "SEVERAL" in os.environ:
         print("keys of each server:", *map(len, found))
