@@ -1,9 +1,12 @@
 """Several servers behind nutcracker, with the lines of docs/SEVERAL_SERVERS.md, and many clients of it at once."""
 import os
 import re
+import shutil
 import socket
+import subprocess
 import time
 
+from clients import skip
 from harness import HERE, same, start, write
 from tcp import Client, Server, request
 
@@ -12,6 +15,11 @@ PAGE = f"{HERE}/../docs/SEVERAL_SERVERS.md"
 SIZES = os.environ.get("SEVERAL", "3 60 2000")
 WORKERS = 4
 PLACES = 4096
+
+
+def program():
+    """The proxy, which Debian has where not everybody's path leads; None where it is not installed."""
+    return shutil.which("nutcracker", path=f"{os.environ['PATH']}:/usr/sbin")
 
 
 def free_port():
@@ -46,17 +54,18 @@ class Proxy:
     def __init__(self, servers):
         self.port = free_port()
         write("nutcracker.yml", "\n".join([*configuration(self.port, servers), ""]).encode())
-        words = ["nutcracker", "-c", "nutcracker.yml", "-o", "nutcracker.log", "-p", "nutcracker.pid"]
-        start([*words, "-a", "127.0.0.1", "-s", str(free_port())])
+        words = [program(), "-c", "nutcracker.yml", "-o", "nutcracker.log", "-p", "nutcracker.pid"]
+        self.process = start([*words, "-a", "127.0.0.1", "-s", str(free_port())], stderr=subprocess.DEVNULL)
         self.await_it()
 
     def await_it(self):
         """Waits until it listens; the script's own time bounds that."""
-        while True:
+        while self.process.poll() is None:
             try:
                 return self.connect().close()
             except ConnectionRefusedError:
                 time.sleep(0.01)
+        raise AssertionError(f"nutcracker ended with status {self.process.returncode}")
 
     def connect(self):
         return Client(("127.0.0.1", self.port))
@@ -97,6 +106,8 @@ def keys_of(server, keys):
 
 
 def run_several_servers():
+    if not program():
+        return skip("nutcracker")
     server_count, client_count, key_count = map(int, SIZES.split())
     servers = [Server("--workers", WORKERS, "--places", PLACES) for _ in range(server_count)]
     proxy = Proxy(servers)
