@@ -72,11 +72,12 @@ def by_redis_cli(section, server):
             same((command, status, out.decode().splitlines()), (command, 0, wanted))
 
 
-def by_python(section, server):
+def by_python(section, server, further=()):
+    """Runs the section's program, and further lines of the same kind behind it."""
     python = python_with_redis()
     if not python:
         return skip("python3-redis")
-    lines = sum(of_section(section, "python"), [])
+    lines = [*sum(of_section(section, "python"), []), *further]
     wanted = [printed(line) for line in lines if printed(line) is not None]
     status, out = shell(python, "-c", as_it_stands("\n".join(lines), server))
     same((status, out.decode().splitlines()), (0, wanted))
@@ -87,3 +88,28 @@ def run_recipe(section):
     with Server() as server:
         by_redis_cli(section, server)
         by_python(section, server)
+
+
+# Four clients at once, which is as many as the server has workers.
+JOBS_AT_ONCE = """
+from concurrent.futures import ThreadPoolExecutor
+
+client.zadd("jobs", {number: number for number in range(200)})
+with ThreadPoolExecutor(4) as workers:
+    taken = sum(workers.map(lambda _: list(iter(lambda: take(1000), None)), range(4)), [])
+print(len(taken), len(set(taken)), client.zcard("jobs"))
+# 200 200 1
+"""
+CALLS_AT_ONCE = """
+from concurrent.futures import ThreadPoolExecutor
+
+with ThreadPoolExecutor(4) as callers:
+    allowed = sum(callers.map(lambda now: is_allowed("bob", 10, 60_000, now), range(200)))
+print(0 < allowed <= 10, client.zcard("requests:bob") == allowed)
+# True True
+"""
+
+
+def run_at_once(section, further):
+    with Server() as server:
+        by_python(section, server, further.splitlines())
