@@ -98,11 +98,15 @@ impl Work {
         }
     }
 
-    /// One turn of a schedule: a job comes for a random time, those that are due are listed and taken.
-    fn take_what_is_due(&mut self, now: u64) {
+    /// One turn of a schedule: a job comes for a random time, those that are due are listed and taken. What is due is
+    /// asked for by the time, or is seen among the ten lowest.
+    fn take_what_is_due(&mut self, now: u64, by_time: bool) {
         let time = now + 1 + self.random.below(self.members);
         self.put_job(time, self.members + now);
-        self.put(&["ZRANGEBYSCORE", "board", "-inf", &now.to_string(), "LIMIT", "0", "10"]);
+        match by_time {
+            true => self.put(&["ZRANGEBYSCORE", "board", "-inf", &now.to_string(), "LIMIT", "0", "10"]),
+            false => self.put(&["ZRANGEBYSCORE", "board", "-inf", "+inf", "WITHSCORES", "LIMIT", "0", "10"]),
+        }
         for _ in 0..10 {
             match self.jobs.first() {
                 Some(&(time, number)) if time <= now => self.put(&["ZREM", "board", &format!("job:{number}")]),
@@ -226,8 +230,8 @@ fn put_work(work: &mut Work, name: &str) {
     if name == "rate_limiter" {
         (0..TURNS).for_each(|turn| work.limit_rate(work.members + turn));
     }
-    if name == "schedule" {
-        (0..TURNS).for_each(|turn| work.take_what_is_due(turn));
+    if name.starts_with("schedule") {
+        (0..TURNS).for_each(|turn| work.take_what_is_due(turn, name == "schedule_by_time"));
     }
     if name == "pages_of_100" {
         work.read_pages();
@@ -255,7 +259,7 @@ fn prepare(work: &mut Work, server: &mut Server, name: &str) -> io::Result<()> {
         "ten_scores" => work.load(10, ""),
         "hundred_scores" => work.load(100, ""),
         "rate_limiter" | "pages_of_100" | "pages_by_offset" => work.load_window(),
-        "schedule" => work.load_jobs(),
+        "schedule_by_time" | "schedule_by_lowest" => work.load_jobs(),
         _ => work.load(SCORES, ""),
     }
     if name.ends_with("_after_ranges") || name.starts_with("ranges_of_100") {

@@ -12,8 +12,8 @@ members=${1:-100000}
 shift || true
 works=${*:-"first_update_and_top_ten first_update_and_rank update_and_top_ten update_and_rank counters_by_incr \
 two_scores ten_scores hundred_scores 1000_counts_at_new_bounds mix ranges_of_100_at_new_bounds ranges_of_100_again \
-updates updates_after_ranges zscore load rate_limiter schedule pages_of_100 pages_by_offset emptied removals_of_10 \
-removals_of_1000 removals_of_100000 bytes_in_sets_of_50 bytes_of_13 bytes_of_200"}
+updates updates_after_ranges zscore load rate_limiter schedule_by_time schedule_by_lowest pages_of_100 \
+pages_by_offset emptied removals_of_10 removals_of_1000 removals_of_100000 bytes_in_sets_of_50 bytes_of_13 bytes_of_200"}
 if [ "$members" -lt 100000 ]; then works=${works/removals_of_100000/}; fi
 for round in $(seq "${ROUNDS:-5}"); do
     for work_name in $works; do
