@@ -25,5 +25,6 @@ def at(server):
 @functools.cache
 def python_with_redis():
     """A python3 that has Debian's redis, where another one stands before it on the path; or None."""
-    pythons = (it for it in ("/usr/bin/python3", "python3") if shell(it, "-c", "import redis")[0] == 0)
+    has_redis = "import importlib.util, sys; sys.exit(importlib.util.find_spec('redis') is None)"
+    pythons = (it for it in ("/usr/bin/python3", "python3") if shell(it, "-c", has_redis)[0] == 0)
     return next(pythons, None)
