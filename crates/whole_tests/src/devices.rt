@@ -134,30 +134,32 @@ pub fn serve_over(
     serve_with(rt, alloc, &mut owner, input, Devices { from, to }, buffer)
 }
 
+/// Which call of a drain fails, and the bytes that it has taken then.
+const WRITTEN: [(u64, &[u8]); 9] = [
+    (1, b""),
+    (2, b""),
+    (3, b":1\r"),
+    (4, b":1\r\n"),
+    (5, b":1\r\n*1\r"),
+    (6, b":1\r\n*1\r\n$1"),
+    (7, b":1\r\n*1\r\n$1\r\na"),
+    (8, b":1\r\n*1\r\n$1\r\na\r\n"),
+    (9, b":1\r\n*1\r\n$1\r\na\r\n"),
+];
+
 // The two requests come in one read, and their 15 bytes go out by three at once: a flush, two writes and
 // four, and a flush before the next read and at the end.
 #[test]
 fn a_drain_fails_at_each_call(rt: HostRuntime) -> Result<(), Fail> {
     let alloc = rt.alloc();
     let input = bytes_of(alloc, TWO_REQUESTS)?;
-    let outs = [
-        (1u64, 0u128),
-        (2, 0),
-        (3, 3),
-        (4, 4),
-        (5, 7),
-        (6, 10),
-        (7, 13),
-        (8, 15),
-        (9, 15),
-    ];
-    for (fails_at, out) in outs {
+    for (fails_at, written) in WRITTEN {
         let broken = serve_over(&rt, &input, WHOLE, Device { chunk: 3, fails_at }, 65_536)?;
         assert!(rt;
-            broken.end == Err(SessionFault::WriteFault(out)),
+            broken.end == Err(SessionFault::WriteFault(written.len() as u128)),
             "call {fails_at}"
         );
-        assert_eq!(rt; broken.written.len() as u128, out);
+        assert_eq!(rt; broken.written.as_slice(), written);
         let listed = if fails_at == 1 {
             "*0~*0~"
         } else {

@@ -3,6 +3,7 @@
 ghost use Rattle.std.specs.Prelude.{◌≡◌, ◌+◌, length};
 
 use fuse_alloc::Fuse;
+use linked_list_allocator::LocalHeap;
 use resp_wire::{
     Bytes, BytesList, Decoder, MAX_READ_BUFFER, MAX_READS, ProtocolFault, READ_BUFFER, Request,
     WireFault,
@@ -25,18 +26,28 @@ fn first_fault(alloc: Global, text: &[u8]) -> Option<(WireFault, usize)> {
     None
 }
 
+/// Texts whose last byte is the first that no request may have at its place, and the faults.
+const FAULTS: [(&[u8], ProtocolFault); 15] = [
+    (b"*0\r\n*-1\r\nP", ProtocolFault::NotAnArray),
+    (b"*01", ProtocolFault::BadNumber),
+    (b"*1\rx", ProtocolFault::BadNumber),
+    (b"*-2", ProtocolFault::BadNumber),
+    (b"*-1x", ProtocolFault::BadNumber),
+    (b"*-11", ProtocolFault::BadNumber),
+    (b"*-1\rx", ProtocolFault::BadNumber),
+    (b"*1028", ProtocolFault::TooManyArguments),
+    (b"*1\r\n$65537", ProtocolFault::TooLong),
+    (b"*1\r\n$-", ProtocolFault::BadNumber),
+    (b"*1\r\n$1\n", ProtocolFault::BadNumber),
+    (b"*1\r\n$1\r\r", ProtocolFault::BadNumber),
+    (b"*1\r\n+", ProtocolFault::BadBulk),
+    (b"*1\r\n$1\r\nab", ProtocolFault::BadBulk),
+    (b"*1\r\n$1\r\na\rx", ProtocolFault::BadBulk),
+];
+
 #[test]
 fn a_fault_is_told_at_its_byte_and_not_before(rt: HostRuntime) {
-    let texts: [(&[u8], ProtocolFault); 7] = [
-        (b"*0\r\n*-1\r\nP", ProtocolFault::NotAnArray),
-        (b"*01", ProtocolFault::BadNumber),
-        (b"*1028", ProtocolFault::TooManyArguments),
-        (b"*1\r\n$65537", ProtocolFault::TooLong),
-        (b"*1\r\n$-", ProtocolFault::BadNumber),
-        (b"*1\r\n+", ProtocolFault::BadBulk),
-        (b"*1\r\n$1\r\nab", ProtocolFault::BadBulk),
-    ];
-    for (text, fault) in texts.iter() {
+    for (text, fault) in FAULTS.iter() {
         let told = first_fault(rt.alloc(), text);
         assert!(rt;
             told == Some((WireFault::Protocol(*fault), text.len())),
@@ -45,13 +56,42 @@ fn a_fault_is_told_at_its_byte_and_not_before(rt: HostRuntime) {
     }
 }
 
+/// The memory that a decoder needs for the text above its first words, and for one short request.
+const LITTLE: usize = 512;
+
+// 1,027 words and 65,536 bytes are announced, and the heap has room for a hundredth of either.
 #[test]
 fn an_announced_length_reserves_nothing(rt: HostRuntime) -> Result<(), Fail> {
-    let mut decoder = Decoder::new(rt.alloc());
+    let heap = LocalHeap::new(rt.alloc(), LITTLE)?;
+    let mut decoder = Decoder::new(&heap);
     decoder.feed(b"*1027\r\n$65536\r\n")?;
     assert!(rt; matches!(decoder.next(), Ok(None)));
     assert_eq!(rt; decoder.rest_len(), 15);
     assert_eq!(rt; decoder.taken(), 0);
+    Ok(())
+}
+
+/// Feeds one short request so many times, and takes it: whether each was given.
+fn are_given<A: Allocator + Copy>(decoder: &mut Decoder<A>, times: u64) -> Result<bool, Fail> {
+    for _ in 0..times {
+        if decoder.taken() > 1 << 20 || decoder.rest_len() > LITTLE {
+            return Ok(false);
+        }
+        decoder.feed(b"*1\r\n$4\r\nPING\r\n")?;
+        if !matches!(decoder.next(), Ok(Some(_))) {
+            return Ok(false);
+        }
+    }
+    Ok(true)
+}
+
+// Many times as many bytes as the heap has.
+#[test]
+fn a_decoder_keeps_nothing_that_it_gave(rt: HostRuntime) -> Result<(), Fail> {
+    let heap = LocalHeap::new(rt.alloc(), LITTLE)?;
+    let mut decoder = Decoder::new(&heap);
+    assert!(rt; are_given(&mut decoder, 10_000)?);
+    assert_eq!(rt; decoder.taken(), 140_000);
     Ok(())
 }
 
