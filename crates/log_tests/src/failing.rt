@@ -2,6 +2,7 @@
 
 use append_log::{FileFault, LockFile};
 use std::alloc::Allocator;
+use std::cell::Cell;
 use std::fs::{self, File, Files, Metadata, OpenFile, OpenOptions};
 use std::io::{Error, ErrorKind, Read, Result, Seek, SeekFrom, Write};
 
@@ -20,6 +21,10 @@ pub enum Fails {
     LinksLocked,
     /// The sync of a folder.
     SyncAll,
+    /// A signal interrupts each read, write and sync of a file's data once.
+    Interrupted,
+    /// No call fails, but a draft loses its name to another's file right after it was opened.
+    DraftIsReplaced,
 }
 
 impl Fails {
@@ -32,16 +37,49 @@ impl Fails {
     }
 }
 
+/// The file that takes a draft's name.
+pub const OF_ANOTHER: &[u8] = b"another's";
+
 #[derive(Drop)]
 pub struct Failing<'a> {
     pub rt: &'a HostRuntime,
     pub fails: Fails,
 }
 
+impl Failing<'_> {
+    /// Gives a draft's file the name that it is for, and the draft's name to another file, as where another rewrite
+    /// ended and a third one began.
+    fn replace_draft(&self, path: &str) -> Result<()> {
+        if let Some(named) = path.strip_suffix(".new") {
+            fs::rename(self.rt, path, named)?;
+            fs::write(self.rt, path, OF_ANOTHER)?;
+        }
+        Ok(())
+    }
+}
+
 #[derive(Drop)]
 pub struct FailingFile {
     file: File,
     fails: Fails,
+    was_interrupted: Cell<bool>,
+}
+
+impl FailingFile {
+    /// Refuses a call of this kind, or interrupts it.
+    fn refuse(&self, call: Fails) -> Result<()> {
+        self.fails.refuse(call)?;
+        if self.fails != Fails::Interrupted {
+            return Ok(());
+        }
+        let was_interrupted = self.was_interrupted.get();
+        self.was_interrupted.set(!was_interrupted);
+        if was_interrupted {
+            Ok(())
+        } else {
+            Err(Error::from(ErrorKind::Interrupted))
+        }
+    }
 }
 
 impl Files for Failing<'_> {
@@ -50,9 +88,14 @@ impl Files for Failing<'_> {
     type Dir = <HostRuntime as Files>::Dir;
 
     fn open_file(&self, how: &OpenOptions, path: &str) -> Result<FailingFile> {
+        let file = self.rt.open_file(how, path)?;
+        if self.fails == Fails::DraftIsReplaced {
+            self.replace_draft(path)?;
+        }
         Ok(FailingFile {
-            file: self.rt.open_file(how, path)?,
+            file,
             fails: self.fails,
+            was_interrupted: Cell::new(false),
         })
     }
 
@@ -103,14 +146,14 @@ impl Files for Failing<'_> {
 
 impl Read for FailingFile {
     fn read(&mut self, buffer: &mut [u8]) -> Result<usize> {
-        self.fails.refuse(Fails::Read)?;
+        self.refuse(Fails::Read)?;
         self.file.read(buffer)
     }
 }
 
 impl Write for FailingFile {
     fn write(&mut self, bytes: &[u8]) -> Result<usize> {
-        self.fails.refuse(Fails::Write)?;
+        self.refuse(Fails::Write)?;
         self.file.write(bytes)
     }
 
@@ -146,7 +189,7 @@ impl OpenFile for FailingFile {
     }
 
     fn sync_data(&self) -> Result<()> {
-        self.fails.refuse(Fails::SyncData)?;
+        self.refuse(Fails::SyncData)?;
         self.file.sync_data()
     }
 }

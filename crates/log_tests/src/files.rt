@@ -2,7 +2,7 @@
 
 ghost use Rattle.std.specs.Prelude.{◌≡◌, None, IfOk};
 
-use crate::failing::{Failing, Fails};
+use crate::failing::{Failing, Fails, OF_ANOTHER};
 use crate::records::{LISTING, Owner, replies_to};
 use append_log::{
     FileFault, FileSink, Loaded, Log, LoggedOwner, OpenFault, ReloadFault, RenewFault,
@@ -98,6 +98,47 @@ fn a_file_is_cut_only_where_it_is_torn(rt: HostRuntime) -> Result<(), Fail> {
 }
 
 #[test]
+fn a_torn_end_is_cut_off(rt: HostRuntime) -> Result<(), Fail> {
+    fs::write(&rt, "cut.append", TORN)?;
+    assert!(rt; appending(&rt, Fails::Nothing, "cut.append")? == Ok(loaded(1, 35, 2)));
+    assert!(rt; has_bytes(&rt, "cut.append", RECORD)?);
+    fs::remove_file(&rt, "cut.append")?;
+    Ok(())
+}
+
+/// A file without a whole byte, with one torn, and with a record, and whether its folder is synced.
+const FOLDERS: [(&[u8], bool); 4] = [
+    (b"", true),
+    (b"*", true),
+    (b"*3\r\n", true),
+    (RECORD, false),
+];
+
+#[test]
+fn the_folder_of_a_file_with_no_whole_byte_is_synced(rt: HostRuntime) -> Result<(), Fail> {
+    for (bytes, is_synced) in FOLDERS {
+        fs::write(&rt, "folder.append", bytes)?;
+        let opened = appending(&rt, Fails::SyncAll, "folder.append")?;
+        let unsynced = opened == Err(OpenFault::File(FileFault::Folder));
+        assert!(rt; unsynced == is_synced, "{opened:?}");
+        fs::remove_file(&rt, "folder.append")?;
+    }
+    Ok(())
+}
+
+#[test]
+fn an_interrupted_call_of_a_file_is_made_again(rt: HostRuntime) -> Result<(), Fail> {
+    fs::write(&rt, "signal.append", TORN)?;
+    assert!(rt; appending(&rt, Fails::Interrupted, "signal.append")? == Ok(loaded(1, 35, 2)));
+    assert!(rt; has_bytes(&rt, "signal.append", RECORD)?);
+    fs::remove_file(&rt, "signal.append")?;
+    assert!(rt; renewed(&rt, Fails::Interrupted, "signal.append")? == Ok(1));
+    assert!(rt; has_bytes(&rt, "signal.append", RECORD)?);
+    fs::remove_file(&rt, "signal.append")?;
+    Ok(())
+}
+
+#[test]
 fn a_fault_of_opening_is_told(rt: HostRuntime) -> Result<(), Fail> {
     fs::write(&rt, "unread.append", RECORD)?;
     let unread = Err(OpenFault::Reload(ReloadFault::ReadFault));
@@ -178,6 +219,28 @@ fn a_draft_in_use_is_left_alone(rt: HostRuntime) -> Result<(), Fail> {
     assert!(rt; is_missing(&rt, "used.append"));
     assert!(rt; has_bytes(&rt, "used.append.new", b"")?);
     fs::remove_file(&rt, "used.append.new")?;
+    Ok(())
+}
+
+/// Whether a rewrite whose draft gives way to another's as soon as it is opened is refused, and the other stands.
+fn leaves_anothers_draft(rt: &HostRuntime, path: &str, draft: &str) -> Result<bool, Fail> {
+    let locked = Err(RenewFault::File(FileFault::Locked));
+    let is_refused = renewed(rt, Fails::DraftIsReplaced, path)? == locked;
+    Ok(is_refused && has_bytes(rt, draft, OF_ANOTHER)?)
+}
+
+#[test]
+fn a_draft_that_lost_its_name_is_anothers(rt: HostRuntime) -> Result<(), Fail> {
+    // An old draft is another's whole file by the time that it is locked.
+    fs::write(&rt, "old.append.new", TORN)?;
+    assert!(rt; leaves_anothers_draft(&rt, "old.append", "old.append.new")?);
+    assert!(rt; has_bytes(&rt, "old.append", TORN)?);
+    fs::remove_file(&rt, "old.append")?;
+    fs::remove_file(&rt, "old.append.new")?;
+    // A draft that was just made is taken for an old one, and another's stands in its place.
+    assert!(rt; leaves_anothers_draft(&rt, "made.append", "made.append.new")?);
+    fs::remove_file(&rt, "made.append")?;
+    fs::remove_file(&rt, "made.append.new")?;
     Ok(())
 }
 

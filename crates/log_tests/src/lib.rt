@@ -7,6 +7,8 @@ mod failing;
 #[cfg(test)]
 mod files;
 #[cfg(test)]
+mod interrupted;
+#[cfg(test)]
 mod records;
 #[cfg(test)]
 mod removals;
