@@ -13,6 +13,8 @@ mod records;
 #[cfg(test)]
 mod removals;
 #[cfg(test)]
+mod room;
+#[cfg(test)]
 mod sweeps;
 #[cfg(test)]
 mod want_of_memory;
