@@ -326,6 +326,86 @@ fn a_logged_change_meets_each_refused_allocation(rt: HostRuntime) -> Result<(), 
     Err("no end")?
 }
 
+/// What a change answers one of whose allocations was refused, and then ZSCORE and ZCARD with memory, byte by byte;
+/// and how many records the log has then. The change is not asked again.
+#[derive(Drop)]
+struct Told<A: Allocator> {
+    is_whole: bool,
+    replies: Vec<u8, A>,
+    appended: u64,
+}
+
+/// Puts the bytes that a client gets.
+fn put_answer<A: Allocator + Copy>(
+    answer: Result<Reply<A>, Refusal>,
+    bytes: &mut Vec<u8, A>,
+) -> Result<(), Fail> {
+    let reply = match answer {
+        Ok(reply) => reply,
+        Err(refusal) => Reply::Fault(refusal.text()),
+    };
+    Ok(write_reply(&reply, bytes)?)
+}
+
+/// The change of above, which is asked once.
+fn told_once<L: Ledger, A: Allocator + Copy>(
+    heap: A,
+    fuse: &Fuse<Global>,
+    hasher: RandomState,
+    blank: Blank,
+    allocation: u64,
+) -> Result<Told<A>, Fail>
+    requires name { blank.name ≡ L.name }
+    requires parts { blank.parts ≡ L.parts }
+    requires two { blank.parts ≡ 2 }
+{
+    let mut owner = logged_over::<L, A>(heap, hasher, blank, AMPLE)?;
+    let change = command(heap, "ZADD k 1 a 2 b")?;
+    let score = command(heap, "ZSCORE k a")?;
+    let card = command(heap, "ZCARD k")?;
+    fuse.arm(allocation);
+    let answer = owner.run(&change);
+    let is_whole = fuse.is_armed();
+    fuse.arm(0);
+    let mut replies = Vec::new(heap);
+    put_answer(answer, &mut replies)?;
+    put_answer(owner.run(&score), &mut replies)?;
+    put_answer(owner.run(&card), &mut replies)?;
+    let (_, log) = owner.into_parts();
+    Ok(Told {
+        is_whole,
+        replies,
+        appended: log.appended(),
+    })
+}
+
+/// The replies to a change that was refused for want of memory, and to one that was made.
+const REFUSED: &[u8] = b"-ERR 1 out of memory\r\n$1\r\n9\r\n:1\r\n";
+
+const MADE: &[u8] = b":1\r\n$1\r\n1\r\n:2\r\n";
+
+// The log has the record of the other set, and that of the change where it was made.
+#[test]
+fn a_change_without_memory_is_told_and_not_appended(rt: HostRuntime) -> Result<(), Fail> {
+    let alloc = rt.alloc();
+    let hasher = RandomState::new(&rt)?;
+    for allocation in 1..1000u64 {
+        let fuse = Fuse::new(alloc, 0);
+        let told = told_once::<Brand, _>(&fuse, &fuse, hasher, Blank::new(2), allocation)?;
+        let (replies, appended) = if told.is_whole {
+            (MADE, 2)
+        } else {
+            (REFUSED, 1)
+        };
+        assert_eq!(rt; told.replies.as_slice(), replies);
+        assert_eq!(rt; told.appended, appended);
+        if told.is_whole {
+            return Ok(());
+        }
+    }
+    Err("no end")?
+}
+
 /// Whether the set stayed, and the change was refused for want of memory, or by the log: in one way the first time that
 /// the log is asked, and in another after it.
 fn is_refused_by_a_log(after: AfterChange, first: i64, later: i64) -> bool {

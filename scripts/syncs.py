@@ -1,0 +1,149 @@
+"""Tests of the calls that the built program makes on its append file, in their order, as strace tells them: each record
+is written and synced before its reply goes out, and a call that a signal interrupts is made again.
+
+They are left out, and a line says so, where strace is not installed or may not trace.
+"""
+import os
+import re
+import shutil
+import subprocess
+import time
+
+from harness import PROGRAM, SECONDS, read, same, start, test, write
+from tcp import Server, request
+
+CHANGES = 12
+# ZADD k 1 a, ZADD k 2 a, and so on: each changes the set, and has a record of 35 bytes.
+RECORDS = [request("ZADD", "k", i % 2 + 1, "a") for i in range(CHANGES)]
+REPLIES = [b":1\r\n"] + [b":0\r\n"] * (CHANGES - 1)
+ONE_BY_ONE = ["record", "sync", "reply"] * CHANGES
+
+
+def can_trace():
+    """Whether strace is there, and may trace."""
+    if not shutil.which("strace"):
+        return False
+    tried = subprocess.run(["strace", "-D", "-o", "/dev/null", "true"], stdin=subprocess.DEVNULL, capture_output=True)
+    return tried.returncode == 0
+
+
+def traced(*options):
+    """A program that runs zcrackd, and has its calls written into the file `trace`."""
+    words = ["exec strace -D -f -y --quiet=attach,path-resolution -o trace", *options, PROGRAM, '"$@"']
+    write("traced", f"#!/bin/sh\n{' '.join(words)}\n".encode())
+    os.chmod("traced", 0o755)
+    return os.path.abspath("traced")
+
+
+def trace():
+    """The lines of the trace, once the program has ended."""
+    end = time.monotonic() + SECONDS
+    while b"+++ exited with" not in (read("trace") if os.path.exists("trace") else b""):
+        if time.monotonic() > end:
+            raise AssertionError("the trace has no end")
+        time.sleep(0.01)
+    return read("trace").decode(errors="replace").splitlines()
+
+
+def calls():
+    """The calls on the append file and those that send replies, by what they are, in the order in which they ended."""
+    found = []
+    for line in trace():
+        call = re.match(r"\d+ +(?:<\.\.\. )?(\w+)", line)
+        if not call or "unfinished" in line:
+            continue
+        if call[1] in ("fdatasync", "fsync") and "/kept>" in line:
+            found.append("sync" if line.endswith("= 0") else "failed sync")
+        elif call[1] == "write" and "/kept>" in line:
+            found.append("record" if re.search(r"= \d+$", line) else "failed write")
+        elif call[1] in ("write", "sendto", "writev", "sendmsg") and re.search(r'":[01]\\r\\n', line):
+            found.append("reply")
+    return found
+
+
+def talk(reader, writer):
+    """Sends each change once the one before is answered."""
+    for record, reply in zip(RECORDS, REPLIES):
+        writer(record)
+        same(reader(len(reply)), reply)
+
+
+WRITES = "-e trace=write,writev,sendto,sendmsg,fdatasync,fsync"
+
+
+def session_over(program, **how):
+    """A session over standard input whose changes go to the append file."""
+    return start([program, "stdio", "--file", "kept"], stdin=subprocess.PIPE, stdout=subprocess.PIPE, **how)
+
+
+def each_record_is_synced_before_its_reply():
+    with session_over(traced(WRITES), bufsize=0) as session:
+        talk(session.stdout.read, session.stdin.write)
+        session.stdin.close()
+        same(session.wait(SECONDS), 0)
+    same(calls(), ONE_BY_ONE)
+    same(read("kept"), b"".join(RECORDS))
+
+
+def each_of_many_records_is_synced_before_the_next():
+    replies, _ = session_over(traced(WRITES)).communicate(b"".join(RECORDS), timeout=SECONDS)
+    same(replies, b"".join(REPLIES))
+    same(calls(), ["record", "sync"] * CHANGES + ["reply"])
+
+
+def each_record_of_a_server_is_synced_before_its_reply():
+    with Server("--file", "kept", "--connections", 1, "--workers", 1, program=traced(WRITES)) as server:
+        client = server.connect()
+        talk(client.file.read, client.socket.sendall)
+        client.close()
+        same(server.ends()[0], 0)
+    same(calls(), ONE_BY_ONE)
+    same(read("kept"), b"".join(RECORDS))
+
+
+def on_the_file(call, which):
+    """Only what is asked of the append file is traced, and these calls are interrupted."""
+    return f"-P kept -e trace={call} -e inject={call}:error=EINTR:when={which}"
+
+
+def an_interrupted_call_is_made_again():
+    for call, which in [("fdatasync", "1"), ("fdatasync", "3..101"), ("write", "1"), ("write", "2..100")]:
+        write("kept", b"")
+        session = session_over(traced(on_the_file(call, which)))
+        replies, _ = session.communicate(b"".join(RECORDS), timeout=SECONDS)
+        same((replies, read("kept")), (b"".join(REPLIES), b"".join(RECORDS)))
+        interrupted = 99 if ".." in which else 1
+        same(sum(call in line for line in trace()), CHANGES + interrupted)
+
+
+def a_write_that_is_always_interrupted_fails():
+    # Of a sync no such test: std itself makes that again for as long as it is interrupted.
+    write("kept", b"")
+    session = session_over(traced(on_the_file("write", "1+")))
+    replies, _ = session.communicate(RECORDS[0], timeout=SECONDS)
+    same((replies, read("kept")), (b"-ERR 16 append file failed\r\n", b""))
+    same(sum("write" in line for line in trace()), 100)
+
+
+def an_interrupted_reload_reads_on():
+    """Of a file of several reads, each of which is interrupted; its torn end alone is cut."""
+    whole = b"".join(RECORDS) * 100
+    write("kept", whole + RECORDS[0][:20])
+    session = session_over(traced(on_the_file("read", "1+2")), stderr=subprocess.PIPE)
+    replies, lines = session.communicate(request("ZSCORE", "k", "a"), timeout=SECONDS)
+    same((replies, lines), (b"$1\r\n2\r\n", b"zcrackd: torn end of 20 bytes\n"))
+    same(read("kept"), whole)
+
+
+if can_trace():
+    for function in (
+        each_record_is_synced_before_its_reply,
+        each_of_many_records_is_synced_before_the_next,
+        each_record_of_a_server_is_synced_before_its_reply,
+        an_interrupted_call_is_made_again,
+        a_write_that_is_always_interrupted_fails,
+        an_interrupted_reload_reads_on,
+    ):
+        test(function)
+else:
+    print("no test of the order of calls: strace is missing, or may not trace")
