@@ -71,9 +71,9 @@ def talk(reader, writer):
 WRITES = "-e trace=write,writev,sendto,sendmsg,fdatasync,fsync"
 
 
-def session_over(program, **how):
+def session_over(program, path="kept", **how):
     """A session over standard input whose changes go to the append file."""
-    return start([program, "stdio", "--file", "kept"], stdin=subprocess.PIPE, stdout=subprocess.PIPE, **how)
+    return start([program, "stdio", "--file", path], stdin=subprocess.PIPE, stdout=subprocess.PIPE, **how)
 
 
 def each_record_is_synced_before_its_reply():
@@ -135,6 +135,30 @@ def an_interrupted_reload_reads_on():
     same(read("kept"), whole)
 
 
+def the_folder_of_a_new_file_is_synced():
+    os.mkdir("inner")
+    for path, folder in [("kept", "."), ("inner/kept", "inner")]:
+        session = session_over(traced("-e trace=fsync,write"), path)
+        same(session.communicate(RECORDS[0], timeout=SECONDS)[0], REPLIES[0])
+        first = trace()[0]
+        same(f"<{os.path.realpath(folder)}>" in first and re.search(r"fsync\(.*\) += 0$", first) is not None, True)
+        os.remove("trace")
+
+
+def a_rewrite_is_synced_before_it_is_named_and_told():
+    write("kept", b"".join(RECORDS))
+    os.mkdir("inner")
+    wanted = "-e trace=write,fdatasync,fsync,link,linkat,unlink,unlinkat"
+    session = start([traced(wanted), "rewrite", "kept", "inner/new"], stdout=subprocess.PIPE)
+    same(session.communicate(timeout=SECONDS)[0], b"records 1\n")
+    steps = [re.match(r"\d+ +(\w+)(.*)", line) for line in trace() if "+++" not in line]
+    same([it[1].removesuffix("at") for it in steps], ["write", "fdatasync", "link", "unlink", "fsync", "write"])
+    inner = os.path.realpath("inner")
+    for step, path in [(0, f"{inner}/new.new"), (1, f"{inner}/new.new"), (4, inner)]:
+        same(f"<{path}>" in steps[step][2], True)
+    same(read("inner/new"), RECORDS[-1])
+
+
 if can_trace():
     for function in (
         each_record_is_synced_before_its_reply,
@@ -143,6 +167,8 @@ if can_trace():
         an_interrupted_call_is_made_again,
         a_write_that_is_always_interrupted_fails,
         an_interrupted_reload_reads_on,
+        the_folder_of_a_new_file_is_synced,
+        a_rewrite_is_synced_before_it_is_named_and_told,
     ):
         test(function)
 else:
