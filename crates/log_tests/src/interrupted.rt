@@ -1,7 +1,7 @@
 //! Calls of a device that a signal interrupts: each is made again, a hundred times at most. And the syncs of a file,
 //! one behind each record.
 
-ghost use Rattle.std.specs.Prelude.{◌≡◌, None};
+ghost use Rattle.std.specs.Prelude.{◌≡◌};
 
 use crate::records::{LISTING, Logged, THREE_RECORDS, answer, loaded, replies_to};
 use append_log::{FileSink, Log, LogSink, LoggedOwner, ReloadFault, reload};
@@ -146,7 +146,7 @@ fn interrupted(call: Call, interruptions: u32) -> (bool, u32, u32) {
 fn an_interrupted_call_is_made_again(rt: HostRuntime) -> Result<(), Fail> {
     for call in CALLS {
         for times in [0u32, 1, 2, 99] {
-            let wanted = (true, times + 1, 1);
+            let wanted = (true, times.saturating_add(1), 1);
             assert!(rt; interrupted(call, times) == wanted, "{call:?} {times}");
         }
         // the hundredth call is the last
@@ -200,10 +200,23 @@ fn owner_over<'a, L: Ledger>(
     Ok(LoggedOwner::new(alloc, owner, log))
 }
 
-/// Changes of the same member, each of which makes a record of 35 bytes.
-const CHANGES: [&str; 2] = ["ZADD k 1 a", "ZADD k 2 a"];
+/// Changes, each of which makes a record of 35 bytes.
+const CHANGES: [&str; 12] = [
+    "ZADD k 1 a",
+    "ZADD k 2 a",
+    "ZADD k 3 a",
+    "ZADD k 4 a",
+    "ZADD k 5 a",
+    "ZADD k 6 a",
+    "ZADD k 1 b",
+    "ZADD k 2 b",
+    "ZADD k 3 b",
+    "ZADD k 4 b",
+    "ZADD k 5 b",
+    "ZADD k 6 b",
+];
 
-/// How many bytes were synced when a change was answered, of each of twelve changes in turn.
+/// How many bytes were synced when a change was answered, of each of these in turn.
 fn synced_at_answers<L: Ledger>(
     rt: &HostRuntime,
     blank: Blank,
@@ -221,7 +234,7 @@ fn synced_at_answers<L: Ledger>(
     };
     let mut owner = owner_over::<L>(rt, blank, device)?;
     let mut synced = Vec::new(rt.alloc());
-    for change in CHANGES.iter().cycle().take(12) {
+    for change in CHANGES {
         let _reply = replies_to(rt.alloc(), &mut owner, &[change])?;
         synced.push(tally.synced.get())?;
     }
