@@ -7,11 +7,11 @@ mod serve;
 pub use crate::serve::ServeTask;
 use crate::serve::{asked_serve, file_option, serve_command};
 use clap::error::ErrorKind;
-use clap::{Arg, ArgMatches, Command, Error};
+use clap::{Arg, ArgAction, ArgMatches, Command, Error};
 use std::alloc::{AllocError, Global};
 
 /// What `--version` prints behind the program's name.
-const VERSION: &str = "0.2.0";
+const VERSION: &str = "0.3.0";
 
 /// What the program is asked to do.
 #[derive(Clone, Copy, Debug, PartialEq, Eq)]
@@ -35,10 +35,19 @@ pub enum Unasked {
     NoMemory,
 }
 
+/// Asks for what a terminal is told, where standard error is none.
+pub(crate) fn explain_option<'a>(alloc: Global) -> Arg<'a> {
+    Arg::new(alloc, "explain")
+        .long("explain")
+        .help("Tells on standard error what a terminal is told: causes, and what to do")
+        .action(ArgAction::SetTrue)
+}
+
 fn stdio_command<'a>(alloc: Global) -> Result<Command<'a>, AllocError> {
     Command::new(alloc, "stdio")
         .about("Serves standard input to standard output")
-        .arg(file_option(alloc))
+        .arg(file_option(alloc))?
+        .arg(explain_option(alloc))
 }
 
 fn rewrite_command<'a>(alloc: Global) -> Result<Command<'a>, AllocError> {
@@ -51,12 +60,13 @@ fn rewrite_command<'a>(alloc: Global) -> Result<Command<'a>, AllocError> {
     Command::new(alloc, "rewrite")
         .about("Writes the append file OLD anew, as short as it can be, to NEW")
         .arg(old)?
-        .arg(new)
+        .arg(new)?
+        .arg(explain_option(alloc))
 }
 
 fn command<'a>(alloc: Global) -> Result<Command<'a>, AllocError> {
     Command::new(alloc, "zcrackd")
-        .about("A server for sorted sets whose replies are proved")
+        .about("A server for sorted sets whose commands are proved")
         .version(VERSION)
         .subcommand_required(true)
         .disable_help_subcommand(true)
@@ -105,6 +115,14 @@ impl<'a> CommandLine<'a> {
         match matches(alloc, words) {
             Ok(found) => Ok(CommandLine { found }),
             Err(error) => Err(reason_of(error)),
+        }
+    }
+
+    /// Whether causes are to be told on standard error, whatever that is.
+    pub fn explains(&self) -> bool {
+        match self.found.subcommand() {
+            Some((_, words)) => words.get_flag("explain"),
+            None => false,
         }
     }
 

@@ -1,5 +1,6 @@
 //! What `zcrackd serve` is asked for.
 
+use crate::explain_option;
 use clap::builder::ValueParser;
 use clap::{Arg, ArgAction, ArgMatches, Command};
 use std::alloc::{AllocError, Global};
@@ -108,7 +109,8 @@ pub(crate) fn serve_command<'a>(alloc: Global) -> Result<Command<'a>, AllocError
         .arg(places_option(alloc))?
         .arg(records_option(alloc))?
         .arg(connections_option(alloc))?
-        .arg(timeout_option(alloc))
+        .arg(timeout_option(alloc))?
+        .arg(explain_option(alloc))
 }
 
 pub(crate) fn asked_serve<'a>(words: &ArgMatches<'a>) -> Option<ServeTask<'a>> {

@@ -1,5 +1,7 @@
 -- How the program ends: its exit status, and the lines on standard error.
-use Rattle.std.specs.Prelude.{◌≡◌, ℕ, ◌+◌, ◌-◌, ◌^◌, ◌≤◌, min, map, option_map, List, [], ◌∷◌, Option, None, Some, Result, Ok, Err, MatchResult}
+use Rattle.std.specs.Prelude.{◌≡◌, ℕ, ◌+◌, ◌-◌, ◌^◌, ◌≤◌, ◌⊎◌, min, map, option_map, List, [], ◌∷◌, Option, None, Some, Result, Ok, Err, MatchResult}
+use Rattle.std.specs.Io.KnownBytes.{append_known}
+use Rattle.resp_wire.specs.Device.{Rose}
 use Rattle.resp_wire.specs.FaultTexts.{number_of}
 use Rattle.zset_core.specs.AbstractCommand.{Asked}
 use Rattle.zset_core.specs.declared.refusal.Refusal.{Refusal}
@@ -60,6 +62,11 @@ finish_of (Err ends.ReadFault) = record { status = 1; lines = Some lines.ReadFau
 finish_of (Err (ends.WriteFault out)) = record { status = 1; lines = Some (lines.WriteFaultAfter out) ∷ None ∷ [] }
 finish_of (Err (ends.Wire fault)) = record { status = 1; lines = Some (lines.ProtocolFault (number_of fault)) ∷ None ∷ [] }
 finish_of (Err ends.TooManyReads) = record { status = 1; lines = Some lines.ReadTooOften ∷ None ∷ [] }
+
+-- a text was printed and sent on; or there was no memory for it, and nothing was printed, or the drain failed
+abbrev pub IsPrinted : List ℕ → Result Unit Line → DrainState → DrainState → Type 0
+IsPrinted text (Ok unit) drain₀ drain₁ = (drain₁.told ≡ append_known drain₀.told text) × (drain₁.flushed ≡ drain₁.told)
+IsPrinted text (Err line) drain₀ drain₁ = ((line ≡ lines.OutOfMemory) × (drain₁ ≡ drain₀)) ⊎ ((line ≡ lines.WriteFault) × Rose drain₀.failures drain₁.failures)
 
 -- the most reads of a session
 abbrev pub most_reads : ℕ
