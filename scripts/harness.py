@@ -5,6 +5,8 @@ one, all its tests or those of these names. PATIENCE in the environment is by ho
 a busy machine: `PATIENCE=3 scripts/serve_test`.
 """
 import os
+import pty
+import select
 import shutil
 import signal
 import subprocess
@@ -57,6 +59,30 @@ def run(*words, given=b"", **how):
         finally:
             process.kill()
     return process.returncode, out, lines
+
+
+def with_terminal(use):
+    """Calls `use` with a terminal's descriptor, for a program's standard error; gives what it gave, and what the terminal got."""
+    controller, terminal = pty.openpty()
+    given = use(terminal)
+    os.close(terminal)
+    got = b""
+    while select.select([controller], [], [], 1)[0]:
+        try:
+            more = os.read(controller, 4096)
+        except OSError:
+            break
+        if not more:
+            break
+        got += more
+    os.close(controller)
+    return given, got.replace(b"\r\n", b"\n")
+
+
+def on_a_terminal(*words):
+    """Runs the program with a terminal as its standard error; gives its status and what the terminal got."""
+    (status, _, _), got = with_terminal(lambda terminal: run(*words, stderr=terminal))
+    return status, got
 
 
 def same(found, wanted):

@@ -1,7 +1,10 @@
 """A server on a port of its own, and clients that speak RESP2 to it over TCP."""
+import os
+import select
 import socket
 import struct
 import subprocess
+import threading
 
 from harness import PROGRAM, SECONDS, same, start
 
@@ -32,6 +35,11 @@ def flat(reply):
     return reply if isinstance(reply, bytes) else b"*%d\r\n" % len(reply) + b"".join(map(flat, reply))
 
 
+def soon(file):
+    """The next line of a pipe, b"" where none comes within seconds."""
+    return file.readline() if select.select([file], [], [], 5)[0] else b""
+
+
 class Server:
     """A server on a free port of 127.0.0.1, or wherever its words say."""
 
@@ -54,6 +62,12 @@ class Server:
         finally:
             self.process.kill()
         return self.process.returncode, out, lines
+
+    def processor_time(self):
+        """The seconds of processor time that it has had."""
+        with open(f"/proc/{self.process.pid}/stat") as file:
+            user, system = file.read().rsplit(")", 1)[1].split()[11:13]
+        return (int(user) + int(system)) / os.sysconf("SC_CLK_TCK")
 
     def end_by(self, number):
         """Ends it by a signal, and waits for it. From then on its clients may find it gone."""
@@ -86,6 +100,18 @@ class Client:
     def ask(self, *words):
         self.send(request(*words))
         return self.reply()
+
+    def flood(self, data, rounds, reply):
+        """Sends data so often without waiting for replies; gives how often it was answered so in turn."""
+        at_once = 10_000
+        many, rest = divmod(rounds, at_once)
+        sender = threading.Thread(target=lambda: [self.send(data * count) for count in [at_once] * many + [rest]])
+        sender.start()
+        done = 0
+        for count in [at_once] * many + [rest]:
+            done += count if self.file.read(len(reply) * count) == reply * count else 0
+        sender.join()
+        return done
 
     def finish(self):
         """Sends no more; gives all that comes until the server ends the connection."""

@@ -8,9 +8,8 @@ use crate::finish::{Finish, Line, Unusable};
 use crate::watching::WatchedFiles;
 use append_log::FileFault;
 use std::alloc::Global;
-use std::fs;
-use std::io;
 use std::net::SocketAddr;
+use std::{fs, io};
 
 /// How the program ends, and what its lines mean in this case.
 #[derive(Drop)]
@@ -29,9 +28,7 @@ fn why_unusable(
     refusal: Option<io::Error>,
 ) -> Option<String> {
     match (fault, refusal) {
-        (FileFault::Open, Some(cause)) => {
-            format!(in alloc; "{path}: {fault}: {cause}\n").ok()
-        }
+        (FileFault::Open, Some(cause)) => { format!(in alloc; "{path}: {fault}: {cause}\n").ok() }
         _ => format!(in alloc; "{path}: {fault}\n").ok(),
     }
 }
@@ -42,8 +39,7 @@ fn what_is_damaged(files: &WatchedFiles<'_>, path: &str, at: u64) -> Option<Stri
     let behind = size.saturating_sub(at);
     format!(in files.alloc();
         "{path}: {behind} of its {size} bytes stand from byte {at} on; to do without them, copy it, and on the copy: truncate -s {at} COPY\n"
-    )
-    .ok()
+    ).ok()
 }
 
 impl Ending {

@@ -101,12 +101,6 @@ impl<'t, K: LogSink, L: Ledger, S: ByteSource + Drop, D: ByteDrain + Drop> Handl
     fn handle<R: Wait>(&mut self, rt: &R, connection: (S, D)) {
         let (mut source, mut drain) = connection;
         self.handled += 1;
-        let _ = serve_one(
-            rt,
-            self.alloc,
-            &mut source,
-            &mut drain,
-            &mut self.worker,
-        );
+        let _ = serve_one(rt, self.alloc, &mut source, &mut drain, &mut self.worker);
     }
 }
