@@ -73,6 +73,8 @@ def what_is_wrong_with_a_command_line_is_told():
     status, lines = told("stdio", "--sing")
     same((status, lines[:26]), (2, b"zcrackd: bad command line\n"))
     same((b"--sing" in lines, b"Usage: zcrackd" in lines), (True, True))
+    cause = b"--listen here:1: it is no IP address with a port, and no name is looked up\n"
+    same(told("serve", "--listen", "here:1"), (2, b"zcrackd: bad command line\n" + cause))
 
 
 @test

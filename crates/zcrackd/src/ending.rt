@@ -79,6 +79,18 @@ impl Ending {
         }
     }
 
+    /// The end of a server whose words spell no address.
+    pub fn of_no_address(alloc: Global, listen: &str) -> Self
+        ensures { result.finish ≡ finish_by lines.BadCommandLine }
+    {
+        Ending {
+            finish: Finish::by(Line::BadCommandLine),
+            explanation: format!(in alloc;
+                "--listen {listen}: it is no IP address with a port, and no name is looked up\n"
+            ).ok(),
+        }
+    }
+
     /// The end of a server that can't listen on an address.
     pub fn of_address(alloc: Global, address: SocketAddr, cause: io::Error) -> Self
         ensures { result.finish ≡ finish_by lines.CannotListen }
