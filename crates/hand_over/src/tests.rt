@@ -56,15 +56,23 @@ impl Arrivals for Row {
 /// How long a handler waits at most, in turns of a loop.
 const TURNS: u64 = 1_000_000_000;
 
-/// Records how many connections it handled and what their numbers add up to. That of connection
-/// `waits` waits until connection `for_that` is handled.
+/// Notes for each connection who handled it, and as which of its connections: `turn_of` its own number and
+/// of how many it has handled then. That of connection `waits` waits until connection `for_that` is handled.
 #[derive(Drop)]
 struct Recorder<'f> {
+    number: u64,
     handled: u64,
-    sum: u64,
     late: bool,
     waits: Option<(u64, u64)>,
     done: &'f [AtomicU64],
+}
+
+/// The handler's number from 1 on, and behind it in 32 bits which of its connections it is, from 1 on.
+fn turn_of(number: u64, handled: u64) -> u64 {
+    number
+        .wrapping_add(1)
+        .wrapping_mul(4_294_967_296)
+        .wrapping_add(handled)
 }
 
 impl<'f> Recorder<'f> {
@@ -95,24 +103,23 @@ impl<'f> Handler<u64> for Recorder<'f> {
         ensures handled { self.new.handled ≡ self.old.handled + 1 }
     {
         self.handled += 1;
-        self.sum = self.sum.wrapping_add(connection);
         if let Some((waiting, other)) = self.waits {
             if waiting == connection && !self.is_done(other) {
                 self.late = true;
             }
         }
-        if let Some(flag) = self.done.get(connection as usize) {
-            flag.store(1, Ordering::SeqCst);
+        if let Some(turn) = self.done.get(connection as usize) {
+            turn.store(turn_of(self.number, self.handled), Ordering::SeqCst);
         }
     }
 }
 
-fn recorder_of<'f>(done: &'f [AtomicU64], waits: Option<(u64, u64)>) -> Recorder<'f>
+fn recorder_of<'f>(number: u64, done: &'f [AtomicU64], waits: Option<(u64, u64)>) -> Recorder<'f>
     ensures { result.handled ≡ 0 }
 {
     Recorder {
+        number,
         handled: 0,
-        sum: 0,
         late: false,
         waits,
         done,
@@ -129,8 +136,8 @@ fn recorders<'f>(
     ensures { IfOk result (λ all. All (λ r. r.handled ≡ 0) all.items × (vec_len all ≡ workers)) }
 {
     let mut all = Vec::new(alloc);
-    for _ in 0..workers {
-        all.push(recorder_of(done, waits))?;
+    for number in 0..workers {
+        all.push(recorder_of(number, done, waits))?;
     }
     Ok(all)
 }
@@ -143,20 +150,36 @@ fn flags(alloc: Global, count: u64) -> Result<Vec<AtomicU64>, AllocError> {
     Ok(all)
 }
 
-/// How many connections were handled, what their numbers add up to, whether each list is as long as
-/// its handler counted, and whether a handler waited in vain.
-fn summary(given: &HandedOver<Recorder<'_>>) -> (u64, u64, bool, bool) {
+/// Whether a handler handled just the connections of its list, in the order of the list. Each connection is
+/// the number that it is to have.
+fn are_handled(recorder: &Recorder<'_>, list: &[u64]) -> bool {
     let mut handled = 0u64;
-    let mut sum = 0u64;
-    let mut is_same = true;
+    for connection in list {
+        handled = handled.wrapping_add(1);
+        match recorder.done.get(*connection as usize) {
+            Some(turn) => {
+                if turn.load(Ordering::SeqCst) != turn_of(recorder.number, handled) {
+                    return false;
+                }
+            }
+            None => return false,
+        }
+    }
+    handled == recorder.handled
+}
+
+/// How many connections were handled, whether each handler handled those of its list in its order, and
+/// whether one waited in vain.
+fn summary(given: &HandedOver<Recorder<'_>>) -> (u64, bool, bool) {
+    let mut handled = 0u64;
+    let mut are_listed = true;
     let mut late = false;
     for (recorder, list) in given.handlers.iter().zip(given.taken.iter()) {
         handled = handled.wrapping_add(recorder.handled);
-        sum = sum.wrapping_add(recorder.sum);
-        is_same = is_same && list.len() as u64 == recorder.handled;
+        are_listed = are_listed && are_handled(recorder, list);
         late = late || recorder.late;
     }
-    (handled, sum, is_same, late)
+    (handled, are_listed, late)
 }
 
 fn given<'f, R: Wait + Threads + Sync>(
@@ -181,7 +204,7 @@ fn three_connections_go_to_two_handlers(rt: HostRuntime) {
     let Ok(given) = given else {
         panic!(rt; "refused")
     };
-    assert!(rt; summary(&given) == (3, 3, true, false));
+    assert!(rt; summary(&given) == (3, true, false));
     assert!(rt; given.taken.len() == 2 && given.left.is_empty() && !given.fault && three.next == 3);
 }
 
@@ -193,7 +216,7 @@ fn a_handler_waits_for_another(rt: HostRuntime) {
     let Ok(given) = given else {
         panic!(rt; "refused")
     };
-    assert!(rt; summary(&given) == (3, 3, true, false));
+    assert!(rt; summary(&given) == (3, true, false));
     assert!(rt; given.left.is_empty() && !given.fault);
 }
 
@@ -205,7 +228,7 @@ fn closed_at_once(rt: HostRuntime) {
     let Ok(given) = given else {
         panic!(rt; "refused")
     };
-    assert!(rt; summary(&given) == (0, 0, true, false));
+    assert!(rt; summary(&given) == (0, true, false));
     assert!(rt; given.taken.len() == 2 && given.left.is_empty() && !given.fault);
 }
 
@@ -217,7 +240,7 @@ fn forty_connections_go_to_four_handlers(rt: HostRuntime) {
     let Ok(given) = given else {
         panic!(rt; "refused")
     };
-    assert!(rt; summary(&given) == (40, 780, true, false));
+    assert!(rt; summary(&given) == (40, true, false));
     assert!(rt; given.taken.len() == 4 && given.left.is_empty() && !given.fault);
 }
 
@@ -229,18 +252,18 @@ fn a_fault_is_told(rt: HostRuntime) {
     let Ok(given) = given else {
         panic!(rt; "refused")
     };
-    assert!(rt; summary(&given) == (2, 1, true, false));
+    assert!(rt; summary(&given) == (2, true, false));
     assert!(rt; given.left.is_empty() && given.fault);
 }
 
 #[test]
 fn many_connections_go_to_64_handlers(rt: HostRuntime) {
-    let done = flags(rt.alloc(), 0).expect(&rt, "memory");
+    let done = flags(rt.alloc(), 100_000).expect(&rt, "memory");
     let mut many = row_of(100_000, false);
     let given = given(&rt, rt.alloc(), &mut many, &done, 64, None);
     let Ok(given) = given else {
         panic!(rt; "refused")
     };
-    assert!(rt; summary(&given) == (100_000, 4_999_950_000, true, false));
+    assert!(rt; summary(&given) == (100_000, true, false));
     assert!(rt; given.taken.len() == 64 && given.left.is_empty() && !given.fault);
 }

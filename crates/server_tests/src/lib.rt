@@ -11,6 +11,8 @@ mod failing_log;
 #[cfg(test)]
 mod held_runs;
 #[cfg(test)]
+mod many_requests;
+#[cfg(test)]
 mod requests;
 #[cfg(test)]
 mod two_sessions;

@@ -9,8 +9,8 @@ use std::sync::Wait;
 use std::sync::ledger::Blank;
 use std::test::*;
 
-// A new table of four places answers commands as wanted. `locks` waits for the table's locks.
-fn expect_answers<R: Abort + Wait + AllocGlobal>(
+/// A new table of four places answers commands as wanted. `locks` waits for the table's locks.
+pub fn expect_answers<R: Abort + Wait + AllocGlobal>(
     rt: &HostRuntime,
     locks: &R,
     max_runs: u64,

@@ -13,14 +13,26 @@ mod examples;
 #[cfg(test)]
 mod exchange;
 #[cfg(test)]
+mod gate_places;
+#[cfg(test)]
 mod gates;
 #[cfg(test)]
 mod hardship;
 #[cfg(test)]
+mod last_run;
+#[cfg(test)]
+mod long_words;
+#[cfg(test)]
 mod places;
 #[cfg(test)]
+mod runs;
+#[cfg(test)]
 mod sink_sweeps;
+#[cfg(test)]
+mod told_counts;
 #[cfg(test)]
 mod two_adders;
 #[cfg(test)]
 mod two_workers;
+#[cfg(test)]
+mod windows;

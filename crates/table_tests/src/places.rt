@@ -121,3 +121,34 @@ fn the_greatest_table_opens(rt: HostRuntime) -> Result<(), Fail> {
     assert_eq!(rt; passes_of_the_greatest::<Brand>(&rt, Blank::new(4098))?, 64);
     Ok(())
 }
+
+// The places of two keys in a table of four that was opened with these sets.
+fn places_of<L: Ledger>(
+    rt: &HostRuntime,
+    blank: Blank,
+    texts: &[&str],
+) -> Result<(Option<usize>, Option<usize>), Fail>
+    requires name { blank.name ≡ L.name }
+    requires parts { blank.parts ≡ L.parts }
+    requires many { 6 ≤ blank.parts }
+{
+    let size = Size {
+        places: 4,
+        max_runs: 1000,
+    };
+    let owner = owner_of(rt, texts)?;
+    let (table, first, _second) = opened::<L>(rt.alloc(), blank, owner, size)?;
+    let mut pass = first;
+    let aa = table.find(&mut pass, b"Aa");
+    let bb = table.find(&mut pass, b"BB");
+    Ok((aa, bb))
+}
+
+// The walks of both begin at place 3. The key that is the first by its bytes has it, whichever set came first.
+#[test]
+fn sets_take_places_in_the_order_of_their_keys(rt: HostRuntime) -> Result<(), Fail> {
+    let ordered = places_of::<Brand>(&rt, Blank::new(6), &["ZADD Aa 1 x", "ZADD BB 1 y"])?;
+    let turned = places_of::<Brand>(&rt, Blank::new(6), &["ZADD BB 1 y", "ZADD Aa 1 x"])?;
+    assert!(rt; ordered == (Some(3), Some(0)) && turned == (Some(3), Some(0)));
+    Ok(())
+}
