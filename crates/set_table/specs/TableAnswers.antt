@@ -1,9 +1,10 @@
 -- What a table answers.
-use Rattle.std.specs.Prelude.{◌≡◌, ℕ, ◌⊎◌, List, None, Some, false}
+use Rattle.std.specs.Prelude.{◌≡◌, ℕ, ◌⊎◌, Bool, true, false, List, None, Some, IsTrue}
 use Rattle.std.specs.FinMap as fin
 use Rattle.resp_wire.specs.Response.{response_of}
-use Rattle.zset_core.specs.AbstractCommand.{Asked, Meaning, key_of, is_creating}
+use Rattle.zset_core.specs.AbstractCommand.{Asked, Meaning, Increase, key_of, is_creating, is_writing}
 use Rattle.zset_core.specs.Semantics.{step}
+use Rattle.zset_core.specs.SortedSet.{Members}
 use Rattle.zset_core.specs.declared.refusal.Refusal.{Refusal}
 use Rattle.zset_core.specs.declared.refusal.Refusal.TheVariants.{NoMemory, TableFull, ScoreOverflow, LogBroken, LogFull, LogRefused, Spent, OutOfStep}
 use Rattle.set_table.specs.Naming.{IsPlace, IsFull}
@@ -24,24 +25,36 @@ IsAnswered table old new command (NoPlace reply) =
     (new.shares ≡ old.shares) × (step fin.empty command.meaning ≡ Some (fin.empty, response_of reply))
     × ((key_of command.meaning ≡ None) ⊎ ((is_creating command.meaning ≡ false) × ((key : List ℕ) → key_of command.meaning ≡ Some key → HasNoPlace old key)))
 
+-- whether a command is ZADD with INCR
+abbrev pub is_increase : Meaning → Bool
+is_increase (Increase key flags given member) = true
+is_increase _ = false
+
 -- why a key gets no place
 abbrev pub IsClaimRefusal : PassView → List ℕ → Refusal → Type 0
 IsClaimRefusal pass key NoMemory = Unit {0}
 IsClaimRefusal pass key TableFull = IsFull pass.notes.known key
 IsClaimRefusal pass key _ = ⊥
 
--- the refusals of a set and its place: all but those of a request that is no command, and TableFull
-abbrev pub IsSetRefusal : Refusal → Type 0
-IsSetRefusal NoMemory = Unit {0}
-IsSetRefusal ScoreOverflow = Unit {0}
-IsSetRefusal LogBroken = Unit {0}
-IsSetRefusal LogFull = Unit {0}
-IsSetRefusal LogRefused = Unit {0}
-IsSetRefusal Spent = Unit {0}
-IsSetRefusal OutOfStep = Unit {0}
-IsSetRefusal _ = ⊥
+-- ZADD with INCR, whose sum is no score in some set
+pub record Overflows (meaning : Meaning) : Type 0 where
+  pub increases : IsTrue (is_increase meaning)
+  pub members : Members
+  pub no_step : step members meaning ≡ None
+
+-- the refusals of a set and its place, as far as they can be told without these: all but those of a request that is no
+-- command, and TableFull; those of the log come to commands that change sets alone
+abbrev pub IsSetRefusal : Meaning → Refusal → Type 0
+IsSetRefusal meaning NoMemory = Unit {0}
+IsSetRefusal meaning ScoreOverflow = Overflows meaning
+IsSetRefusal meaning LogBroken = IsTrue (is_writing meaning)
+IsSetRefusal meaning LogFull = IsTrue (is_writing meaning)
+IsSetRefusal meaning LogRefused = IsTrue (is_writing meaning)
+IsSetRefusal meaning Spent = Unit {0}
+IsSetRefusal meaning OutOfStep = Unit {0}
+IsSetRefusal meaning _ = ⊥
 
 -- why a table refuses a command: its set or its place does, or every place bears another name than its key
 abbrev pub IsTableRefusal : Meaning → PassView → Refusal → Type 0
 IsTableRefusal meaning pass TableFull = (key : List ℕ) × (key_of meaning ≡ Some key) × IsFull pass.notes.known key
-IsTableRefusal meaning pass e = IsSetRefusal e
+IsTableRefusal meaning pass e = IsSetRefusal meaning e

@@ -3,13 +3,14 @@
 ghost use Rattle.std.specs.Prelude.{◌≡◌, ◌<◌, ◌≤◌, ◌^◌, ◌↔◌, length, None, IfOk, IfErr, IfSome, OnErr, IsSome, IsTrue, MatchResult};
 ghost use Rattle.std.proofs.Math.ListN.{get_or, set};
 ghost use Rattle.std.specs.FinMap as map;
+ghost use Rattle.crack_kernel.specs.PivotList.{ObeysPivots};
 ghost use Rattle.ripple_column.specs.Content.{Holds};
 ghost use Rattle.zset_core.specs.AbstractCommand.{key_of};
-ghost use Rattle.zset_core.specs.AnswerableAsItStands.{IsReadyFor};
+ghost use Rattle.zset_core.specs.AnswerableAsItStands.{IsReadyFor, ListsWindow};
 ghost use Rattle.zset_core.specs.SortedSet.{pairs};
 ghost use Rattle.set_table.specs.CellStates.{HasNoReading, HasRead, HasRun, InStep, IsRefused, IsWhole, WasRun, counts_of, new_cell};
 ghost use Rattle.set_table.specs.TableAnswers.{IsSetRefusal};
-ghost use Rattle.set_table.specs.Tallies.{HasRoom, share_after_run, tally_after};
+ghost use Rattle.set_table.specs.Tallies.{HasRoom, runs_of, share_after_run, tally_after};
 
 mod numbers;
 mod step;
@@ -126,7 +127,7 @@ impl<H: BuildHasher, L: Ledger, A: Allocator + Copy> Cell<H, L, A> {
         // The same to a caller who sees the shares and not the cell.
         ensures told { IfOk result (λ answer. WasRun shares.old shares.new command.now answer) }
         ensures not_told { OnErr result (shares.new ≡ shares.old) }
-        ensures refused { IfErr result IsSetRefusal }
+        ensures refused { IfErr result (IsSetRefusal command.now.meaning) }
     {
         if !self.is_in_step(shares) {
             return Err(Refusal::OutOfStep);
@@ -181,17 +182,24 @@ impl<H: BuildHasher, L: Ledger, A: Allocator + Copy> Cell<H, L, A> {
 
     /// Whether the command had better be run than asked by `ready`: it lists a window for which `ready`
     /// would read many rows and later commands few after a run, and a run is to be had. It is a hint: no
-    /// reply depends on it.
-    pub fn prefers_run(&self, command: &Command<A>) -> bool {
+    /// reply depends on it. So only a listing by LIMIT that `ready` would answer is run.
+    pub fn prefers_run(&self, command: &Command<A>) -> bool
+        ensures window { IsTrue result
+            → ListsWindow self.now.sorted_set.column command.now.meaning }
+        ensures room { IsTrue result → runs_of self.now.tallies < self.now.max_runs }
+    {
         self.total.runs < self.max_runs && self.sorted_set.is_wide(command)
     }
 
-    /// A law: what holds of every cell whose lock is free. The body reads nothing.
+    /// A law: what holds of every cell whose lock is free. The rows of its column are those of its members, and each
+    /// pivot parts the rows with smaller scores from the others. The body changes nothing.
     pub fn whole(&self)
         ensures whole { IsWhole self.now }
         ensures content { Holds self.now.sorted_set.column (pairs self.now.sorted_set.members) }
+        ensures pivots { ObeysPivots self.now.sorted_set.column.pivots
+            self.now.sorted_set.column.rows }
     {
-        let _column = self.sorted_set.column();
+        let _pivots = self.sorted_set.column().pivot_list();
     }
 
     /// Whether the cell and a pass's shares tell the same numbers.

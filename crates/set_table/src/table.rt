@@ -182,7 +182,7 @@ impl<H: BuildHasher, S: LogSink, L: Ledger, A: Allocator + Copy> Table<H, S, L, 
         ensures ok { IfOk result (λ answer. WasAnswered self.now.opened pass.old.shares
             pass.new.shares place command.now answer) }
         ensures err { OnErr result (pass.new ≡ pass.old) }
-        ensures refused { IfErr result IsSetRefusal }
+        ensures refused { IfErr result (IsSetRefusal command.now.meaning) }
     {
         if command.writes() {
             return self.change_at(rt, pass, place, command, gate);
@@ -218,7 +218,7 @@ impl<H: BuildHasher, S: LogSink, L: Ledger, A: Allocator + Copy> Table<H, S, L, 
         ensures ok { IfOk result (λ answer. WasAnswered self.now.opened pass.old.shares
             pass.new.shares place command.now answer) }
         ensures err { OnErr result (pass.new ≡ pass.old) }
-        ensures refused { IfErr result IsSetRefusal }
+        ensures refused { IfErr result (IsSetRefusal command.now.meaning) }
     {
         if command.creates() {
             pass.spare.keep()?;
@@ -246,7 +246,8 @@ impl<H: BuildHasher, S: LogSink, L: Ledger, A: Allocator + Copy> Table<H, S, L, 
         ensures ok { IfSome result
             (λ read. IfOk read (λ answer. WasAnswered self.now.opened pass.now.shares
             pass.now.shares place command.now answer)) }
-        ensures refused { IfSome result (λ read. IfErr read IsSetRefusal) }
+        ensures refused { IfSome result
+            (λ read. IfErr read (IsSetRefusal command.now.meaning)) }
     {
         let cell = self.cells[place].read(rt);
         gate.inside(place);
@@ -272,7 +273,8 @@ impl<H: BuildHasher, S: LogSink, L: Ledger, A: Allocator + Copy> Table<H, S, L, 
         ensures ok { IfSome result
             (λ read. IfOk read (λ answer. WasAnswered self.now.opened pass.now.shares
             pass.now.shares place command.now answer)) }
-        ensures refused { IfSome result (λ read. IfErr read IsSetRefusal) }
+        ensures refused { IfSome result
+            (λ read. IfErr read (IsSetRefusal command.now.meaning)) }
     {
         let cell = self.cells[place].read(rt);
         gate.inside(place);
@@ -296,7 +298,7 @@ impl<H: BuildHasher, S: LogSink, L: Ledger, A: Allocator + Copy> Table<H, S, L, 
         ensures ok { IfOk result (λ answer. WasAnswered self.now.opened pass.old.shares
             pass.new.shares place command.now answer) }
         ensures err { OnErr result (pass.new ≡ pass.old) }
-        ensures refused { IfErr result IsSetRefusal }
+        ensures refused { IfErr result (IsSetRefusal command.now.meaning) }
     {
         let shares = &mut pass.shares[place];
         let mut cell = self.cells[place].write(rt);

@@ -11,7 +11,7 @@ ghost use Rattle.ripple_column.specs.Content.{Holds, IsUnchanged, most_pending};
 ghost use Rattle.ripple_column.specs.CutPivots.{values};
 ghost use Rattle.zset_core.specs.CommandEffectsOnColumn.{NarrowsFor, Reads, Selects, TakesOut, changes_named, edit_count};
 ghost use Rattle.zset_core.specs.RowEdits.{most_edits};
-ghost use Rattle.zset_core.specs.AnswerableAsItStands.{IsReadyFor};
+ghost use Rattle.zset_core.specs.AnswerableAsItStands.{IsReadyFor, ListsWindow};
 ghost use Rattle.zset_core.specs.SortedSet.{pairs, whole};
 ghost use Rattle.zset_core.specs.Semantics.{step};
 ghost use Rattle.zset_core.specs.SetAndOwnerViews.{IsPreparedFor};
@@ -135,8 +135,11 @@ impl<H: BuildHasher, A: Allocator + Copy> ZSet<H, A> {
     }
 
     /// Whether `ready` would read many rows for a window that `narrow` would let be listed by few. It
-    /// is a hint: no reply depends on it.
-    pub fn is_wide(&self, command: &Command<A>) -> bool {
+    /// is a hint: no reply depends on it. Only ZRANGEBYSCORE with LIMIT asks for such a window, and
+    /// only where `ready` answers it is there a choice.
+    pub fn is_wide(&self, command: &Command<A>) -> bool
+        ensures { IsTrue result → ListsWindow self.now.column command.now.meaning }
+    {
         is_wide_for(&self.column, command)
     }
 

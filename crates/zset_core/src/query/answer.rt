@@ -1,11 +1,11 @@
 //! Commands that read a set.
-ghost use Rattle.std.specs.Prelude.{◌≡◌, ◌≤◌, ◌↔◌, ◌⊎◌, ℤ, pos, Bool, Some, None, false, length, filter, slice_get, slice_range, IfOk, IfSome, IsSome, OnErr, OnOk};
+ghost use Rattle.std.specs.Prelude.{◌≡◌, ◌≤◌, ◌↔◌, ◌⊎◌, ℤ, pos, Bool, Some, None, false, length, filter, slice_get, slice_range, IfOk, IfSome, IsSome, IsTrue, OnErr, OnOk};
 ghost use Rattle.crack_kernel.specs.RowBag.{SameBag};
 ghost use Rattle.resp_wire.specs.Response.{Array, Integer, response_of};
 ghost use Rattle.ripple_column.specs.Content.{Holds, IsUnchanged, SameContent};
 ghost use Rattle.zset_core.specs.AbstractCommand.{is_writing, key_of};
 ghost use Rattle.zset_core.specs.CommandEffectsOnColumn.{NarrowsFor, Reads};
-ghost use Rattle.zset_core.specs.AnswerableAsItStands.{IsReadyFor};
+ghost use Rattle.zset_core.specs.AnswerableAsItStands.{IsReadyFor, ListsWindow};
 ghost use Rattle.zset_core.specs.SortedSet.{Members, listing, pairs};
 ghost use Rattle.zset_core.specs.Semantics.{elements, apply_limit, step};
 ghost use Rattle.zset_core.specs.MembersWithStagedScores.{current_score, members_by, IsSettled, same_bytes};
@@ -81,7 +81,9 @@ pub fn narrow_for<A: Allocator + Copy>(
 }
 
 /// Whether `narrow_for` would make a piece shorter for a command for which the column is ready.
-pub fn is_wide_for<A: Allocator + Copy>(column: &Column<A>, command: &Command<A>) -> bool {
+pub fn is_wide_for<A: Allocator + Copy>(column: &Column<A>, command: &Command<A>) -> bool
+    ensures { IsTrue result → ListsWindow column.now command.now.meaning }
+{
     match command.form() {
         Form::ListRange { range, limit, .. } if limit.is_some() => {
             is_wide_window(column, range, limit)

@@ -1,7 +1,8 @@
 //! Windows of a listing: which ranks LIMIT asks for, and the rows that stand there.
-ghost use Rattle.std.specs.Prelude.{◌≡◌, ◌+◌, ◌≤◌, ℕ, ℤ, List, length, take, drop, slice_range, IfOk, OnErr, OnOk};
+ghost use Rattle.std.specs.Prelude.{◌≡◌, ◌+◌, ◌≤◌, ℕ, ℤ, List, length, take, drop, slice_range, IfOk, IsTrue, OnErr, OnOk};
 ghost use Rattle.std.specs.List.Sorted.{IsNonDecreasingBy, IsSorted};
 ghost use Rattle.ripple_column.specs.Content.{IsUnchanged, SameContent};
+ghost use Rattle.ripple_column.specs.RangeAnswer.{HasAnswer};
 ghost use Rattle.zset_core.specs.CommandEffectsOnColumn.{Narrows};
 ghost use Rattle.zset_core.specs.SortedSet.{Pair};
 ghost use Rattle.zset_core.specs.Semantics.{from_offset, at_most, apply_limit};
@@ -73,7 +74,9 @@ pub fn is_wide_window<A: Allocator + Copy>(
     column: &Column<A>,
     range: &Range,
     limit: &Option<Limit>,
-) -> bool {
+) -> bool
+    ensures { IsTrue result → HasAnswer column.now range.now }
+{
     match column.ready(range) {
         Some((from, to)) if from < to => {
             let (start, end) = ranks_of(limit, to - from);
