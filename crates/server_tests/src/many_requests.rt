@@ -45,7 +45,7 @@ fn told_by_both<L: Ledger, R: Wait + AllocGlobal>(
     Ok(Told { one, other, totals })
 }
 
-const MANY: usize = 150_000;
+const MANY: usize = 100_001;
 
 // One connection sends more requests than 16 bits or a hundred thousand count.
 #[test]

@@ -5,14 +5,15 @@ use Rattle.std.proofs.lemmas.List.{get_or-map, length-map, get_or_default, same_
 use Rattle.std.specs.List.{sum_by}
 use Rattle.std.specs.List.Sorted.{IsPermutation}
 use Rattle.std.proofs.lemmas.List.Sums.{sum_by-cons, sum_by_more}
-use Rattle.std.proofs.lemmas.List.Sorted.{sum_by-IsPermutation}
+use Rattle.std.proofs.lemmas.List.Sorted.{length_permutation, sum_by-IsPermutation}
 use Rattle.set_table.specs.declared.counts.Tally.{Tally}
 use Rattle.set_table.specs.declared.table.close.totals.Totals.{Totals}
 use Rattle.set_table.specs.CellStates.{CellView, InStep}
 use Rattle.set_table.specs.WorkerPasses.{PassView}
 use Rattle.set_table.specs.Tallies.{empty_tally, added_of, removed_of}
-use Rattle.set_table.specs.ClosingTotals.{AddsUp, added_at, removed_at, members_at, sum_below, sum_of, pass_at, share_at, no_pass}
-use Rattle.set_table.specs.ClosingSteps.{HaveShares, AddsPlace, AddsUpTo}
+use Rattle.set_table.specs.ClosingTotals.{AddsUp, Agrees, AreOfCells, added_at, removed_at, members_at, sum_below, sum_of, pass_at, share_at, no_pass}
+use Rattle.set_table.specs.ClosingSteps.{HaveShares, AddsCell, AddsPlace, AddsUpTo}
+use Rattle.set_table.proofs.PassOrder.{stands_in}
 
 abbrev tally_at : ℕ → PassView → Tally
 tally_at place p = (share_at p place).tally
@@ -81,6 +82,24 @@ adds_up ps opened n t all h =
 sum_below-same : (n : ℕ) (f g : ℕ → ℕ) → ((k : ℕ) → f k ≡ g k) → sum_below n f ≡ sum_below n g
 sum_below-same zero f g e = refl
 sum_below-same (suc n) f g e = ap (λ a. a + f n) (sum_below-same n f g e) ∙ ap (λ a. sum_below n g + a) (e n)
+
+-- one place more
+pub cells_more : (ps : List PassView) (n : ℕ) (cell : CellView) (s t : Totals) → AreOfCells ps n s.members s.records → AddsCell ps n cell s t → AreOfCells ps (n + 1) t.members t.records
+cells_more ps n cell s t h m = rw add-one (cell, m.agrees, s.members, s.records, h, m.members, m.records)
+
+agrees_permuted : (ps qs : List PassView) (place : ℕ) (cell : CellView) → IsPermutation ps qs → Agrees qs place cell → Agrees ps place cell
+agrees_permuted ps qs place cell same h = record {
+  whole = h.whole;
+  as_many = h.as_many ∙ sym (length_permutation ps qs same);
+  in_step = λ i less.
+      let j = stands_in ps qs i same less in
+      subst (λ (p : PassView). InStep cell (share_at p place)) j.2 (h.in_step j.0 j.1);
+}
+
+pub cells_permuted : (ps qs : List PassView) → IsPermutation ps qs → (n members records : ℕ) → AreOfCells qs n members records → AreOfCells ps n members records
+cells_permuted ps qs same zero members records h = h
+cells_permuted ps qs same (suc n) members records h =
+    (h.0, agrees_permuted ps qs n h.0 same h.1, h.2, h.3, cells_permuted ps qs same n h.2 h.3 h.4, h.5, h.6)
 
 -- the order of the passes does not matter
 pub of_permuted : (ps qs : List PassView) (opened : List ℕ) (t : Totals) → IsPermutation ps qs → AddsUp qs opened t → AddsUp ps opened t

@@ -2,7 +2,7 @@
 use Rattle.std.proofs.Common.{◌≡◌, ℕ, ◌+◌, true, false, Option, Some, None, IfSome, IsTrue, IsSome, Result, Ok, IfOk, inl, inr, refl, sym, subst, ◌∙◌, arith}
 use Rattle.resp_wire.specs.Response.{Response}
 use Rattle.zset_core.specs.SortedSet.{Members}
-use Rattle.zset_core.specs.AbstractCommand.{Asked, is_writing, Meaning}
+use Rattle.zset_core.specs.AbstractCommand.{Asked, is_writing, Meaning, Ping, Add, Increase, Remove, RemoveRange, Score, Card, Count, ListRange}
 use Rattle.zset_core.specs.ChangeOutline.{IsOutline}
 use Rattle.zset_core.specs.Semantics.{step}
 use Rattle.zset_core.specs.SetAndOwnerViews.{Next, Shows, IsPreparedFor}
@@ -13,6 +13,7 @@ use Rattle.zset_core.proofs.CallerLemmas.{missing_none}
 use Rattle.append_log.proofs.CallerLemmas.{unchanged}
 use Rattle.set_table.specs.declared.counts.OwnCounts.{OwnCounts}
 use Rattle.set_table.specs.Tallies.{no_counts}
+use Rattle.set_table.specs.TableAnswers.{IsSetRefusal, is_increase}
 use Rattle.set_table.specs.SetSteps.{Stepped, IsLogged, Changes, IsHindered, IsAppendRefusal}
 
 -- a reading leaves the set
@@ -61,6 +62,39 @@ hinders m command o next e writes ready outlined changed h = by e h
     by Spent h = h
     by ScoreOverflow h = absurd h
     by OutOfStep h = h
+
+-- where a step is none, a sum of INCR is no score
+increases : (m : Members) (meaning : Meaning) → step m meaning ≡ None → IsTrue (is_increase meaning)
+increases m (Ping None) is = cc
+increases m (Ping (Some text)) is = cc
+increases m (Add key flags changed pairs) is = cc
+increases m (Increase key flags given member) is = refl
+increases m (Remove key names) is = cc
+increases m (RemoveRange key range) is = cc
+increases m (Score key member) is = cc
+increases m (Card key) is = cc
+increases m (Count key range) is = cc
+increases m (ListRange key range with_scores limit) is = cc
+
+-- what hinders a command in some set, told without the set
+pub told_of : (m : Members) (command : Asked) (e : Refusal) → IsHindered e m command → IsSetRefusal command.meaning e
+told_of m command NoMemory h = tt
+told_of m command ScoreOverflow h = record { increases = increases m command.meaning h; members = m; no_step = h }
+told_of m command LogBroken h = h.writes
+told_of m command LogFull h = h.writes
+told_of m command LogRefused h = h.writes
+told_of m command UnknownCommand h = h
+told_of m command WrongArity h = h
+told_of m command Syntax h = h
+told_of m command NxAndXx h = h
+told_of m command GtLtNx h = h
+told_of m command IncrPair h = h
+told_of m command BadScore h = h
+told_of m command BadBound h = h
+told_of m command BadInteger h = h
+told_of m command TableFull h = h
+told_of m command Spent h = absurd h
+told_of m command OutOfStep h = absurd h
 
 some_of : (m : Members) (meaning : Meaning) (next : Option Next) → IsPreparedFor m meaning next → IsSome next
 some_of m meaning next ready = by (step m meaning) next ready

@@ -1,7 +1,9 @@
 -- What is known on the way while a table is closed.
 use Rattle.std.specs.Prelude.{◌≡◌, ℕ, ◌+◌, ◌*◌, ◌^◌, ◌≤◌, ◌<◌, min, List, length, take}
 use Rattle.set_table.specs.WorkerPasses.{PassView}
-use Rattle.set_table.specs.ClosingTotals.{pass_at, share_at, added_at, removed_at, members_at, sum_below, sum_of}
+use Rattle.std.specs.FinMap as fin
+use Rattle.set_table.specs.CellStates.{CellView}
+use Rattle.set_table.specs.ClosingTotals.{Agrees, pass_at, share_at, added_at, removed_at, members_at, sum_below, sum_of}
 use Rattle.set_table.specs.declared.table.close.totals.Totals.{Totals}
 
 -- the first n of the passes stand in the order of their numbers
@@ -21,6 +23,12 @@ pub record AddsPlace (passes : List PassView) (place opened : ℕ) (s t : Totals
   pub whole : size + removed_at passes place ≡ opened + added_at passes place
   pub members : t.members ≡ s.members + size
   pub sets : t.sets ≡ s.sets + min size 1
+
+-- members and records that a place's cell tells were added to the totals
+pub record AddsCell (passes : List PassView) (place : ℕ) (cell : CellView) (s t : Totals) : Type 0 where
+  pub agrees : Agrees passes place cell
+  pub members : t.members ≡ s.members + fin.len cell.sorted_set.members
+  pub records : t.records ≡ s.records + cell.appended
 
 -- the totals of the first n places
 pub record AddsUpTo (passes : List PassView) (opened : List ℕ) (n : ℕ) (t : Totals) : Type 0 where

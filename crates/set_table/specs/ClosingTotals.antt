@@ -2,6 +2,8 @@
 use Rattle.std.specs.Prelude.{◌≡◌, ℕ, ◌+◌, ◌-◌, ◌<◌, min, List, [], length, zero, suc, Some}
 use Rattle.std.specs.List.{sum_by}
 use Rattle.std.proofs.Math.ListN.{get_or}
+use Rattle.std.specs.FinMap as fin
+use Rattle.set_table.specs.CellStates.{CellView, IsWhole, InStep}
 use Rattle.set_table.specs.Naming.{name_at, IsPlace}
 pub use Rattle.set_table.specs.Opening.{no_pass, pass_at, sum_of}
 use Rattle.set_table.specs.WorkerPasses.{PassView, no_share}
@@ -41,6 +43,19 @@ pub record AddsUp (passes : List PassView) (opened : List ℕ) (t : Totals) : Ty
   pub members : t.members ≡ sum_below (length opened) (λ place. members_at passes opened place)
   pub sets : t.sets ≡ sum_below (length opened) (λ place. min (members_at passes opened place) 1)
   pub balance : t.members + t.removed ≡ t.opened + t.added
+
+-- a place's cell, as it was when the table was closed: it was whole, and told of each pass what that pass was answered there
+pub record Agrees (passes : List PassView) (place : ℕ) (cell : CellView) : Type 0 where
+  pub whole : IsWhole cell
+  pub as_many : length cell.tallies ≡ length passes
+  pub in_step : (i : ℕ) → i < length passes → InStep cell (share_at (pass_at passes i) place)
+
+-- so many members and records are those of the cells of the first n places together, each of which agrees with the passes
+abbrev pub AreOfCells : List PassView → ℕ → ℕ → ℕ → Type 0
+AreOfCells passes zero members records = (members ≡ 0) × (records ≡ 0)
+AreOfCells passes (suc n) members records =
+    (cell : CellView) × Agrees passes n cell
+    × (m : ℕ) × (r : ℕ) × AreOfCells passes n m r × (members ≡ m + fin.len cell.sorted_set.members) × (records ≡ r + cell.appended)
 
 -- where two of the passes know a place's name, it is the same
 abbrev pub AgreeAt : List PassView → ℕ → Type 0

@@ -51,7 +51,7 @@ pub record AreNewShares (opened : List ℕ) (number : ℕ) (shares : List ShareV
   pub each : (place : ℕ) → place < length opened → get_or shares place no_share ≡ record { place = place; pass = number; opened = get_or opened place 0; tally = empty_tally }
 
 abbrev pub no_pass : PassView
-no_pass = record { number = 0; notes = record { names = []; known = [] }; shares = [] }
+no_pass = record { number = 0; notes = record { names = []; known = [] }; shares = []; kept = 0 }
 
 abbrev pub pass_at : List PassView → ℕ → PassView
 pass_at passes i = get_or passes i no_pass

@@ -15,10 +15,17 @@ pub record TableView : Type 0 where
   pub max_runs : ℕ
   pub records_before : ℕ
 
+-- a worker's pass: its number, what it knows of the names, what it was answered at each place, and how many bytes of
+-- memory it keeps back for removals
 pub record PassView : Type 0 where
   pub number : ℕ
   pub notes : NotesView
   pub shares : List ShareView
+  pub kept : ℕ
+
+-- how many bytes a pass keeps back, once its worker was answered a command that makes sets (KEPT_BACK in code)
+abbrev pub kept_back : ℕ
+kept_back = 131072
 
 abbrev pub no_share : ShareView
 no_share = record { place = 0; pass = 0; opened = 0; tally = empty_tally }

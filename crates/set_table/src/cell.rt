@@ -112,6 +112,7 @@ impl<H: BuildHasher, L: Ledger, A: Allocator + Copy> Cell<H, L, A> {
     /// many runs were answered as may be; then those of the command: [`Refusal::ScoreOverflow`];
     /// [`Refusal::LogBroken`], [`Refusal::LogFull`] or [`Refusal::LogRefused`] where it would
     /// change the set and its record was not appended; [`Refusal::NoMemory`].
+    #[tactic(auto, using(crate::proofs::StepLemmas::told_of))]
     pub fn run<'c, S: LogSink, R: Wait>(
         &mut self,
         rt: &R,

@@ -30,7 +30,7 @@ impl<A: Allocator> Model for Pass<A> {
 
     ghost Value = { PassView };
 
-    ghost view = { λ p. record { number = p.number; notes = p.knowledge; shares = p.shares.items } };
+    ghost view = { λ p. record { number = p.number; notes = p.knowledge; shares = p.shares.items; kept = p.spare } };
 }
 
 impl<A: Allocator> Pass<A> {

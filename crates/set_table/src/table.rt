@@ -1,9 +1,9 @@
 //! Sets behind locks of their own, found by names that are set once.
 
-ghost use Rattle.std.specs.Prelude.{◌≡◌, ◌<◌, false, length, IfOk, IfErr, IfSome, OnErr, IsSome, MatchOption};
-ghost use Rattle.zset_core.specs.AbstractCommand.{key_of, is_writing};
+ghost use Rattle.std.specs.Prelude.{◌≡◌, ◌<◌, ◌≤◌, false, length, IfOk, IfErr, IfSome, OnErr, OnOk, IsSome, IsTrue, MatchOption};
+ghost use Rattle.zset_core.specs.AbstractCommand.{is_creating, is_writing, key_of};
 ghost use Rattle.set_table.specs.Naming.{Grows, IsPlace};
-ghost use Rattle.set_table.specs.WorkerPasses.{IsPassOf, WasAnswered};
+ghost use Rattle.set_table.specs.WorkerPasses.{IsPassOf, WasAnswered, kept_back};
 ghost use Rattle.set_table.specs.TableAnswers.{HasNoPlace, IsAnswered, IsClaimRefusal, IsSetRefusal, IsTableRefusal};
 
 mod close;
@@ -107,15 +107,17 @@ impl<H: BuildHasher, S: LogSink, L: Ledger, A: Allocator + Copy> Table<H, S, L, 
     /// as `found` tells, and `found` counts no less than what this pass was told there before: others write
     /// the sets between two calls, so that it is the key's own set is shown by tests. The pass's share of
     /// that place counts one run more and the members of `own`, or stays where a reading was answered
-    /// under the shared lock. No other share moves.
+    /// under the shared lock. No other share moves. Once a command that creates was answered, the pass keeps
+    /// 131,072 bytes back for removals.
     ///
     /// # Errors
     ///
     /// The pass's shares stay. [`Refusal::TableFull`] where a command that creates finds no place;
     /// [`Refusal::OutOfStep`] where cell and pass tell different numbers, which no pass of this table meets;
-    /// [`Refusal::Spent`] where the place has no run left; those of the command and of the log;
-    /// [`Refusal::NoMemory`]. What the cell tells is behind its lock, so the clauses say of these only which
-    /// may come: [`crate::Cell::run`] says exactly when.
+    /// [`Refusal::Spent`] where the place has no run left; [`Refusal::ScoreOverflow`] to ZADD with INCR alone,
+    /// and those of the log to commands that change sets; [`Refusal::NoMemory`]. What the cell tells is behind
+    /// its lock, so the clauses say of these only which may come to which command: [`crate::Cell::run`] says
+    /// exactly when.
     pub fn run<'c, R: Wait, G: Gate>(
         &self,
         rt: &R,
@@ -132,6 +134,8 @@ impl<H: BuildHasher, S: LogSink, L: Ledger, A: Allocator + Copy> Table<H, S, L, 
         ensures err { OnErr result (pass.new.shares ≡ pass.old.shares) }
         ensures refused { IfErr result
             (λ refusal. IsTableRefusal command.now.meaning pass.new refusal) }
+        ensures kept { IsTrue (is_creating command.now.meaning)
+            → OnOk result (kept_back ≤ pass.new.kept) }
     {
         let Some(key) = command.key() else {
             return Ok(Answered::NoPlace(command.reply_without_set(self.alloc)?));
@@ -181,8 +185,10 @@ impl<H: BuildHasher, S: LogSink, L: Ledger, A: Allocator + Copy> Table<H, S, L, 
         ensures rest { (pass.new.number ≡ pass.old.number) × (pass.new.notes ≡ pass.old.notes) }
         ensures ok { IfOk result (λ answer. WasAnswered self.now.opened pass.old.shares
             pass.new.shares place command.now answer) }
-        ensures err { OnErr result (pass.new ≡ pass.old) }
+        ensures err { OnErr result (pass.new.shares ≡ pass.old.shares) }
         ensures refused { IfErr result (IsSetRefusal command.now.meaning) }
+        ensures kept { IsTrue (is_creating command.now.meaning)
+            → OnOk result (kept_back ≤ pass.new.kept) }
     {
         if command.writes() {
             return self.change_at(rt, pass, place, command, gate);
@@ -217,8 +223,10 @@ impl<H: BuildHasher, S: LogSink, L: Ledger, A: Allocator + Copy> Table<H, S, L, 
         ensures rest { (pass.new.number ≡ pass.old.number) × (pass.new.notes ≡ pass.old.notes) }
         ensures ok { IfOk result (λ answer. WasAnswered self.now.opened pass.old.shares
             pass.new.shares place command.now answer) }
-        ensures err { OnErr result (pass.new ≡ pass.old) }
+        ensures err { OnErr result (pass.new.shares ≡ pass.old.shares) }
         ensures refused { IfErr result (IsSetRefusal command.now.meaning) }
+        ensures kept { IsTrue (is_creating command.now.meaning)
+            → OnOk result (kept_back ≤ pass.new.kept) }
     {
         if command.creates() {
             pass.spare.keep()?;
@@ -295,9 +303,10 @@ impl<H: BuildHasher, S: LogSink, L: Ledger, A: Allocator + Copy> Table<H, S, L, 
         requires keyed { IsSome (key_of command.now.meaning) }
         ensures own { IsPassOf self.now pass.new }
         ensures rest { (pass.new.number ≡ pass.old.number) × (pass.new.notes ≡ pass.old.notes) }
+        ensures kept { pass.new.kept ≡ pass.old.kept }
         ensures ok { IfOk result (λ answer. WasAnswered self.now.opened pass.old.shares
             pass.new.shares place command.now answer) }
-        ensures err { OnErr result (pass.new ≡ pass.old) }
+        ensures err { OnErr result (pass.new.shares ≡ pass.old.shares) }
         ensures refused { IfErr result (IsSetRefusal command.now.meaning) }
     {
         let shares = &mut pass.shares[place];

@@ -3,8 +3,8 @@
 ghost use Rattle.std.specs.Prelude.{◌≡◌, ◌+◌, ◌*◌, ◌<◌, ◌≤◌, ◌^◌, ◌↔◌, ℕ, length, IfErr, IfOk, IfSome, OnOk, IsTrue};
 ghost use Rattle.std.proofs.Math.ListN.{get_or};
 ghost use Rattle.set_table.specs.CellStates.{InStep};
-ghost use Rattle.set_table.specs.ClosingSteps.{AddsPlace, HaveShares, IsBounded};
-ghost use Rattle.set_table.specs.ClosingTotals.{AddsUp, AgreeAt, AreNumbered, HaveOnePlace, pass_at, share_at};
+ghost use Rattle.set_table.specs.ClosingSteps.{AddsCell, AddsPlace, HaveShares, IsBounded};
+ghost use Rattle.set_table.specs.ClosingTotals.{AddsUp, AgreeAt, AreNumbered, AreOfCells, HaveOnePlace, pass_at, share_at};
 ghost use Rattle.set_table.specs.WorkerPasses.{IsPassOf};
 
 mod agreement;
@@ -37,9 +37,10 @@ impl<H: BuildHasher + Drop, S: LogSink + Drop, L: Ledger, A: Allocator + Copy> T
     /// totals, and the log. The passes may come in any order.
     ///
     /// Promised are that each total is the sum over the places of what all passes were told, members being
-    /// those at opening, with those added and without those removed; that the log has as many records
-    /// more than at opening as the totals tell; that passes which know a place's name know the same one;
-    /// and that no key has two places.
+    /// those at opening, with those added and without those removed; that members and records are those of
+    /// cells, one for each place, which tell the same as each pass; that the log has as many records more
+    /// than at opening as the totals tell; that passes which know a place's name know the same one; and that
+    /// no key has two places.
     ///
     /// # Errors
     ///
@@ -53,6 +54,8 @@ impl<H: BuildHasher + Drop, S: LogSink + Drop, L: Ledger, A: Allocator + Copy> T
         ensures totals { IfOk result (λ closed. AddsUp passes.items self.opened closed.0) }
         ensures records { IfOk result
             (λ closed. closed.0.records + self.records_before ≡ closed.1.appended) }
+        ensures cells { IfOk result (λ closed. AreOfCells passes.items (length self.opened)
+            closed.0.members closed.0.records) }
         ensures agree { OnOk result ((place : ℕ) → place < length self.names
             → AgreeAt passes.items place) }
         ensures one_place { OnOk result (HaveOnePlace passes.items) }
@@ -78,6 +81,8 @@ impl<H: BuildHasher + Drop, S: LogSink + Drop, L: Ledger, A: Allocator + Copy> T
         ensures totals { IfSome result (λ closed. AddsUp passes.now.items self.opened closed.0) }
         ensures records { IfSome result
             (λ closed. closed.0.records + self.records_before ≡ closed.1.appended) }
+        ensures cells { IfSome result (λ closed. AreOfCells passes.now.items (length self.opened)
+            closed.0.members closed.0.records) }
     {
         let Table {
             names: _names,
@@ -118,6 +123,8 @@ fn add_places<H: BuildHasher, L: Ledger, A: Allocator + Copy>(
     requires few { length opened.now ≤ 4096 }
     ensures sums { IfSome result (λ totals. AddsUp passes.now.items opened.now totals) }
     ensures bound { IfSome result (λ totals. totals.records ≤ 4096 * 2 ^ 64) }
+    ensures cells { IfSome result (λ totals. AreOfCells passes.now.items (length opened.now)
+        totals.members totals.records) }
 {
     let mut totals = Totals::none();
     for place in 0..opened.len() {
@@ -140,6 +147,7 @@ fn add_place<H: BuildHasher, L: Ledger, A: Allocator + Copy>(
     requires bound { IsBounded place totals }
     ensures sums { IfSome result (λ more. AddsPlace passes.now.items place opened totals more) }
     ensures bound { IfSome result (λ more. IsBounded (place + 1) more) }
+    ensures cell { IfSome result (λ more. AddsCell passes.now.items place cell.now totals more) }
 {
     let numbers = cell.numbers();
     if numbers.opened != opened

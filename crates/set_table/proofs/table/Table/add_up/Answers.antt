@@ -1,6 +1,6 @@
 use Rattle.std.proofs.Common.{◌∙◌, ℕ, List, ap, sym, subst, arith, rules, length}
 use Rattle.set_table.specs.WorkerPasses.{TableView}
-use Rattle.set_table.specs.ClosingTotals.{AddsUp}
+use Rattle.set_table.specs.ClosingTotals.{AddsUp, AreOfCells}
 use Rattle.set_table.specs.ClosingSteps.{HaveShares}
 use Rattle.set_table.proofs.table.Table.add_up.Goals as goal
 
@@ -15,3 +15,7 @@ returns-clause-totals g c =
 pub returns-clause-records : goal.returns-clause-records
 returns-clause-records g c =
     omega (arith, c.are_appended.ensures.0 (search (rules, c.if-not-are_appended.false)), c.appended.ensures, ap (λ (v : TableView). v.records_before) c.self.view_is)
+
+pub returns-clause-cells : goal.returns-clause-cells
+returns-clause-cells g c =
+    subst (λ (xs : List ℕ). AreOfCells c.args.passes.now.items (length xs) c.in_ok-totals.totals.members c.in_ok-totals.totals.records) (c.deref.ensures.value ∙ ap (λ (v : TableView). v.opened) c.self.view_is) c.in_ok-totals.ensures.cells

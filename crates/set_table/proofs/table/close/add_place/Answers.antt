@@ -28,3 +28,18 @@ returns-clause-sums g c =
       members = ap (λ x. c.args.totals.members + x) c.from-2.ensures;
       sets = ap (λ x. c.args.totals.sets + x) (c.from.ensures ∙ c.min.ensures);
     }
+
+pub returns-clause-cell : goal.returns-clause-cell
+returns-clause-cell g c =
+    let cell = c.args.cell.now in
+    let has = c.has_tallies.ensures.0 (search (rules, c.if-not-has_tallies.false)) in
+    let n = c.numbers-numbers.ensures.numbers in
+    record {
+      agrees = record {
+        whole = c.numbers-numbers.ensures.whole;
+        as_many = omega (arith, has, c.len.ensures, c.args.passes.now.ok);
+        in_step = c.all_in_step.ensures.0 (search (rules, c.if-not-all_in_step.false));
+      };
+      members = ap (λ x. c.args.totals.members + x) (c.from-2.ensures ∙ ap (λ (r : CellNumbers). r.members) n);
+      records = ap (λ x. c.args.totals.records + x) (c.from-6.ensures ∙ ap (λ (r : CellNumbers). r.records) n);
+    }

@@ -1,5 +1,6 @@
-use Rattle.std.proofs.Common.{arith}
-use Rattle.set_table.proofs.ClosingLemmas.{adds_more, adds_up}
+use Rattle.std.proofs.Common.{ℕ, arith, subst}
+use Rattle.set_table.specs.ClosingTotals.{AreOfCells}
+use Rattle.set_table.proofs.ClosingLemmas.{adds_more, adds_up, cells_more}
 use Rattle.set_table.proofs.table.close.add_places.Goals as goal
 
 pub add_place-requires-clause-own : goal.add_place-requires-clause-own
@@ -9,7 +10,12 @@ pub loop-place-preserved : goal.loop-place-preserved
 loop-place-preserved g c = record {
   sums = adds_more c.args.passes.now.items c.args.opened.now c.loop-place.place c.loop-place.totals c.in_ok-totals.totals (omega (arith, c.loop-place-test.true, c.loop-place.auto.place-end)) c.loop-place.invariant.sums c.in_ok-totals.ensures.sums;
   bound = c.in_ok-totals.ensures.bound;
+  cells = cells_more c.args.passes.now.items c.loop-place.place _ c.loop-place.totals c.in_ok-totals.totals c.loop-place.invariant.cells c.in_ok-totals.ensures.cell;
 }
 
 pub returns-clause-sums : goal.returns-clause-sums
 returns-clause-sums g c = adds_up c.args.passes.now.items c.args.opened.now c.loop-place.place c.loop-place.totals (omega (arith, c.loop-place-test.false, c.loop-place.auto.place-end)) c.loop-place.invariant.sums
+
+pub returns-clause-cells : goal.returns-clause-cells
+returns-clause-cells g c =
+    subst (λ (n : ℕ). AreOfCells c.args.passes.now.items n c.loop-place.totals.members c.loop-place.totals.records) (omega (arith, c.loop-place-test.false, c.loop-place.auto.place-end)) c.loop-place.invariant.cells
