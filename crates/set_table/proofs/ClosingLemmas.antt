@@ -1,17 +1,17 @@
 -- Totals over passes and places.
-use Rattle.std.proofs.Common.{◌≡◌, ℕ, ◌+◌, ◌-◌, ◌<◌, ◌∙◌, List, [], ◌∷◌, length, map, get_or, sym, ap, subst, add-one, refl, arith, zero, suc, min}
+use Rattle.std.proofs.Common.{◌≡◌, ℕ, ◌+◌, ◌-◌, ◌<◌, ◌∙◌, List, [], ◌∷◌, length, map, get_or, sym, ap, subst, add-one, refl, arith, zero, suc, min, inl, inr, ◌⊎◌}
 use Rattle.std.proofs.Math.Seq.{take-length}
 use Rattle.std.proofs.lemmas.List.{get_or-map, length-map, get_or_default, same_lists}
 use Rattle.std.specs.List.{sum_by}
 use Rattle.std.specs.List.Sorted.{IsPermutation}
 use Rattle.std.proofs.lemmas.List.Sums.{sum_by-cons, sum_by_more}
-use Rattle.std.proofs.lemmas.List.Sorted.{length_permutation, sum_by-IsPermutation}
+use Rattle.std.proofs.lemmas.List.Sorted.{IsPermutation-sym, length_permutation, sum_by-IsPermutation}
 use Rattle.set_table.specs.declared.counts.Tally.{Tally}
 use Rattle.set_table.specs.declared.table.close.totals.Totals.{Totals}
 use Rattle.set_table.specs.CellStates.{CellView, InStep}
 use Rattle.set_table.specs.WorkerPasses.{PassView}
 use Rattle.set_table.specs.Tallies.{empty_tally, added_of, removed_of}
-use Rattle.set_table.specs.ClosingTotals.{AddsUp, Agrees, AreOfCells, added_at, removed_at, members_at, sum_below, sum_of, pass_at, share_at, no_pass}
+use Rattle.set_table.specs.ClosingTotals.{AddsUp, Agrees, AreOfCells, HasOtherCell, HasOtherRecords, IsOutOfStep, added_at, removed_at, members_at, sum_below, sum_of, pass_at, share_at, no_pass}
 use Rattle.set_table.specs.ClosingSteps.{HaveShares, AddsCell, AddsPlace, AddsUpTo}
 use Rattle.set_table.proofs.PassOrder.{stands_in}
 
@@ -100,6 +100,30 @@ pub cells_permuted : (ps qs : List PassView) → IsPermutation ps qs → (n memb
 cells_permuted ps qs same zero members records h = h
 cells_permuted ps qs same (suc n) members records h =
     (h.0, agrees_permuted ps qs n h.0 same h.1, h.2, h.3, cells_permuted ps qs same n h.2 h.3 h.4, h.5, h.6)
+
+other_cell_permuted : (ps qs : List PassView) (opened : List ℕ) → IsPermutation ps qs → HasOtherCell qs opened → HasOtherCell ps opened
+other_cell_permuted ps qs opened same h = record {
+  place = h.place;
+  within = h.within;
+  cell = h.cell;
+  whole = h.whole;
+  differs = λ before agrees. h.differs before (agrees_permuted qs ps h.place h.cell (IsPermutation-sym ps qs same) agrees);
+}
+
+other_records_permuted : (ps qs : List PassView) (places before : ℕ) → IsPermutation ps qs → HasOtherRecords qs places before → HasOtherRecords ps places before
+other_records_permuted ps qs places before same h = record {
+  members = h.members;
+  records = h.records;
+  of_cells = cells_permuted ps qs same places h.members h.records h.of_cells;
+  appended = h.appended;
+  differs = h.differs;
+}
+
+pub out_of_step_permuted : (ps qs : List PassView) (opened : List ℕ) (before : ℕ) → IsPermutation ps qs → IsOutOfStep qs opened before → IsOutOfStep ps opened before
+out_of_step_permuted ps qs opened before same h = elim h [
+  | inl cell ↦ inl (other_cell_permuted ps qs opened same cell)
+  | inr records ↦ inr (other_records_permuted ps qs (length opened) before same records)
+]
 
 -- the order of the passes does not matter
 pub of_permuted : (ps qs : List PassView) (opened : List ℕ) (t : Totals) → IsPermutation ps qs → AddsUp qs opened t → AddsUp ps opened t

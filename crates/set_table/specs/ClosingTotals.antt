@@ -1,5 +1,5 @@
 -- What a table's passes come to together when the table is closed.
-use Rattle.std.specs.Prelude.{◌≡◌, ℕ, ◌+◌, ◌-◌, ◌<◌, min, List, [], length, zero, suc, Some}
+use Rattle.std.specs.Prelude.{◌≡◌, ℕ, ◌+◌, ◌-◌, ◌<◌, ◌⊎◌, min, List, [], length, zero, suc, Some}
 use Rattle.std.specs.List.{sum_by}
 use Rattle.std.proofs.Math.ListN.{get_or}
 use Rattle.std.specs.FinMap as fin
@@ -56,6 +56,26 @@ AreOfCells passes zero members records = (members ≡ 0) × (records ≡ 0)
 AreOfCells passes (suc n) members records =
     (cell : CellView) × Agrees passes n cell
     × (m : ℕ) × (r : ℕ) × AreOfCells passes n m r × (members ≡ m + fin.len cell.sorted_set.members) × (records ≡ r + cell.appended)
+
+-- a place's cell is out of step: its members at opening are others, or it does not tell what the passes were answered there
+pub record HasOtherCell (passes : List PassView) (opened : List ℕ) : Type 0 where
+  pub place : ℕ
+  pub within : place < length opened
+  pub cell : CellView
+  pub whole : IsWhole cell
+  pub differs : cell.opened ≡ get_or opened place 0 → Agrees passes place cell → ⊥
+
+-- the cells' records, with those before, are not as many as the log has
+pub record HasOtherRecords (passes : List PassView) (places before : ℕ) : Type 0 where
+  pub members : ℕ
+  pub records : ℕ
+  pub of_cells : AreOfCells passes places members records
+  pub appended : ℕ
+  pub differs : records + before ≡ appended → ⊥
+
+-- why a table whose passes are all there tells no totals
+abbrev pub IsOutOfStep : List PassView → List ℕ → ℕ → Type 0
+IsOutOfStep passes opened before = HasOtherCell passes opened ⊎ HasOtherRecords passes (length opened) before
 
 -- where two of the passes know a place's name, it is the same
 abbrev pub AgreeAt : List PassView → ℕ → Type 0

@@ -230,6 +230,7 @@ impl<H: BuildHasher, S: LogSink, L: Ledger, A: Allocator + Copy> Table<H, S, L, 
     {
         if command.creates() {
             pass.spare.keep()?;
+            return self.run_at(rt, pass, place, command, gate);
         }
         let ran = self.run_at(rt, pass, place, command, gate);
         if matches!(ran, Err(Refusal::NoMemory)) && command.removes() && pass.spare.let_go() {

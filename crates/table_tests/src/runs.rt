@@ -1,6 +1,6 @@
 //! How many runs a place answers.
 
-ghost use Rattle.std.specs.Prelude.{◌≡◌, ◌≤◌, ◌^◌, None};
+ghost use Rattle.std.specs.Prelude.{◌≡◌, ◌≤◌, None};
 ghost use Rattle.set_table.specs.WorkerPasses.{IsPassOf};
 
 use crate::exchange::{Owner, Sets, Size, answers, command, opened, owner_of};
@@ -43,8 +43,10 @@ fn at_the_end<L: Ledger, R: Wait + AllocGlobal>(
     requires name { blank.name ≡ L.name }
     requires parts { blank.parts ≡ L.parts }
     requires many { 6 ≤ blank.parts }
-    requires max_runs { (1 ≤ max_runs) × (max_runs ≤ 2 ^ 40) }
 {
+    if max_runs == 0 || max_runs > 1_000_000 {
+        return Err("no such table")?;
+    }
     let size = Size {
         places: 4,
         max_runs,

@@ -1,10 +1,10 @@
 //! The end of a table: the passes are gathered, and what they tell is compared with the cells.
 
-ghost use Rattle.std.specs.Prelude.{◌≡◌, ◌+◌, ◌*◌, ◌<◌, ◌≤◌, ◌^◌, ◌↔◌, ℕ, length, IfErr, IfOk, IfSome, OnOk, IsTrue};
+ghost use Rattle.std.specs.Prelude.{◌≡◌, ◌+◌, ◌*◌, ◌<◌, ◌≤◌, ◌^◌, ◌↔◌, ℕ, length, IfErr, IfNone, IfOk, IfSome, OnOk, IsTrue};
 ghost use Rattle.std.proofs.Math.ListN.{get_or};
 ghost use Rattle.set_table.specs.CellStates.{InStep};
 ghost use Rattle.set_table.specs.ClosingSteps.{AddsCell, AddsPlace, HaveShares, IsBounded};
-ghost use Rattle.set_table.specs.ClosingTotals.{AddsUp, AgreeAt, AreNumbered, AreOfCells, HaveOnePlace, pass_at, share_at};
+ghost use Rattle.set_table.specs.ClosingTotals.{AddsUp, AgreeAt, Agrees, AreNumbered, AreOfCells, HasOtherCell, HaveOnePlace, IsOutOfStep, pass_at, share_at};
 ghost use Rattle.set_table.specs.WorkerPasses.{IsPassOf};
 
 mod agreement;
@@ -48,7 +48,8 @@ impl<H: BuildHasher + Drop, S: LogSink + Drop, L: Ledger, A: Allocator + Copy> T
     /// passes are not 0 to the last, each once; [`CloseFault::OutOfStep`] where a cell and a pass
     /// are not in step, or the cells' records are not those that the log took since the table was
     /// opened. With the table's own passes that would be a fault of this crate. No contract sees what
-    /// stands behind the locks, so the numbers are compared here, and that they agree is not proved.
+    /// stands behind the locks, so the numbers are compared here, and that they agree is not proved:
+    /// promised is that there is such a cell, or log, where that is answered.
     pub fn close(self, passes: Vec<Pass<A>, A>) -> Result<(Totals, Log<S, L>), CloseFault>
         requires own { (i : ℕ) → i < length passes.items → IsPassOf self (pass_at passes.items i) }
         ensures totals { IfOk result (λ closed. AddsUp passes.items self.opened closed.0) }
@@ -62,6 +63,8 @@ impl<H: BuildHasher + Drop, S: LogSink + Drop, L: Ledger, A: Allocator + Copy> T
         ensures numbered { OnOk result (AreNumbered passes.items self.passes) }
         ensures missing { IfErr result (λ fault. (fault ≡ CloseFault.MissingPass)
             ↔ (AreNumbered passes.items self.passes → ⊥)) }
+        ensures out_of_step { IfErr result (λ fault. fault ≡ CloseFault.OutOfStep
+            → IsOutOfStep passes.items self.opened self.records_before) }
     {
         let mut passes = passes;
         compare_names(&self.names, &mut passes);
@@ -83,6 +86,8 @@ impl<H: BuildHasher + Drop, S: LogSink + Drop, L: Ledger, A: Allocator + Copy> T
             (λ closed. closed.0.records + self.records_before ≡ closed.1.appended) }
         ensures cells { IfSome result (λ closed. AreOfCells passes.now.items (length self.opened)
             closed.0.members closed.0.records) }
+        ensures none { IfNone result
+            (IsOutOfStep passes.now.items self.opened self.records_before) }
     {
         let Table {
             names: _names,
@@ -125,6 +130,7 @@ fn add_places<H: BuildHasher, L: Ledger, A: Allocator + Copy>(
     ensures bound { IfSome result (λ totals. totals.records ≤ 4096 * 2 ^ 64) }
     ensures cells { IfSome result (λ totals. AreOfCells passes.now.items (length opened.now)
         totals.members totals.records) }
+    ensures none { IfNone result (HasOtherCell passes.now.items opened.now) }
 {
     let mut totals = Totals::none();
     for place in 0..opened.len() {
@@ -148,6 +154,8 @@ fn add_place<H: BuildHasher, L: Ledger, A: Allocator + Copy>(
     ensures sums { IfSome result (λ more. AddsPlace passes.now.items place opened totals more) }
     ensures bound { IfSome result (λ more. IsBounded (place + 1) more) }
     ensures cell { IfSome result (λ more. AddsCell passes.now.items place cell.now totals more) }
+    ensures none { IfNone result
+        (cell.now.opened ≡ opened → Agrees passes.now.items place cell.now → ⊥) }
 {
     let numbers = cell.numbers();
     if numbers.opened != opened
