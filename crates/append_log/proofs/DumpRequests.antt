@@ -9,9 +9,9 @@ use Rattle.zset_core.proofs.CallerLemmas.{whole_empty}
 use Rattle.zset_core.specs.SortedSet.{Members, Pair, whole}
 use Rattle.zset_core.specs.World.{World, set_at}
 use Rattle.zset_core.specs.ExpressibleWorld.{IsSpelled, IsBoundedAt, IsBoundedWorld}
-use Rattle.append_log.specs.Records.{AreRecords}
 use Rattle.append_log.specs.Dump.{add_record, cut_pieces, set_records, records_at}
 use Rattle.append_log.proofs.AddRecord.{pair_words, length-pair_words}
+use Rattle.append_log.proofs.RecordTexts.{AreRequests}
 use Rattle.append_log.proofs.DumpReplay.{whole_spelled, each_take, each_drop}
 
 score_short : (s : ℤ) → IsScore s → IsArgument (score_text s)
@@ -35,7 +35,7 @@ add_request key ps word each few = record {
   each = all_of IsArgument (add_record key ps) (omega arith, (word, words_short ps each));
 }
 
-pieces_requests : (n : ℕ) (key : List ℕ) (ps : List Pair) → IsArgument key → AllByRecursion IsSpelled ps → AreRecords (map (add_record key) (cut_pieces n ps))
+pieces_requests : (n : ℕ) (key : List ℕ) (ps : List Pair) → IsArgument key → AllByRecursion IsSpelled ps → AreRequests (map (add_record key) (cut_pieces n ps))
 pieces_requests zero key ps word each = tt
 pieces_requests (suc n) key [] word each = tt
 pieces_requests (suc n) key (p ∷ ps) word each =
@@ -45,13 +45,13 @@ each-append : {X : Type 0} (P : X → Type 0) (xs ys : List X) → AllByRecursio
 each-append P [] ys one two = two
 each-append P (x ∷ xs) ys one two = (one.0, each-append P xs ys one.1 two)
 
-set_requests : (world : World) (key : List ℕ) → IsBoundedWorld world → AreRecords (set_records key (set_at world key))
+set_requests : (world : World) (key : List ℕ) → IsBoundedWorld world → AreRequests (set_records key (set_at world key))
 set_requests world key bounded = by (fin.get world key) (bounded key)
   where
-    by : (o : Option Members) → IfSome o (IsBoundedAt key) → AreRecords (set_records key (unwrap_or o fin.empty))
+    by : (o : Option Members) → IfSome o (IsBoundedAt key) → AreRequests (set_records key (unwrap_or o fin.empty))
     by None h = rw whole_empty tt
     by (Some m) h = pieces_requests (length (whole m)) key (whole m) h.key (whole_spelled m h.members)
 
-pub image_requests : (world : World) (keys : List (List ℕ)) → IsBoundedWorld world → AreRecords (records_at world keys)
+pub image_requests : (world : World) (keys : List (List ℕ)) → IsBoundedWorld world → AreRequests (records_at world keys)
 image_requests world [] bounded = tt
 image_requests world (key ∷ keys) bounded = each-append IsRequest (set_records key (set_at world key)) (records_at world keys) (set_requests world key bounded) (image_requests world keys bounded)

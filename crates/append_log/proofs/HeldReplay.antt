@@ -195,7 +195,7 @@ module _ (whole : (text : List ℕ) → (text ≡ flat_map encoding_of (items te
     damaged f w wrong =
         (new.held, count, f, waits_replayed w, ap item_at w.held_is ∙ wrong_of (item_at (rest old.held)) f (wrong_at old.held f wrong))
 
-    module _ (words : Record) (is_record : IsRequest words) (gave : Gave old new words) where
+    module _ (words : Record) (is_request : IsRequest words) (gave : Gave old new words) where
       each_skip : AllByRecursion IsItem gave.skips
       each_skip = skips_are_items gave.skips gave.skipped
 
@@ -212,7 +212,7 @@ module _ (whole : (text : List ℕ) → (text ≡ flat_map encoding_of (items te
       pub gives : (next : World) → new.fault ≡ None → after world words ≡ Some next → Holds start bytes new next (count + 1)
       gives next good leads =
           let others = gave.skips ++ Ask words ∷ [] in
-          let r = replayed_on start bytes old.taken old.held new.held world next count others h.replayed (items_push gave.skips words each_skip is_record)
+          let r = replayed_on start bytes old.taken old.held new.held world next count others h.replayed (items_push gave.skips words each_skip is_request)
           (gave.text ∙ sym (append_assoc (flat_map encoding_of gave.skips) (request words) new.held) ∙ ap (λ (l : List ℕ). l ++ new.held) (sym text_is))
           (ap (replay world) asks_one ∙ replay-one world words ∙ leads) in
           record {
@@ -238,7 +238,7 @@ module _ (whole : (text : List ℕ) → (text ≡ flat_map encoding_of (items te
                 refl
                 (omega (arith, ap length none))
                 r,
-            record { words = words; more = new.held; is_record = is_record; bytes_are = refl; refused = refused },
+            record { words = words; more = new.held; is_request = is_request; bytes_are = refl; refused = refused },
           )
 
 -- what a reload has done between two reads

@@ -2,8 +2,8 @@
 use Rattle.std.proofs.Common.{◌≡◌, ℕ, ◌+◌, ◌^◌, ◌<◌, ◌≤◌, List, [], ◌∷◌, ◌++◌, length, take, drop, refl, sym, ◌∙◌, ap, subst, arith, append_assoc, length-append, Option, None, Some, true, false, IfSome}
 use Rattle.std.proofs.lemmas.List.{append-nil, take-append-drop, length-take-le, length_push}
 use Rattle.std.specs.Io.KnownBytes.{append_known}
-use Rattle.resp_wire.specs.RequestEncoding.{IsRequest, request}
-use Rattle.append_log.specs.Records.{Record, text_of}
+use Rattle.resp_wire.specs.RequestEncoding.{request}
+use Rattle.append_log.specs.Records.{Record, IsRecord, text_of}
 use Rattle.append_log.specs.Log.{LogView, IsLog, HasRecords, Ends, Appends, Breaks}
 use Rattle.append_log.proofs.RecordTexts.{text_of-push, AreRecords-push}
 
@@ -18,7 +18,7 @@ module _ (bytes : List ℕ) (records : List Record) (synced appended written : �
   flat_size : length (text_of records) ≡ written
   flat_size = ap length (sym tail_off) ∙ s.size
 
-  pub ends_appends : (entry : Record) → IsRequest entry
+  pub ends_appends : (entry : Record) → IsRecord entry
       → Ends (bytes ++ request entry) (records ++ entry ∷ []) (length (bytes ++ request entry)) (appended + 1) (written + length (request entry)) false
   ends_appends entry is =
       let pushed = text_of-push records entry in
@@ -38,7 +38,7 @@ module _ (bytes : List ℕ) (records : List Record) (synced appended written : �
         durable = λ _. omega (arith, ap length all);
       }
 
-  pub ends_breaks : (out : ℕ) (entry : Record) → IsRequest entry → out ≤ length (request entry)
+  pub ends_breaks : (out : ℕ) (entry : Record) → IsRecord entry → out ≤ length (request entry)
       → Ends (bytes ++ take out (request entry)) records synced appended (written + out) true
   ends_breaks out entry is le =
       let front = take out (request entry) in
@@ -53,7 +53,7 @@ module _ (bytes : List ℕ) (records : List Record) (synced appended written : �
         durable = s.durable;
       }
 
-told_appends : (told : Option (List ℕ)) (records : List Record) (synced synced' appended written : ℕ) (entry : Record) → IsRequest entry
+told_appends : (told : Option (List ℕ)) (records : List Record) (synced synced' appended written : ℕ) (entry : Record) → IsRecord entry
     → IfSome told (λ bytes. Ends bytes records synced appended written false)
     → IfSome (append_known told (request entry)) (λ all. synced' ≡ length all)
     → IfSome (append_known told (request entry)) (λ bytes. Ends bytes (records ++ entry ∷ []) synced' (appended + 1) (written + length (request entry)) false)
@@ -61,25 +61,25 @@ told_appends None records synced synced' appended written entry is s e = tt
 told_appends (Some bytes) records synced synced' appended written entry is s e =
     subst (λ (n : ℕ). Ends (bytes ++ request entry) (records ++ entry ∷ []) n (appended + 1) (written + length (request entry)) false) (sym e) (ends_appends bytes records synced appended written s entry is)
 
-told_breaks : (told : Option (List ℕ)) (records : List Record) (synced appended written out : ℕ) (entry : Record) → IsRequest entry → out ≤ length (request entry)
+told_breaks : (told : Option (List ℕ)) (records : List Record) (synced appended written out : ℕ) (entry : Record) → IsRecord entry → out ≤ length (request entry)
     → IfSome told (λ bytes. Ends bytes records synced appended written false)
     → IfSome (append_known told (take out (request entry))) (λ bytes. Ends bytes records synced appended (written + out) true)
 told_breaks None records synced appended written out entry is le s = tt
 told_breaks (Some bytes) records synced appended written out entry is le s = ends_breaks bytes records synced appended written s out entry is le
 
 -- an append that went well puts its record behind those that stand
-pub has_appends : (old new : LogView) (entry : Record) (records : List Record) → old.broken ≡ false → IsRequest entry → Appends old new (request entry) → HasRecords old records → HasRecords new (records ++ entry ∷ [])
+pub has_appends : (old new : LogView) (entry : Record) (records : List Record) → old.broken ≡ false → IsRecord entry → Appends old new (request entry) → HasRecords old records → HasRecords new (records ++ entry ∷ [])
 has_appends old new entry records good is a has =
     let was = rw good at has in
     rw (a.told, a.appended, a.written, a.broken, good) (told_appends old.told records old.synced new.synced old.appended old.written entry is was (rw a.told at a.synced))
 
 -- one that failed leaves those that stand
-pub has_breaks : (old new : LogView) (entry : Record) (records : List Record) → old.broken ≡ false → IsRequest entry → Breaks old new (request entry) → HasRecords old records → HasRecords new records
+pub has_breaks : (old new : LogView) (entry : Record) (records : List Record) → old.broken ≡ false → IsRecord entry → Breaks old new (request entry) → HasRecords old records → HasRecords new records
 has_breaks old new entry records good is b has =
     let was = rw good at has in
     rw (b.told, b.synced, b.appended, b.written, b.broken) (told_breaks old.told records old.synced old.appended old.written b.out entry is b.at_most was)
 
-pub is_log_appends : (old new : LogView) (entry : Record) → IsLog old → old.broken ≡ false → old.appended < old.limit → IsRequest entry → length (request entry) < 2 ^ 64 → Appends old new (request entry) → IsLog new
+pub is_log_appends : (old new : LogView) (entry : Record) → IsLog old → old.broken ≡ false → old.appended < old.limit → IsRecord entry → length (request entry) < 2 ^ 64 → Appends old new (request entry) → IsLog new
 is_log_appends old new entry log good room is fits a =
     let before = log.small_whole good in
     record {
@@ -92,7 +92,7 @@ is_log_appends old new entry log good room is fits a =
       has_part = omega (arith, a.parts, log.has_part);
     }
 
-pub is_log_breaks : (old new : LogView) (entry : Record) → IsLog old → old.broken ≡ false → IsRequest entry → length (request entry) < 2 ^ 64 → Breaks old new (request entry) → IsLog new
+pub is_log_breaks : (old new : LogView) (entry : Record) → IsLog old → old.broken ≡ false → IsRecord entry → length (request entry) < 2 ^ 64 → Breaks old new (request entry) → IsLog new
 is_log_breaks old new entry log good is fits b =
     let before = log.small_whole good in
     record {

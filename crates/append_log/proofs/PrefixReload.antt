@@ -9,7 +9,7 @@ use Rattle.resp_wire.specs.Parser.{item_at}
 use Rattle.resp_wire.specs.Stream.{items, rest}
 use Rattle.append_log.specs.Records.{Record, text_of, AreRecords, ReadsPrefix}
 use Rattle.append_log.specs.Log.{LogView, IsLog, Ends, Readable}
-use Rattle.append_log.proofs.RecordTexts.{text_of-push, AreRecords-push, reads_text, nothing_short}
+use Rattle.append_log.proofs.RecordTexts.{AreRequests, requests_of, text_of-push, AreRecords-push, reads_text, nothing_short}
 
 -- a prefix by its parts: whole records, and less than one more
 record Parts (bytes : List ℕ) (records : List Record) : Type 0 where
@@ -17,7 +17,7 @@ record Parts (bytes : List ℕ) (records : List Record) : Type 0 where
   part : List ℕ
   at_most : count ≤ length records
   whole : bytes ≡ text_of (take count records) ++ part
-  each : AreRecords (take count records)
+  each : AreRequests (take count records)
   short : item_at part ≡ Err Short
   reaches : (k : ℕ) → k ≤ length records → length (text_of (take k records)) ≤ length bytes → k ≤ count
 
@@ -76,7 +76,7 @@ one_more entry records bytes is p = record {
   reaches = reach_more entry records bytes p.count p.reaches;
 }
 
-parts_of : (shorts : IsShort) → item_at [] ≡ Err Short → (records : List Record) → AreRecords records → (n : ℕ) → n ≤ length (text_of records) → Parts (take n (text_of records)) records
+parts_of : (shorts : IsShort) → item_at [] ≡ Err Short → (records : List Record) → AreRequests records → (n : ℕ) → n ≤ length (text_of records) → Parts (take n (text_of records)) records
 parts_of shorts empty [] each n le = record {
   count = 0;
   part = take n [];
@@ -99,7 +99,7 @@ parts_of shorts empty (entry ∷ records) each n le =
     ]
 
 module _ (whole : (text : List ℕ) → (text ≡ flat_map encoding_of (items text) ++ rest text) × AllByRecursion IsItem (items text)) (most : IsLongest) (shorts : IsShort) where
-  reads_front : (records : List Record) → AreRecords records → (n : ℕ) → n ≤ length (text_of records) → ReadsPrefix (take n (text_of records)) records
+  reads_front : (records : List Record) → AreRequests records → (n : ℕ) → n ≤ length (text_of records) → ReadsPrefix (take n (text_of records)) records
   reads_front records each n le =
       let p = parts_of shorts nothing_short records each n le in
       let read = reads_text whole most (take n (text_of records)) (take p.count records) p.part p.each p.short p.whole in
@@ -124,13 +124,15 @@ module _ (whole : (text : List ℕ) → (text ≡ flat_map encoding_of (items te
         size = s.size;
         count = s.count;
         at_most_one = omega arith;
-        prefixes = λ n le. rw (all, flat) (reads_front records s.each n (omega (arith, le, s.size, ap length flat)));
+        each = rw all s.each;
+        prefixes = λ n le. rw (all, flat) (reads_front records (requests_of records s.each) n (omega (arith, le, s.size, ap length flat)));
         durable = λ some n reach. omega (arith, reach, s.durable some, length-append s.before (text_of records));
       }
   readable bytes records synced appended written true s =
       let last = text_of records ++ s.tail in
       let front = s.rest in
       let all = records ++ front.record_of ∷ [] in
+      let each = AreRecords-push records front.record_of s.each front.is_record in
       let whole_text : text_of all ≡ last ++ front.more =
       text_of-push records front.record_of ∙ ap (λ (l : List ℕ). text_of records ++ l) (sym front.whole) ∙ sym (append_assoc (text_of records) s.tail front.more) in
       let inside : (n : ℕ) → n ≤ written → take n last ≡ take n (text_of all) =
@@ -144,7 +146,8 @@ module _ (whole : (text : List ℕ) → (text ≡ flat_map encoding_of (items te
         size = s.size;
         count = s.count;
         at_most_one = omega arith;
-        prefixes = λ n le. subst (λ (l : List ℕ). ReadsPrefix l all) (sym (inside n le)) (reads_front all (AreRecords-push records front.record_of s.each front.is_record) n (omega (arith, le, s.size, ap length whole_text, length-append last front.more)));
+        each = each;
+        prefixes = λ n le. subst (λ (l : List ℕ). ReadsPrefix l all) (sym (inside n le)) (reads_front all (requests_of all each) n (omega (arith, le, s.size, ap length whole_text, length-append last front.more)));
         durable = λ some n reach. omega (arith, reach, s.durable some, length-append s.before (text_of records));
       }
 

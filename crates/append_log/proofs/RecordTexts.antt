@@ -6,15 +6,23 @@ use Rattle.resp_wire.specs.declared.fault.Stop.TheVariants.{Short}
 use Rattle.resp_wire.specs.RequestEncoding.{Item, Ask, SkipZero, SkipMinus, IsItem, IsRequest, request, encoding_of}
 use Rattle.resp_wire.specs.Parser.{item_at, head_at, byte_at}
 use Rattle.resp_wire.specs.Stream.{fault_of, prepend_item, split_items, asked, items, requests, rest, fault}
-use Rattle.append_log.specs.Records.{Record, text_of, AreRecords}
+use Rattle.append_log.specs.Records.{Record, IsRecord, text_of, AreRecords}
 
 pub text_of-push : (records : List Record) (one : Record) → text_of (records ++ one ∷ []) ≡ text_of records ++ request one
 text_of-push [] one = append-nil (request one)
 text_of-push (first ∷ records) one = ap (λ (l : List ℕ). request first ++ l) (text_of-push records one) ∙ sym (append_assoc (request first) (text_of records) (request one))
 
-pub AreRecords-push : (records : List Record) (one : Record) → AreRecords records → IsRequest one → AreRecords (records ++ one ∷ [])
+pub AreRecords-push : (records : List Record) (one : Record) → AreRecords records → IsRecord one → AreRecords (records ++ one ∷ [])
 AreRecords-push [] one each is = (is, tt)
 AreRecords-push (first ∷ records) one each is = (each.0, AreRecords-push records one each.1 is)
+
+-- what is read of a text says of its records that they are requests
+abbrev pub AreRequests : List Record → Type 0
+AreRequests records = AllByRecursion IsRequest records
+
+pub requests_of : (records : List Record) → AreRecords records → AreRequests records
+requests_of [] each = tt
+requests_of (first ∷ records) each = (each.0.is_request, requests_of records each.1)
 
 pub items_of : List Record → List Item
 items_of records = map Ask records
@@ -24,7 +32,7 @@ unfolding items_of
 text_of-items [] = refl
 text_of-items (first ∷ records) = ap (λ (l : List ℕ). request first ++ l) (text_of-items records)
 
-pub items_of-each : (records : List Record) → AreRecords records → AllByRecursion IsItem (items_of records)
+pub items_of-each : (records : List Record) → AreRequests records → AllByRecursion IsItem (items_of records)
 unfolding items_of
 items_of-each [] each = tt
 items_of-each (first ∷ records) each = (each.0, items_of-each records each.1)
@@ -65,7 +73,7 @@ asks bytes records is = ap asked is ∙ asked-items records
 -- the text of records, and behind it what is no item yet
 pub reads_text : ((text : List ℕ) → (text ≡ flat_map encoding_of (items text) ++ rest text) × AllByRecursion IsItem (items text))
     → ((others : List Item) (more : List ℕ) → AllByRecursion IsItem others → items (flat_map encoding_of others ++ more) ≡ others ++ items more)
-    → (bytes : List ℕ) (records : List Record) (part : List ℕ) → AreRecords records → item_at part ≡ Err Short → bytes ≡ text_of records ++ part
+    → (bytes : List ℕ) (records : List Record) (part : List ℕ) → AreRequests records → item_at part ≡ Err Short → bytes ≡ text_of records ++ part
     → (requests bytes ≡ records) × (fault bytes ≡ None) × (rest bytes ≡ part)
 reads_text whole most bytes records part each short is =
     let spelt : bytes ≡ flat_map encoding_of (items_of records) ++ part = is ∙ ap (λ (l : List ℕ). l ++ part) (sym (text_of-items records)) in

@@ -94,6 +94,7 @@ pub record Readable (bytes : List ℕ) (synced appended written : ℕ) : Type 0 
   pub size : length last ≡ written
   pub count : length records ≡ appended
   pub at_most_one : length one ≤ 1
+  pub each : AreRecords (records ++ one)
   pub prefixes : (n : ℕ) → n ≤ written → ReadsPrefix (take n last) (records ++ one)
   -- a prefix that reaches the last good sync has all appended records
   pub durable : 0 < appended → (n : ℕ) → synced ≤ length before + n → length (text_of records) ≤ n

@@ -23,11 +23,11 @@ pub record Replayed (start : World) (bytes : List ℕ) (at : ℕ) (behind : List
   pub replayed : replay start (requests front) ≡ Some world
   pub count_is : count ≡ length (requests front)
 
--- a record that no replay takes stands at the start of these bytes
+-- a request that no replay takes stands at the start of these bytes
 pub record IsNoCommand (world : World) (bytes : List ℕ) : Type 0 where
   pub words : Record
   pub more : List ℕ
-  pub is_record : IsRequest words
+  pub is_request : IsRequest words
   pub bytes_are : bytes ≡ request words ++ more
   pub refused : after world words ≡ None
 

@@ -19,13 +19,14 @@ use std::marker::Model;
 use std::sync::ledger::Ledger;
 use zset_core::{Command, OneOwner, Refusal};
 
-/// Appends the record of a command.
+/// Appends the record of a command that changes sets.
 fn append_command<S: LogSink, L: Ledger, A: Allocator + Copy>(
     alloc: A,
     log: &mut Log<S, L>,
     share: &mut RecordShare<L>,
     command: &Command<A>,
 ) -> Result<(), Refusal>
+    requires writing { IsTrue (is_writing command.now.meaning) }
     ensures ok { OnOk result (Appends log.old log.new (request command.now.words)) }
     ensures unbroken { OnOk result (log.old.broken ≡ false) }
     ensures share { share.new ≡ share_after share.old result }
@@ -34,7 +35,7 @@ fn append_command<S: LogSink, L: Ledger, A: Allocator + Copy>(
     ensures records { (records : _) → HasRecords log.old records
         → HasRecords log.new (records_after records command.now.words result) }
 {
-    let entry = Record::of_request(alloc, command.request())?;
+    let entry = Record::of_command(alloc, command)?;
     log.append(share, &entry)
 }
 

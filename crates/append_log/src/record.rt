@@ -1,10 +1,11 @@
 //! Records.
 
 ghost use Rattle.std.specs.Prelude.{◌≡◌, List, ℕ, Some, IfOk, IfSome, IsTrue};
-ghost use Rattle.resp_wire.specs.RequestEncoding.{request, IsRequest};
+ghost use Rattle.resp_wire.specs.RequestEncoding.{request};
 ghost use Rattle.zset_core.specs.AbstractCommand.{key_of, is_writing};
 ghost use Rattle.zset_core.specs.SetAndOwnerViews.{IsPreparedFor};
 ghost use Rattle.zset_core.specs.World.{World as WorldType, set_at, put_set};
+ghost use Rattle.append_log.specs.Records.{IsRecord};
 ghost use Rattle.append_log.specs.Replay.{after};
 
 use resp_wire::{Request, write_request};
@@ -24,14 +25,14 @@ pub struct Record<A: Allocator> {
 
 impl<A: Allocator> Model for Record<A> {
     ghost use Rattle.std.specs.Prelude.{◌≡◌};
-    ghost use Rattle.resp_wire.specs.RequestEncoding.{request, IsRequest};
-    ghost use Rattle.append_log.specs.Records.{Record as Words};
+    ghost use Rattle.resp_wire.specs.RequestEncoding.{request};
+    ghost use Rattle.append_log.specs.Records.{Record as Words, IsRecord};
 
     ghost Value = { Words };
 
     ghost view = { λ r. r.words.value };
 
-    ghost invariant = { λ r. IsRequest r.words.value × (r.text.items ≡ request r.words.value) };
+    ghost invariant = { λ r. IsRecord r.words.value × (r.text.items ≡ request r.words.value) };
 }
 
 impl<A: Allocator + Copy> Record<A> {
@@ -52,12 +53,16 @@ impl<A: Allocator + Copy> Record<A> {
             ≡ Some (put_set world key next.members))) }
     {
         let _ = set;
-        Self::of_request(alloc, command.request())
+        let _request = command.request();
+        Self::of_command(alloc, command)
     }
 
-    pub(crate) fn of_request(alloc: A, wanted: &Request<A>) -> Result<Self, AllocError>
-        ensures { IfOk result (λ entry. entry ≡ wanted.now) }
+    /// The record of a command that changes sets.
+    pub(crate) fn of_command(alloc: A, command: &Command<A>) -> Result<Self, AllocError>
+        requires writing { IsTrue (is_writing command.now.meaning) }
+        ensures { IfOk result (λ entry. entry ≡ command.now.words) }
     {
+        let wanted = command.request();
         let _words = wanted.words();
         let mut text = Vec::new(alloc);
         write_request(wanted, &mut text)?;
@@ -72,7 +77,7 @@ impl<A: Allocator> Record<A> {
     /// The record's bytes.
     pub fn text(&self) -> &[u8]
         ensures text { result.now ≡ request self.now }
-        ensures is_record { IsRequest self.now }
+        ensures is_record { IsRecord self.now }
     {
         &self.text
     }
