@@ -9,6 +9,8 @@ mod merges;
 #[cfg(test)]
 mod removals;
 #[cfg(test)]
+mod sizes;
+#[cfg(test)]
 mod steps;
 #[cfg(test)]
 mod want_of_memory;

@@ -308,3 +308,73 @@ fn a_long_piece_does_without_inner_pivots(rt: HostRuntime) -> Result<(), Fail> {
     }
     Ok(())
 }
+
+/// Ranges near the low end of a column and in its middle, which rows leave.
+const REMOVED: [Range; 3] = [
+    FOUR,
+    Range {
+        min: Bound::Incl(5),
+        max: Bound::Excl(9),
+    },
+    ALL,
+];
+
+/// Whether a column that has an answer for a range lets its rows go without an allocation.
+fn leaves_without_memory<A: Allocator + Copy>(
+    alloc: A,
+    fuse: &Fuse<Global>,
+    setup: Setup,
+    range: &Range,
+) -> Result<bool, AllocError> {
+    let mut column = made(alloc, setup)?;
+    column.narrow(&ALL, 1000, 1010);
+    column.select(range)?;
+    let before = column.len();
+    fuse.arm(1);
+    column.remove_rows(range);
+    let is_armed = fuse.is_armed();
+    fuse.arm(0);
+    Ok(is_armed && column.len() < before)
+}
+
+#[test]
+fn rows_leave_without_memory(rt: HostRuntime) -> Result<(), Fail> {
+    for first in [10u16, 4097] {
+        let setup = Setup {
+            first,
+            ranges: 0,
+            then: 0,
+        };
+        for range in REMOVED {
+            let fuse = Fuse::new(rt.alloc(), 0);
+            assert!(rt; leaves_without_memory(&fuse, &fuse, setup, &range)?);
+        }
+    }
+    Ok(())
+}
+
+/// Whether the rows that wait in a column are merged without an allocation.
+fn merges_without_memory<A: Allocator + Copy>(
+    alloc: A,
+    fuse: &Fuse<Global>,
+    setup: Setup,
+) -> Result<bool, AllocError> {
+    let mut column = made(alloc, setup)?;
+    let waiting = column.pending().0;
+    fuse.arm(1);
+    column.merge_all()?;
+    let is_armed = fuse.is_armed();
+    fuse.arm(0);
+    Ok(is_armed && waiting > 0)
+}
+
+// Beside many rows there is room for those that wait, so that rows can leave where there is none left.
+#[test]
+fn rows_beside_many_are_merged_without_memory(rt: HostRuntime) -> Result<(), Fail> {
+    for then in [1u16, 100, 2000] {
+        let setup = Setup { then, ..LONG };
+        let fuse = Fuse::new(rt.alloc(), 0);
+        assert!(rt; merges_without_memory(&fuse, &fuse, setup)?, "{then}");
+    }
+    Ok(())
+}

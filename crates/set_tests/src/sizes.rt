@@ -3,6 +3,7 @@
 ghost use Rattle.std.specs.Prelude.{◌≡◌, None};
 
 use crate::examples::{Owner, command, reply_to, text_of};
+use ripple_column::Column;
 use std::alloc::Global;
 use std::hash::RandomState;
 use std::test::Fail;
@@ -121,6 +122,41 @@ fn a_large_set_is_answered(rt: HostRuntime) -> Result<(), Fail> {
         ("ZCOUNT k -inf +inf", ":120000~"),
     ];
     expect(alloc, &mut owner, &talk)
+}
+
+/// How many rows stand between the pivots around a place.
+fn rows_around(column: &Column<Global>, place: usize) -> usize {
+    let (mut from, mut to) = (0, column.len());
+    for (_, at) in column.piece_list() {
+        if *at <= place {
+            from = from.max(*at);
+        } else {
+            to = to.min(*at);
+        }
+    }
+    to.saturating_sub(from)
+}
+
+/// The same in the set at `k`, all of its rows where there is none.
+fn rows_of_k(owner: &Owner, place: usize) -> usize {
+    match owner.set(b"k") {
+        None => usize::MAX,
+        Some(set) => rows_around(set.column(), place),
+    }
+}
+
+// A window of a long set leaves short pieces, so that the next one reads few rows.
+#[test]
+fn a_window_leaves_short_pieces(rt: HostRuntime) -> Result<(), Fail> {
+    let alloc = rt.alloc();
+    let mut owner = OneOwner::new(alloc, RandomState::new(&rt)?);
+    fill(alloc, &mut owner, 9)?;
+    expect(alloc, &mut owner, &[("ZCOUNT k -inf +inf", ":4500~")])?;
+    assert_eq!(rt; rows_of_k(&owner, 2000), 4500);
+    let window = "ZRANGEBYSCORE k -inf +inf LIMIT 2000 2";
+    expect(alloc, &mut owner, &[(window, "*2~$5~m2000~$5~m2001~")])?;
+    assert!(rt; rows_of_k(&owner, 2000) <= 1024);
+    Ok(())
 }
 
 #[test]

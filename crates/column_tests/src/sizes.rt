@@ -1,0 +1,152 @@
+//! What a column takes, in a heap that counts it: the memory of rows that left, and of lists that were merged, comes
+//! back.
+
+ghost use Rattle.std.specs.Prelude.{◌<◌, ◌≤◌};
+
+use crack_kernel::Row;
+use linked_list_allocator::LocalHeap;
+use ripple_column::Column;
+use score_bounds::{Bound, Range};
+use short_bytes::ShortBytes;
+use std::alloc::{AllocError, Allocator};
+use std::test::*;
+
+/// A heap with more memory than the columns here need.
+const ROOM: usize = 1 << 20;
+
+const ALL: Range = Range {
+    min: Bound::NegInf,
+    max: Bound::PosInf,
+};
+
+/// A member that takes a block of its own.
+const LONG: [u8; 100] = [b'm'; 100];
+
+/// Adds a row.
+fn add<A: Allocator + Copy>(
+    alloc: A,
+    column: &mut Column<A>,
+    score: i64,
+    member: &[u8],
+) -> Result<(), AllocError> {
+    let row = Row::new(score, ShortBytes::from_slice(alloc, member)?);
+    column.reserve_write(1)?;
+    column.insert(row);
+    Ok(())
+}
+
+/// Adds so many rows with scores from 0 on.
+fn fill<A: Allocator + Copy>(
+    alloc: A,
+    column: &mut Column<A>,
+    count: u16,
+    member: &[u8],
+) -> Result<(), AllocError> {
+    for score in 0..count {
+        add(alloc, column, i64::from(score), member)?;
+    }
+    Ok(())
+}
+
+/// Takes the rows of a range out.
+fn remove<A: Allocator + Copy>(
+    column: &mut Column<A>,
+    min: Bound,
+    max: Bound,
+) -> Result<(), AllocError> {
+    let range = Range { min, max };
+    column.select(&range)?;
+    column.remove_rows(&range);
+    Ok(())
+}
+
+/// How many rows a window has, and how many come and leave at a turn.
+const WINDOW: i64 = 500;
+
+const STEP: i64 = 10;
+
+/// Adds the rows of a turn at the high end, and takes as many of the oldest out.
+fn turn<A: Allocator + Copy>(
+    alloc: A,
+    column: &mut Column<A>,
+    number: u16,
+) -> Result<(), AllocError> {
+    let low = STEP * i64::from(number);
+    for score in low..low + STEP {
+        add(alloc, column, score, b"m")?;
+    }
+    remove(column, Bound::NegInf, Bound::Excl(low + STEP - WINDOW))
+}
+
+/// Turns a window so many times.
+fn slide<A: Allocator + Copy>(
+    alloc: A,
+    column: &mut Column<A>,
+    turns: u16,
+) -> Result<(), AllocError> {
+    for number in 0..turns {
+        turn(alloc, column, number)?;
+    }
+    column.merge_all()
+}
+
+/// Twice what a window takes with its pivots. The rows that came would take as much again, and more.
+const ENOUGH: usize = 120_000;
+
+// The rows move up in their vector: it holds a window, and not the 7,500 rows that came.
+#[test]
+fn a_sliding_window_takes_no_more_memory(rt: HostRuntime) -> Result<(), Fail> {
+    let heap = LocalHeap::new(rt.alloc(), ROOM)?;
+    let mut column = Column::new(&heap);
+    slide(&heap, &mut column, 750)?;
+    assert_eq!(rt; column.len(), 500);
+    assert!(rt; heap.used() < ENOUGH, "{}", heap.used());
+    Ok(())
+}
+
+/// Ranges at either end of 1,000 rows and between them, of 400 rows each.
+const LEAVING: [(Bound, Bound); 3] = [
+    (Bound::NegInf, Bound::Excl(400)),
+    (Bound::Incl(300), Bound::Excl(700)),
+    (Bound::Incl(600), Bound::PosInf),
+];
+
+/// How many bytes more a heap has once the rows of a range left, with members that take blocks of their own.
+fn given_back(heap: &LocalHeap, min: Bound, max: Bound) -> Result<usize, AllocError> {
+    let mut column = Column::new(heap);
+    fill(heap, &mut column, 1000, &LONG)?;
+    column.select(&Range { min, max })?;
+    let used = heap.used();
+    column.remove_rows(&Range { min, max });
+    Ok(used.saturating_sub(heap.used()))
+}
+
+#[test]
+fn rows_that_left_give_their_blocks_back(rt: HostRuntime) -> Result<(), Fail> {
+    for (min, max) in LEAVING {
+        let heap = LocalHeap::new(rt.alloc(), ROOM)?;
+        let bytes = given_back(&heap, min, max)?;
+        assert!(rt; bytes >= 400 * LONG.len(), "{bytes}");
+    }
+    Ok(())
+}
+
+/// The bytes that a column takes while so many rows wait, and once they were merged.
+fn taken(heap: &LocalHeap, count: u16) -> Result<(usize, usize), AllocError> {
+    let mut column = Column::new(heap);
+    fill(heap, &mut column, count, b"m")?;
+    let waiting = heap.used();
+    column.select(&ALL)?;
+    Ok((waiting, heap.used()))
+}
+
+// The rows take as much in the column as in their list, which keeps nothing.
+#[test]
+fn a_merged_list_is_given_back(rt: HostRuntime) -> Result<(), Fail> {
+    for count in [10u16, 300, 900] {
+        let heap = LocalHeap::new(rt.alloc(), ROOM)?;
+        let (waiting, merged) = taken(&heap, count)?;
+        assert!(rt; merged <= waiting + waiting / 4, "{count}: {merged}");
+    }
+    Ok(())
+}
