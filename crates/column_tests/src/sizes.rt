@@ -65,7 +65,7 @@ const WINDOW: i64 = 500;
 
 const STEP: i64 = 10;
 
-/// Adds the rows of a turn at the high end, and takes as many of the oldest out.
+/// Adds the rows of a turn at the high end, merges them, and takes as many of the oldest out.
 fn turn<A: Allocator + Copy>(
     alloc: A,
     column: &mut Column<A>,
@@ -75,6 +75,7 @@ fn turn<A: Allocator + Copy>(
     for score in low..low + STEP {
         add(alloc, column, score, b"m")?;
     }
+    column.merge_all()?;
     remove(column, Bound::NegInf, Bound::Excl(low + STEP - WINDOW))
 }
 
@@ -87,7 +88,7 @@ fn slide<A: Allocator + Copy>(
     for number in 0..turns {
         turn(alloc, column, number)?;
     }
-    column.merge_all()
+    Ok(())
 }
 
 /// Twice what a window takes with its pivots. The rows that came would take as much again, and more.
@@ -115,6 +116,7 @@ const LEAVING: [(Bound, Bound); 3] = [
 fn given_back(heap: &LocalHeap, min: Bound, max: Bound) -> Result<usize, AllocError> {
     let mut column = Column::new(heap);
     fill(heap, &mut column, 1000, &LONG)?;
+    column.merge_all()?;
     column.select(&Range { min, max })?;
     let used = heap.used();
     column.remove_rows(&Range { min, max });
