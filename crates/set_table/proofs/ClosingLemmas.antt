@@ -1,5 +1,5 @@
 -- Totals over passes and places.
-use Rattle.std.proofs.Common.{◌≡◌, ℕ, ◌+◌, ◌-◌, ◌<◌, ◌∙◌, List, [], ◌∷◌, length, map, get_or, sym, ap, subst, add-one, refl, arith, zero, suc, min, inl, inr, ◌⊎◌}
+use Rattle.std.proofs.Common.{◌≡◌, ℕ, ◌+◌, ◌-◌, ◌<◌, ◌∙◌, List, [], ◌∷◌, length, map, get_or, sym, ap, subst, add-one, refl, arith, zero, suc, min, inl, inr, ◌⊎◌, Option, None, Some, IfNone}
 use Rattle.std.proofs.Math.Seq.{take-length}
 use Rattle.std.proofs.lemmas.List.{get_or-map, length-map, get_or_default, same_lists}
 use Rattle.std.specs.List.{sum_by}
@@ -48,6 +48,10 @@ sums_at c ps places place own less len steps =
       removed = ap removed_of e ∙ sum_of_tallies (λ r. r.removed) place ps;
     }
 
+pub IfNone-any : {X : Type 0} (o : Option X) (P : Type 0) → P → IfNone o P
+IfNone-any None P h = h
+IfNone-any (Some x) P h = tt
+
 sum_below-more : (n : ℕ) (f : ℕ → ℕ) → sum_below (n + 1) f ≡ sum_below n f + f n
 sum_below-more n f = rw add-one refl
 
@@ -90,7 +94,7 @@ cells_more ps n cell s t h m = rw add-one (cell, m.agrees, s.members, s.records,
 agrees_permuted : (ps qs : List PassView) (place : ℕ) (cell : CellView) → IsPermutation ps qs → Agrees qs place cell → Agrees ps place cell
 agrees_permuted ps qs place cell same h = record {
   whole = h.whole;
-  as_many = h.as_many ∙ sym (length_permutation ps qs same);
+  as_many = h.as_many ∙ length_permutation ps qs same;
   in_step = λ i less.
       let j = stands_in ps qs i same less in
       subst (λ (p : PassView). InStep cell (share_at p place)) j.2 (h.in_step j.0 j.1);

@@ -1,7 +1,8 @@
-use Rattle.std.proofs.Common.{◌∙◌, ℕ, List, ap, sym, subst, arith, rules, length}
+use Rattle.std.proofs.Common.{◌∙◌, ℕ, List, ap, sym, subst, arith, rules, length, inl, inr}
 use Rattle.set_table.specs.WorkerPasses.{TableView}
-use Rattle.set_table.specs.ClosingTotals.{AddsUp, AreOfCells}
+use Rattle.set_table.specs.ClosingTotals.{AddsUp, AreOfCells, HasOtherCell, IsOutOfStep}
 use Rattle.set_table.specs.ClosingSteps.{HaveShares}
+use Rattle.set_table.proofs.ClosingLemmas.{IfNone-any}
 use Rattle.set_table.proofs.table.Table.add_up.Goals as goal
 
 pub add_places-requires-clause-own : goal.add_places-requires-clause-own
@@ -19,3 +20,18 @@ returns-clause-records g c =
 pub returns-clause-cells : goal.returns-clause-cells
 returns-clause-cells g c =
     subst (λ (xs : List ℕ). AreOfCells c.args.passes.now.items (length xs) c.in_ok-totals.totals.members c.in_ok-totals.totals.records) (c.deref.ensures.value ∙ ap (λ (v : TableView). v.opened) c.self.view_is) c.in_ok-totals.ensures.cells
+
+pub returns-in_err-totals-clause-none : goal.returns-in_err-totals-clause-none
+returns-in_err-totals-clause-none g c =
+    IfNone-any c.from_residual.result (IsOutOfStep c.args.passes.now.items c.args.self.opened c.args.self.records_before)
+    (inl (subst (λ (xs : List ℕ). HasOtherCell c.args.passes.now.items xs) (c.deref.ensures.value ∙ ap (λ (v : TableView). v.opened) c.self.view_is) c.in_err-totals.ensures.none))
+
+pub returns-then-not-are_appended-clause-none : goal.returns-then-not-are_appended-clause-none
+returns-then-not-are_appended-clause-none g c =
+    inr (record {
+      members = c.in_ok-totals.totals.members;
+      records = c.in_ok-totals.totals.records;
+      of_cells = subst (λ (xs : List ℕ). AreOfCells c.args.passes.now.items (length xs) c.in_ok-totals.totals.members c.in_ok-totals.totals.records) (c.deref.ensures.value ∙ ap (λ (v : TableView). v.opened) c.self.view_is) c.in_ok-totals.ensures.cells;
+      appended = c.appended.result;
+      differs = λ e. absurd (let t = c.are_appended.ensures.1 (omega (arith, e, ap (λ (v : TableView). v.records_before) c.self.view_is)) in search (rules, t, c.if-not-are_appended.true));
+    })

@@ -4,7 +4,7 @@ use Rattle.set_table.specs.Naming.{AreNotesOf}
 use Rattle.set_table.specs.WorkerPasses.{PassView, TableView}
 use Rattle.set_table.specs.ClosingTotals.{AgreeAt, AreNumbered, pass_at}
 use Rattle.set_table.specs.declared.table.close.CloseFault.TheVariants.{MissingPass, OutOfStep}
-use Rattle.set_table.proofs.ClosingLemmas.{cells_permuted, of_permuted}
+use Rattle.set_table.proofs.ClosingLemmas.{cells_permuted, of_permuted, out_of_step_permuted}
 use Rattle.set_table.proofs.NameAgreement.{one_place}
 use Rattle.set_table.proofs.PassOrder.{have_shares}
 use Rattle.set_table.proofs.table.Table.close.Goals as goal
@@ -59,3 +59,7 @@ returns-clause-missing g c = (
 pub returns-in-Some-clause-cells : goal.returns-in-Some-clause-cells
 returns-in-Some-clause-cells g c =
     cells_permuted c.args.passes.items c.put_in_order.new.passes.items (permuted _ _ _ c.compare_names.ensures.same c.put_in_order.ensures.same) (length c.args.self.opened) c.in-Some.closed.0.members c.in-Some.closed.0.records c.in-Some.ensures.cells
+
+pub returns-clause-out_of_step : goal.returns-clause-out_of_step
+returns-clause-out_of_step g c = λ e.
+    out_of_step_permuted c.args.passes.items c.put_in_order.new.passes.items c.args.self.opened c.args.self.records_before (permuted _ _ _ c.compare_names.ensures.same c.put_in_order.ensures.same) c.in-None.ensures.none

@@ -1,6 +1,6 @@
 use Rattle.std.proofs.Common.{ℕ, arith, subst}
-use Rattle.set_table.specs.ClosingTotals.{AreOfCells}
-use Rattle.set_table.proofs.ClosingLemmas.{adds_more, adds_up, cells_more}
+use Rattle.set_table.specs.ClosingTotals.{AreOfCells, HasOtherCell}
+use Rattle.set_table.proofs.ClosingLemmas.{IfNone-any, adds_more, adds_up, cells_more}
 use Rattle.set_table.proofs.table.close.add_places.Goals as goal
 
 pub add_place-requires-clause-own : goal.add_place-requires-clause-own
@@ -19,3 +19,13 @@ returns-clause-sums g c = adds_up c.args.passes.now.items c.args.opened.now c.lo
 pub returns-clause-cells : goal.returns-clause-cells
 returns-clause-cells g c =
     subst (λ (n : ℕ). AreOfCells c.args.passes.now.items n c.loop-place.totals.members c.loop-place.totals.records) (omega (arith, c.loop-place-test.false, c.loop-place.auto.place-end)) c.loop-place.invariant.cells
+
+pub returns-in_err-totals-clause-none : goal.returns-in_err-totals-clause-none
+returns-in_err-totals-clause-none g c =
+    IfNone-any c.from_residual.result (HasOtherCell c.args.passes.now.items c.args.opened.now) (record {
+      place = c.loop-place.place;
+      within = omega (arith, c.loop-place-test.true, c.loop-place.auto.place-end);
+      cell = c.get_mut-cell.result.now;
+      whole = c.add_place.ensures.whole;
+      differs = c.in_err-totals.ensures.none;
+    })
