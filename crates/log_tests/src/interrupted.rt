@@ -20,6 +20,8 @@ use zset_core::OneOwner;
 struct Tally {
     /// The calls, of which some were interrupted.
     calls: Cell<u32>,
+    /// How often the call under way was interrupted.
+    interrupted: Cell<u32>,
     /// The calls that were made.
     made: Cell<u32>,
     /// The bytes that were written.
@@ -32,6 +34,7 @@ impl Tally {
     fn new() -> Self {
         Tally {
             calls: Cell::new(0),
+            interrupted: Cell::new(0),
             made: Cell::new(0),
             written: Cell::new(0),
             synced: Cell::new(0),
@@ -51,12 +54,15 @@ struct Device<'a> {
 impl Device<'_> {
     /// Counts a call, and interrupts it where it is one of those.
     fn ask(&self) -> IoResult<()> {
-        let calls = self.tally.calls.get();
-        self.tally.calls.set(calls.saturating_add(1));
-        if calls % self.interruptions.saturating_add(1) < self.interruptions {
+        let tally = self.tally;
+        tally.calls.set(tally.calls.get().saturating_add(1));
+        let interrupted = tally.interrupted.get();
+        if interrupted < self.interruptions {
+            tally.interrupted.set(interrupted.saturating_add(1));
             return Err(Error::from(ErrorKind::Interrupted));
         }
-        self.tally.made.set(self.tally.made.get().saturating_add(1));
+        tally.interrupted.set(0);
+        tally.made.set(tally.made.get().saturating_add(1));
         Ok(())
     }
 }
