@@ -7,6 +7,8 @@ mod columns;
 #[cfg(test)]
 mod merges;
 #[cfg(test)]
+mod passes;
+#[cfg(test)]
 mod removals;
 #[cfg(test)]
 mod sizes;
