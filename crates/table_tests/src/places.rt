@@ -144,11 +144,17 @@ fn places_of<L: Ledger>(
     Ok((aa, bb))
 }
 
-// The walks of both begin at place 3. The key that is the first by its bytes has it, whichever set came first.
+// The walks of both begin at place 3. The key that is the first by its bytes has it.
 #[test]
 fn sets_take_places_in_the_order_of_their_keys(rt: HostRuntime) -> Result<(), Fail> {
-    let ordered = places_of::<Brand>(&rt, Blank::new(6), &["ZADD Aa 1 x", "ZADD BB 1 y"])?;
-    let turned = places_of::<Brand>(&rt, Blank::new(6), &["ZADD BB 1 y", "ZADD Aa 1 x"])?;
-    assert!(rt; ordered == (Some(3), Some(0)) && turned == (Some(3), Some(0)));
+    let places = places_of::<Brand>(&rt, Blank::new(6), &["ZADD Aa 1 x", "ZADD BB 1 y"])?;
+    assert!(rt; places == (Some(3), Some(0)));
+    Ok(())
+}
+
+#[test]
+fn sets_take_places_whichever_came_first(rt: HostRuntime) -> Result<(), Fail> {
+    let places = places_of::<Brand>(&rt, Blank::new(6), &["ZADD BB 1 y", "ZADD Aa 1 x"])?;
+    assert!(rt; places == (Some(3), Some(0)));
     Ok(())
 }
