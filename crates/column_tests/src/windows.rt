@@ -1,6 +1,6 @@
 ghost use Rattle.std.specs.Prelude.{◌<◌, ◌≤◌, ◌^◌};
 
-use crate::columns::{add, expect_state};
+use crate::columns::{add, expect_count, expect_state};
 use crate::removals::{expect_parted, remove};
 use crate::steps::{Step, expect_steps};
 use ripple_column::Column;
@@ -198,4 +198,46 @@ fn a_sliding_cut_finds_short_pieces(rt: HostRuntime) -> Result<(), AllocError> {
     slide(&rt, alloc, &mut window, 9000, 9600, 8)?;
     assert!(rt; first_piece(&window.column) <= 2048);
     expect_rows(&rt, alloc, &window)
+}
+
+// Cuts that move on, below each of which a row waits.
+fn move_on<R: Abort>(
+    rt: &R,
+    alloc: Global,
+    column: &mut Column<Global>,
+    to: u16,
+) -> Result<(), AllocError> {
+    for score in 0..to {
+        add(alloc, column, i64::from(score), b"late")?;
+        let rows = 2 * (usize::from(score) + 1);
+        expect_count(
+            rt,
+            column,
+            Bound::NegInf,
+            Bound::Incl(i64::from(score)),
+            rows,
+        )?;
+    }
+    Ok(())
+}
+
+// Its cuts leave many shown pivots close at the low end, and a long piece behind them. A row waits below one of them:
+// the inner pivots of the long piece stay, so that the next cut does not read all of it.
+fn expect_moved_on<R: Abort>(
+    rt: &R,
+    alloc: Global,
+    column: &mut Column<Global>,
+) -> Result<(), AllocError> {
+    move_on(rt, alloc, column, 600)?;
+    add(alloc, column, 5, b"later")?;
+    expect_count(rt, column, Bound::NegInf, Bound::Incl(99), 201)?;
+    assert!(rt; column.piece_list().len() > column.pivot_list().len());
+    Ok(())
+}
+
+#[test]
+fn cuts_that_move_on_keep_inner_pivots(rt: HostRuntime) -> Result<(), AllocError> {
+    let alloc = rt.alloc();
+    let mut window = filled_window(alloc, 9000)?;
+    expect_moved_on(&rt, alloc, &mut window.column)
 }

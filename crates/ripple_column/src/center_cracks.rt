@@ -48,6 +48,17 @@ pub fn are_short<A: Allocator>(pivots: &Pivots<A>, rows_len: usize) -> bool {
     true
 }
 
+/// Whether a cut, if it is not an end of the column, comes into a short piece.
+pub fn is_short_at<A: Allocator>(pivots: &Pivots<A>, cut: &Cut, rows_len: usize) -> bool {
+    match *cut {
+        Cut::At(v) => {
+            let (from, to) = pivots.piece_of(v, rows_len);
+            to.saturating_sub(from) < LONG_PIECE
+        }
+        Cut::Start | Cut::End => true,
+    }
+}
+
 /// A score that parts these rows in the center, where a cut at `v` would come near an end of them.
 fn center_score<A: Allocator>(rows: &[Row<A>], v: i64) -> Option<i64> {
     let mut sample = sample_of(rows)?;

@@ -8,7 +8,7 @@ ghost use Rattle.ripple_column.specs.MergeEffects.{Merges};
 ghost use Rattle.ripple_column.specs.InnerCrackEffects.{HasRoom, StaysAsShown, most_with_inner, shown};
 ghost use Rattle.ripple_column.specs.CutPivots.{is_before, values, cut_values, count_with_cuts, new_values, values_with_cuts, StandsAt, IsUncracked};
 
-use crate::center_cracks::{approach_cuts, are_short};
+use crate::center_cracks::{approach_cuts, are_short, is_short_at};
 use crate::cracking::{count_missing, crack_between, is_before};
 use crate::inner_cracks::break_up;
 use crate::merge::merge_gathered;
@@ -26,9 +26,12 @@ const MANY_SHOWN: usize = 512;
 /// Few inner pivots: fewer than this part of those that are shown.
 const FEW_INNER: usize = 8;
 
-/// Drops the inner pivots where they are few beside many that are shown, if a merge is to come, or if the
-/// shown ones alone make the pieces short: each new cut would be put into both lists.
-fn drop_few_inner<A: Allocator>(pieces: &mut Pieces<A>, pending: &Pending<A>, range: &Range)
+/// Drops the inner pivots where they are few beside many that are shown, and the shown ones alone make the
+/// pieces short, those of the two cuts too: each new cut would be put into both lists.
+///
+/// Where cuts move on, as those up to now do, the shown pivots stand close at one end, and the cuts come
+/// into the one long piece behind them. Without the inner pivots each cut would read all of it.
+fn drop_few_inner<A: Allocator>(pieces: &mut Pieces<A>, first: &Cut, second: &Cut)
     ensures rows { pieces.new.cracked.rows ≡ pieces.old.cracked.rows }
     ensures shown { shown pieces.new ≡ shown pieces.old }
 {
@@ -38,7 +41,10 @@ fn drop_few_inner<A: Allocator>(pieces: &mut Pieces<A>, pending: &Pending<A>, ra
     if !pieces.apart || !are_few {
         return;
     }
-    if pending.has_within(range) || are_short(&pieces.kept, pieces.cracked.rows.len()) {
+    let rows_len = pieces.cracked.rows.len();
+    let kept = &pieces.kept;
+    let short_at_cuts = is_short_at(kept, first, rows_len) && is_short_at(kept, second, rows_len);
+    if short_at_cuts && are_short(kept, rows_len) {
         pieces.drop_inner();
     }
 }
@@ -112,7 +118,7 @@ pub fn make_room<A: Allocator>(
         let arriving = insertions.count_within(range);
         pieces.cracked.rows.reserve(arriving)?;
     }
-    drop_few_inner(pieces, pending, range);
+    drop_few_inner(pieces, first, second);
     pieces.reserve_cuts()?;
     fit_cuts(pieces, first, second);
     Ok(())
