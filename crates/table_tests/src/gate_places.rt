@@ -1,9 +1,11 @@
 //! Where a table calls the gate.
 
 ghost use Rattle.std.specs.Prelude.{◌≡◌, ◌≤◌, None};
+ghost use Rattle.set_table.specs.WorkerPasses.{IsPassOf};
 
-use crate::exchange::{Owner, Size, answer, opened, owner_of};
-use set_table::Gate;
+use crate::exchange::{Owner, Sets, Size, answer, opened, owner_of};
+use set_table::{Gate, Pass};
+use std::alloc::Global;
 use std::marker::Brand;
 use std::sync::Wait;
 use std::sync::atomic::{AtomicU64, Ordering};
@@ -36,6 +38,24 @@ const AT_TWO_PLACES: [&str; 7] = [
     "PING",
 ];
 
+// Asks a table commands one after the other, with the gate.
+fn ask_all<L: Ledger, R: Wait>(
+    rt: &R,
+    alloc: Global,
+    table: &Sets<L>,
+    pass: &mut Pass<Global>,
+    texts: &[&str],
+    recorder: &Recorder,
+) -> Result<(), Fail>
+    requires { IsPassOf table.now pass.old }
+    ensures { IsPassOf table.now pass.new }
+{
+    for text in texts {
+        answer(rt, alloc, table, pass, text, recorder)?;
+    }
+    Ok(())
+}
+
 // The places in which commands call the gate.
 fn gate_places<L: Ledger, R: Wait + AllocGlobal>(
     rt: &R,
@@ -58,9 +78,7 @@ fn gate_places<L: Ledger, R: Wait + AllocGlobal>(
     let recorder = Recorder {
         places: AtomicU64::new(0),
     };
-    for text in texts {
-        answer(rt, alloc, &table, &mut pass, text, &recorder)?;
-    }
+    ask_all(rt, alloc, &table, &mut pass, texts, &recorder)?;
     Ok(recorder.places.load(Ordering::SeqCst))
 }
 

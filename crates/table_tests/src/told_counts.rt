@@ -43,6 +43,25 @@ fn counts_told<L: Ledger, R: Wait>(
     }
 }
 
+// Whether a table tells of commands in turn what is wanted.
+fn are_told<L: Ledger, R: Wait>(
+    rt: &R,
+    alloc: Global,
+    table: &Sets<L>,
+    pass: &mut Pass<Global>,
+    wanted: &[(&str, &str)],
+) -> Result<bool, Fail>
+    requires { IsPassOf table.now pass.old }
+    ensures { IsPassOf table.now pass.new }
+{
+    for (text, counts) in wanted {
+        if counts_told(rt, alloc, table, pass, text)?.as_str() != *counts {
+            return Ok(false);
+        }
+    }
+    Ok(true)
+}
+
 // Whether a table of an owner's sets tells of commands in turn what is wanted.
 fn tells<L: Ledger, R: Wait + AllocGlobal>(
     rt: &R,
@@ -62,12 +81,7 @@ fn tells<L: Ledger, R: Wait + AllocGlobal>(
     let alloc = rt.alloc();
     let (table, first, _second) = opened::<L>(alloc, blank, owner, size)?;
     let mut pass = first;
-    for (text, counts) in wanted {
-        if counts_told(rt, alloc, &table, &mut pass, text)?.as_str() != *counts {
-            return Ok(false);
-        }
-    }
-    Ok(true)
+    are_told(rt, alloc, &table, &mut pass, wanted)
 }
 
 // Of two pairs that name one member, the first adds it and the second changes it.
