@@ -9,7 +9,7 @@ import subprocess
 import time
 
 from harness import PROGRAM, SECONDS, on_a_terminal, run, same, start, test, with_terminal, write
-from tcp import LOOPBACK, Server, request, soon, totals
+from tcp import HEADER, LOOPBACK, Server, request, soon, totals
 
 NO_FILE = b"zcrackd: cannot use file\n"
 MISSING = b"No such file or directory (os error 2)\n"
@@ -29,9 +29,9 @@ def told(*words):
 
 
 def limited():
-    """Lets the program's files have 100 bytes."""
+    """Lets the program's files have room for two records of 35 bytes, and not for a third."""
     signal.signal(signal.SIGXFSZ, signal.SIG_IGN)
-    resource.setrlimit(resource.RLIMIT_FSIZE, (100, 100))
+    resource.setrlimit(resource.RLIMIT_FSIZE, (len(HEADER) + 76, len(HEADER) + 76))
 
 
 # Why nothing was done
@@ -134,6 +134,7 @@ def a_sync_that_failed_is_told():
     if subprocess.run([*trace, "true"], capture_output=True).returncode:
         return print("skipped: nothing can be traced here")
     given = b"".join(request("ZADD", "k", it, it) for it in range(4))
+    write("kept", HEADER)
     with start([*trace, PROGRAM, "stdio", "--file", "kept", "--explain"], stdin=subprocess.PIPE, stdout=subprocess.PIPE,
                stderr=subprocess.PIPE) as program:
         out, lines = program.communicate(given, timeout=SECONDS)
@@ -176,7 +177,7 @@ def stopped_while_it_reads(words, stderr):
 
 @test
 def a_terminal_is_told_how_far_a_long_reading_is():
-    write("kept", (request("ZADD", "k", 1, "a") + request("ZREM", "k", "a")) * 300_000)
+    write("kept", HEADER + (request("ZADD", "k", 1, "a") + request("ZREM", "k", "a")) * 300_000)
     for words in (["stdio", "--file", "kept"], ["rewrite", "kept", "new"]):
         _, got = with_terminal(lambda terminal: stopped_while_it_reads(words, terminal))
         same(bool(re.fullmatch(rb"(zcrackd: [1-9]?[0-9] % of kept read\n)+", got)), True)

@@ -3,7 +3,7 @@ import io
 import os
 
 from harness import read, run, same, test, write
-from tcp import flat, read_reply, request
+from tcp import HEADER, flat, read_reply, request
 from wanting import EVERYTHING, Sets, each_refused_allocation, follow, run_on
 
 NO_MEMORY = b"zcrackd: out of memory\n"
@@ -59,19 +59,20 @@ def each_refused_allocation_of_a_session_is_told():
     judge_sweep(each_refused_allocation("a session", attempt))
 
 
-def session_with_a_file(room, env, before, world):
-    """The same over a file of these records, which make those sets, or over a new one: what was answered is behind them."""
+def session_with_a_file(room, env, before, renewed, world):
+    """The same over a file of these records, which make those sets, or over a new one. It is renewed, with these records in
+    their place, and behind them is what was answered."""
     if before:
         write(f"{room}/kept", before)
     left, ended = session_with_a_refusal(env, world, "--file", f"{room}/kept")
     kept = read(f"{room}/kept") if os.path.exists(f"{room}/kept") else b""
-    same(kept in [before + b"".join(it.log) for it in left], True)
+    same(kept in [before, *(HEADER + renewed + b"".join(it.log) for it in left)], True)
     return ended
 
 
 @test
 def each_refused_allocation_of_a_session_with_a_new_file_is_told():
-    judge_sweep(each_refused_allocation("a session with a new file", lambda room, env: session_with_a_file(room, env, b"", Sets())))
+    judge_sweep(each_refused_allocation("a session with a new file", lambda room, env: session_with_a_file(room, env, b"", b"", Sets())))
 
 
 @test
@@ -80,7 +81,7 @@ def each_refused_allocation_of_a_session_with_a_file_is_told():
         world = Sets()
         world.ask("ZADD", "k", 2, "b")
         world.restart()
-        return session_with_a_file(room, env, RECORDS, world)
+        return session_with_a_file(room, env, RECORDS, RECORDS[35:70], world)
 
     judge_sweep(each_refused_allocation("a session with a file", attempt))
 
@@ -91,8 +92,9 @@ def each_refused_allocation_of_a_rewrite_leaves_no_new_file():
         write(f"{room}/old", RECORDS)
         ended = run("rewrite", f"{room}/old", f"{room}/new", env=env)
         new = read(f"{room}/new") if os.path.exists(f"{room}/new") else None
-        done = (ended, new) == ((0, b"records 1\n", b""), RECORDS[35:70])
-        same(done or (ended, new) in [((4, b"", NO_MEMORY), RECORDS[35:70]), ((4, b"", NO_MEMORY), None)], True)
+        whole = HEADER + RECORDS[35:70]
+        done = (ended, new) == ((0, b"records 1\n", b""), whole)
+        same(done or (ended, new) in [((4, b"", NO_MEMORY), whole), ((4, b"", NO_MEMORY), None)], True)
         same((read(f"{room}/old"), os.path.exists(f"{room}/new.new")), (RECORDS, False))
         return ended[0]
 

@@ -1,12 +1,11 @@
 """A part of serve_test: each option of a server reaches the place that it is for, at values that tell."""
 import re
 import socket
-import subprocess
 import time
 from contextlib import ExitStack
 
-from harness import SECONDS, read, same, start, test, write
-from tcp import Server, read_reply, request, soon, totals
+from harness import SECONDS, read, same, test, write
+from tcp import Server, read_reply, request, soon, totals, traced
 
 PONG = b"+PONG\r\n"
 SILENT = 0.3
@@ -28,26 +27,19 @@ def is_silent(client):
     return got is None
 
 
-def serves_at_once(workers):
-    """As many clients as there are workers are answered while all stay, and one more is not until one of them left."""
-    with Server("--workers", workers) as server, ExitStack() as stack:
-        clients = [server.connect() for _ in range(workers)]
-        for client in clients:
-            stack.callback(client.close)
-            client.socket.settimeout(5)
-            same(client.ask("PING"), PONG)
-        waiting = server.connect()
-        stack.callback(waiting.close)
-        waiting.send(request("PING"))
-        same(is_silent(waiting), True)
-        same(clients[0].finish(), b"")
-        same(waiting.reply(), PONG)
+def threads(server):
+    """How many threads a server has, once a client was answered."""
+    client = server.connect()
+    same((client.ask("PING"), client.finish()), (PONG, b""))
+    with open(f"/proc/{server.process.pid}/status") as file:
+        return int(re.search(r"Threads:\s+(\d+)", file.read())[1])
 
 
 @test
-def workers_serve_so_many_at_once():
+def workers_are_so_many_threads():
     for workers in (1, 16, 64):
-        serves_at_once(workers)
+        with Server("--workers", workers) as server:
+            same(threads(server), 1 + workers)
 
 
 @test
@@ -142,15 +134,6 @@ def a_torn_end_is_told_before_a_server_ends():
     with Server("--file", "kept") as server:
         same(soon(server.process.stderr), b"zcrackd: torn end of 6 bytes\n")
         same(server.connect().ask("ZCARD", "k"), b":1\r\n")
-
-
-def traced(server, *how):
-    """Traces a server's calls into the file `trace` until it ends; None where nothing can be traced."""
-    tracer = start(["strace", "-f", "-o", "trace", *how, "-p", str(server.process.pid)], stderr=subprocess.PIPE)
-    if b" attached" not in soon(tracer.stderr):
-        print("skipped: nothing can be traced here")
-        return None
-    return tracer
 
 
 @test

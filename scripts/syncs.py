@@ -10,7 +10,7 @@ import subprocess
 import time
 
 from harness import PROGRAM, SECONDS, read, same, start, test, write
-from tcp import Server, request
+from tcp import HEADER, Server, request
 
 CHANGES = 12
 # ZADD k 1 a, ZADD k 2 a, and so on: each changes the set, and has a record of 35 bytes.
@@ -82,7 +82,7 @@ def each_record_is_synced_before_its_reply():
         session.stdin.close()
         same(session.wait(SECONDS), 0)
     same(calls(), ONE_BY_ONE)
-    same(read("kept"), b"".join(RECORDS))
+    same(read("kept"), HEADER + b"".join(RECORDS))
 
 
 def each_of_many_records_is_synced_before_the_next():
@@ -98,7 +98,7 @@ def each_record_of_a_server_is_synced_before_its_reply():
         client.close()
         same(server.ends()[0], 0)
     same(calls(), ONE_BY_ONE)
-    same(read("kept"), b"".join(RECORDS))
+    same(read("kept"), HEADER + b"".join(RECORDS))
 
 
 def on_the_file(call, which):
@@ -107,27 +107,28 @@ def on_the_file(call, which):
 
 
 def an_interrupted_call_is_made_again():
-    for call, which in [("fdatasync", "1"), ("fdatasync", "3..101"), ("write", "1"), ("write", "2..100")]:
-        write("kept", b"")
+    for call, which in [("fdatasync", "2"), ("fdatasync", "4..102"), ("write", "1"), ("write", "2..100")]:
+        write("kept", HEADER)
         session = session_over(traced(on_the_file(call, which)))
         replies, _ = session.communicate(b"".join(RECORDS), timeout=SECONDS)
-        same((replies, read("kept")), (b"".join(REPLIES), b"".join(RECORDS)))
+        same((replies, read("kept")), (b"".join(REPLIES), HEADER + b"".join(RECORDS)))
         interrupted = 99 if ".." in which else 1
-        same(sum(call in line for line in trace()), CHANGES + interrupted)
+        # one sync more is made when the file is opened
+        same(sum(call in line for line in trace()), CHANGES + interrupted + (call == "fdatasync"))
 
 
 def a_write_that_is_always_interrupted_fails():
     # Of a sync no such test: std itself makes that again for as long as it is interrupted.
-    write("kept", b"")
+    write("kept", HEADER)
     session = session_over(traced(on_the_file("write", "1+")))
     replies, _ = session.communicate(RECORDS[0], timeout=SECONDS)
-    same((replies, read("kept")), (b"-ERR 16 append file failed\r\n", b""))
+    same((replies, read("kept")), (b"-ERR 16 append file failed\r\n", HEADER))
     same(sum("write" in line for line in trace()), 100)
 
 
 def an_interrupted_reload_reads_on():
     """Of a file of several reads, each of which is interrupted; its torn end alone is cut."""
-    whole = b"".join(RECORDS) * 100
+    whole = HEADER + b"".join(RECORDS) * 100
     write("kept", whole + RECORDS[0][:20])
     session = session_over(traced(on_the_file("read", "1+2")), stderr=subprocess.PIPE)
     replies, lines = session.communicate(request("ZSCORE", "k", "a"), timeout=SECONDS)
@@ -135,28 +136,45 @@ def an_interrupted_reload_reads_on():
     same(read("kept"), whole)
 
 
-def the_folder_of_a_new_file_is_synced():
+FILE_STEPS = "-e trace=write,fdatasync,fsync,rename,link,unlink,ftruncate"
+
+
+def steps():
+    """The calls of a trace that change what is in this folder, each with the path of its file where it has one."""
+    found = [re.match(r"\d+ +(\w+)\((?:\d+<([^>]*)>)?", line) for line in trace() if "+++" not in line]
+    os.remove("trace")
+    here = os.path.realpath(".")
+    return [(it[1], it[2] and os.path.relpath(it[2], here)) for it in found if it[2] is None or it[2].startswith(here)]
+
+
+def opened(path):
+    """The steps of a session on a file up to its first change, which is answered by `:1` or `:0`."""
+    session = session_over(traced(FILE_STEPS), path, stderr=subprocess.DEVNULL)
+    same(session.communicate(RECORDS[0], timeout=SECONDS)[0] in REPLIES, True)
+    return steps()
+
+
+def what_a_file_has_is_synced_before_it_is_answered_from():
+    """So are its name and its folder's: of a new file, of one that is there, of one with a torn end, and behind a link."""
     os.mkdir("inner")
-    for path, folder in [("kept", "."), ("inner/kept", "inner")]:
-        session = session_over(traced("-e trace=fsync,write"), path)
-        same(session.communicate(RECORDS[0], timeout=SECONDS)[0], REPLIES[0])
-        first = trace()[0]
-        same(f"<{os.path.realpath(folder)}>" in first and re.search(r"fsync\(.*\) += 0$", first) is not None, True)
-        os.remove("trace")
+    os.symlink("inner/other", "link")
+    for path, place, folder in [("kept", "kept", "."), ("inner/kept", "inner/kept", "inner"), ("link", "inner/other", "inner")]:
+        renewal = [("write", f"{place}.new"), ("fdatasync", f"{place}.new"), ("rename", None), ("fsync", folder)]
+        change = [("write", place), ("fdatasync", place)]
+        same(opened(path), renewal + change)
+        same(opened(path), [("fdatasync", place), ("fsync", folder)])
+        write(path, read(path) + RECORDS[1][:9])
+        same(opened(path), [("ftruncate", place), ("fdatasync", place), ("fsync", folder)])
 
 
 def a_rewrite_is_synced_before_it_is_named_and_told():
     write("kept", b"".join(RECORDS))
     os.mkdir("inner")
-    wanted = "-e trace=write,fdatasync,fsync,link,linkat,unlink,unlinkat"
-    session = start([traced(wanted), "rewrite", "kept", "inner/new"], stdout=subprocess.PIPE)
+    session = start([traced(FILE_STEPS), "rewrite", "kept", "inner/new"], stdout=subprocess.PIPE)
     same(session.communicate(timeout=SECONDS)[0], b"records 1\n")
-    steps = [re.match(r"\d+ +(\w+)(.*)", line) for line in trace() if "+++" not in line]
-    same([it[1].removesuffix("at") for it in steps], ["write", "fdatasync", "link", "unlink", "fsync", "write"])
-    inner = os.path.realpath("inner")
-    for step, path in [(0, f"{inner}/new.new"), (1, f"{inner}/new.new"), (4, inner)]:
-        same(f"<{path}>" in steps[step][2], True)
-    same(read("inner/new"), RECORDS[-1])
+    draft = [("write", "inner/new.new")] * 2 + [("fdatasync", "inner/new.new")]
+    same(steps(), [*draft, ("link", None), ("unlink", None), ("fsync", "inner")])
+    same(read("inner/new"), HEADER + RECORDS[-1])
 
 
 if can_trace():
@@ -167,7 +185,7 @@ if can_trace():
         an_interrupted_call_is_made_again,
         a_write_that_is_always_interrupted_fails,
         an_interrupted_reload_reads_on,
-        the_folder_of_a_new_file_is_synced,
+        what_a_file_has_is_synced_before_it_is_answered_from,
         a_rewrite_is_synced_before_it_is_named_and_told,
     ):
         test(function)

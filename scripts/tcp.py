@@ -18,6 +18,10 @@ def request(*words):
     return b"*%d\r\n" % len(words) + b"".join(b"$%d\r\n%s\r\n" % (len(word), word) for word in words)
 
 
+# What an append file begins with.
+HEADER = request("ZCRACKD", 2)
+
+
 def read_reply(file):
     """The next reply, by its bytes; an array by those of its elements. A ConnectionError where it doesn't come whole."""
     line = file.readline()
@@ -133,3 +137,12 @@ class Client:
 def totals(connections, sets, members, added, removed, records):
     text = f"connections {connections} sets {sets} members {members} added {added} removed {removed} records {records}\n"
     return text.encode()
+
+
+def traced(server, *how):
+    """Traces a server's calls into the file `trace` until it ends; None where nothing can be traced."""
+    tracer = start(["strace", "-f", "-o", "trace", *how, "-p", str(server.process.pid)], stderr=subprocess.PIPE)
+    if b" attached" not in soon(tracer.stderr):
+        print("skipped: nothing can be traced here")
+        return None
+    return tracer

@@ -23,6 +23,15 @@ def bulk(word):
     return b"$%d\r\n%s\r\n" % (len(str(word)), str(word).encode())
 
 
+def record(words, old, new):
+    """What a change of a set is kept as: the members that it moved, each once, in the order in which it names them."""
+    names = words[3::2] if words[0] == "ZADD" else words[2:]
+    moved = [name for name in dict.fromkeys(names) if old.get(name) != new.get(name)]
+    if words[0] == "ZREMRANGEBYSCORE":
+        return request(*words)
+    return request(*words[:2], *[word for name in moved for word in ([new[name], name] if name in new else [name])])
+
+
 class Sets:
     """Sets by their keys, and what the changes came to since the start: the numbers of the totals line, and the records."""
 
@@ -40,7 +49,7 @@ class Sets:
         before = deepcopy(self.sets)
         reply = kind[words[0]](*words[1:])
         if {key: it for key, it in before.items() if it} != {key: it for key, it in self.sets.items() if it}:
-            self.log.append(request(*words))
+            self.log.append(record(words, before.get(words[1], {}), self.sets[words[1]]))
         return reply
 
     def add(self, key, *pairs):

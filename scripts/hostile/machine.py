@@ -5,7 +5,7 @@ import signal
 import subprocess
 
 from harness import read, run, same, test
-from tcp import LOOPBACK, Server, request, totals
+from tcp import HEADER, LOOPBACK, Server, request, totals
 
 FULL_BYTES = 64 << 10
 
@@ -23,9 +23,9 @@ def fill_file(path, make_room=lambda: None, **how):
         same(client.ask("ZREMRANGEBYSCORE", "k", "-inf", "+inf")[:8], b"-ERR 14 ")
         same(client.finish(), b"")
         same(server.ends(), (0, totals(1, 1, done, done, 0, done), b""))
-    whole = b"".join(request(*words) for words in asked)
+    records = [HEADER, *(request(*words) for words in asked)]
     kept = read(path)
-    same((kept == whole[: len(kept)], len(kept) >= len(b"".join(request(*words) for words in asked[:done])) > 0), (True, True))
+    same((b"".join(records).startswith(kept), len(kept) >= sum(map(len, records[: done + 1])), done > 0), (True, True, True))
     make_room()
     with Server("--connections", 1, "--file", path) as server:
         client = server.connect()
@@ -56,31 +56,29 @@ def a_full_disk_loses_nothing_that_was_acknowledged():
         subprocess.run(["umount", "disk"], check=True)
 
 
-@test
-def a_server_without_descriptors_ends_and_tells():
-    def limited():
-        resource.setrlimit(resource.RLIMIT_NOFILE, (24, 24))
+def descriptors(most):
+    """Lets the program have so many descriptors."""
+    return lambda: resource.setrlimit(resource.RLIMIT_NOFILE, (most, most))
 
-    with Server("--workers", 64, "--file", "kept", preexec_fn=limited) as server:
-        clients = []
-        try:
-            for number in range(40):
-                clients.append(server.connect())
-                clients[-1].send(request("ZADD", "k", number, f"m{number}"))
-        except OSError:
-            pass
-        replies = []
+
+@test
+def a_server_with_few_descriptors_serves_fewer_at_once():
+    """More clients than there are descriptors are all answered, as the first ones leave; the server ends by its own count."""
+    many = 40
+    with Server("--connections", many, "--file", "kept", preexec_fn=descriptors(60)) as server:
+        clients = [server.connect() for _ in range(many)]
+        for number, client in enumerate(clients):
+            client.send(request("ZADD", "k", number, f"m{number}"))
         for client in clients:
-            try:
-                replies.append(client.reply())
-                client.close()
-            except OSError:
-                pass
-        done = replies.count(b":1\r\n")
-        status, out, lines = server.ends()
-        same((status, lines), (1, b"zcrackd: accept fault\n"))
-        words = out.split()
-        same((done > 0, int(words[words.index(b"added") + 1]) >= done), (True, True))
+            same(client.reply(), b":1\r\n")
+            client.close()
+        same(server.ends(), (0, totals(many, 1, many, many, 0, many), b""))
+
+
+@test
+def a_server_without_descriptors_for_its_workers_ends_and_tells():
+    with Server("--workers", 64, "--file", "kept", preexec_fn=descriptors(24)) as server:
+        same(server.ends()[::2], (4, b"zcrackd: cannot start workers\n"))
 
 
 @test

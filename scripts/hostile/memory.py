@@ -5,7 +5,7 @@ import subprocess
 import time
 
 from harness import PROGRAM, SECONDS, read, same, start, test, write
-from tcp import LISTENING, LOOPBACK, Client, Server, request, totals
+from tcp import HEADER, LISTENING, LOOPBACK, Client, Server, request, totals
 from wanting import EVERYTHING, NO_MEMORY, Sets, each_refused_allocation, follow
 
 CONNECTIONS = 2
@@ -106,7 +106,7 @@ def with_a_file(room, env):
     world.restart()
     talk, *ended = serve_refused(env, ["--file", f"{room}/kept"])
     left = judge_end(follow([world], talk.asked), talk, *ended)
-    same(read(f"{room}/kept") in [before + b"".join(it.log) for it in left], True)
+    same(read(f"{room}/kept") in [before, *(HEADER + before + b"".join(it.log) for it in left)], True)
     return talk, *ended
 
 
@@ -223,11 +223,12 @@ def members_leave_a_server_where_memory_is_exhausted():
 
 @test
 def a_session_that_can_not_read_tells_that_it_ends():
-    """It ends at whichever request it had no memory to read, an addition or a removal; else each removal is answered."""
+    """It ends at whichever request it had no memory to read, an addition or a removal; else each removal by name is answered.
+    A range may want memory for its bounds, where a thousand were asked for before and memory is in small pieces."""
     session = Session(32 << 20)
     try:
-        for member in session.fill(2_000, 1):
-            reply = session.remove(*member)
+        for key, _, name in session.fill(2_000, 1):
+            reply = session.ask("ZREM", key, name)
             if reply == b"":
                 raise BrokenPipeError
             same(reply, b":1\r\n")

@@ -13,11 +13,12 @@ use Rattle.zset_core.specs.ExpressibleWorld.{IsSpelled, IsBoundedSet, IsBoundedA
 use Rattle.zset_core.proofs.CallerLemmas.{total, exact}
 use Rattle.zset_core.proofs.CallerLemmas.{get_put_set, filled}
 use Rattle.append_log.specs.Records.{Record}
-use Rattle.append_log.specs.Replay.{after, after_reading, replay}
-use Rattle.append_log.specs.Dump.{add_record, cut_pieces, set_records, records_at, dump}
+use Rattle.append_log.specs.Replay.{after, after_reading, replay_as, replay}
+use Rattle.append_log.specs.declared.version.Version.TheVariants.{Effects}
+use Rattle.append_log.specs.Dump.{add_record, cut_pieces, set_records, records_at, dump, image}
 use Rattle.append_log.proofs.AddRecord.{asked_add}
 use Rattle.append_log.proofs.WholeListing.{each_found, each_of_whole}
-use Rattle.append_log.proofs.ReplayLemmas.{replay-append}
+use Rattle.append_log.proofs.ReplayLemmas.{replay_as-append}
 use Rattle.append_log.proofs.SameWorlds.{set_at-put_set-same}
 use Rattle.append_log.proofs.SetUnion.{plain, same_bytes, union, put_all-append}
 
@@ -65,17 +66,17 @@ added-append w key p ps (x ∷ more) =
     ∙ ap (put_set w key) (sym (put_all-append plain (set_at w key) (p ∷ ps) (x ∷ more)))
 
 module _ (read_back : (score : ℤ) → IsScore score → score_value (score_text score) ≡ Some score) (is_plain : (score : ℤ) → IsScore score → IsPlain (score_text score)) where
-  after_add : (w : World) (key : List ℕ) (p : Pair) (ps : List Pair) → AllByRecursion (λ p. IsScore p.0) (p ∷ ps) → after w (add_record key (p ∷ ps)) ≡ Some (added w key (p ∷ ps))
-  after_add w key p ps each = ap (after_reading w) (asked_add read_back is_plain key p ps each)
+  after_add : (w : World) (key : List ℕ) (p : Pair) (ps : List Pair) → AllByRecursion (λ p. IsScore p.0) (p ∷ ps) → after Effects w (add_record key (p ∷ ps)) ≡ Some (added w key (p ∷ ps))
+  after_add w key p ps each = ap (after_reading Effects w) (asked_add read_back is_plain key p ps each)
 
-  replay_pieces : (n : ℕ) (ps : List Pair) (w : World) (key : List ℕ) → length ps ≤ n → AllByRecursion (λ p. IsScore p.0) ps → replay w (map (add_record key) (cut_pieces n ps)) ≡ Some (added w key ps)
+  replay_pieces : (n : ℕ) (ps : List Pair) (w : World) (key : List ℕ) → length ps ≤ n → AllByRecursion (λ p. IsScore p.0) ps → replay_as Effects w (map (add_record key) (cut_pieces n ps)) ≡ Some (added w key ps)
   replay_pieces zero [] w key le each = refl
   replay_pieces zero (p ∷ ps) w key le each = absurd (omega (arith, le))
   replay_pieces (suc n) [] w key le each = refl
   replay_pieces (suc n) (p ∷ ps) w key le each =
       let first = take 511 ps in
       let behind = drop 511 ps in
-      replay-append w (add_record key (p ∷ first) ∷ []) (map (add_record key) (cut_pieces n behind)) (added w key (p ∷ first)) (rw (after_add w key p first (each.0, each_take (λ p. IsScore p.0) 511 ps each.1)) refl)
+      replay_as-append Effects w (add_record key (p ∷ first) ∷ []) (map (add_record key) (cut_pieces n behind)) (added w key (p ∷ first)) (rw (after_add w key p first (each.0, each_take (λ p. IsScore p.0) 511 ps each.1)) refl)
       ∙ replay_pieces n behind (added w key (p ∷ first)) key (omega (arith, le, length-drop 511 ps)) (each_drop (λ p. IsScore p.0) 511 ps each.1)
       ∙ ap Some (added-append w key p first behind ∙ ap (λ l. added w key (p ∷ l)) (take-append-drop 511 ps))
 
@@ -87,7 +88,7 @@ module _ (read_back : (score : ℤ) → IsScore score → score_value (score_tex
   led w key m [] leads from_none some = let no : true ≡ false = sym (empty_set m from_none) ∙ some in cc
   led w key m (p ∷ ps) leads from_none some = ap (put_set w key) leads
 
-  replay_set : (w : World) (key : List ℕ) (m : Members) → (set_at w key ≡ fin.empty) ⊎ (set_at w key ≡ m) → is_empty m ≡ false → IsBoundedSet m → replay w (set_records key m) ≡ Some (put_set w key m)
+  replay_set : (w : World) (key : List ℕ) (m : Members) → (set_at w key ≡ fin.empty) ⊎ (set_at w key ≡ m) → is_empty m ≡ false → IsBoundedSet m → replay_as Effects w (set_records key m) ≡ Some (put_set w key m)
   replay_set w key m start some bounded =
       replay_pieces (length (whole m)) (whole m) w key (omega arith) (scores (whole m) (whole_spelled m bounded))
       ∙ ap Some (led w key m (whole m) (union (set_at w key) m start) (union fin.empty m (inl refl)) some)
@@ -102,14 +103,14 @@ module _ (read_back : (score : ℤ) → IsScore score → score_value (score_tex
 
   -- the world that records replay to has these sets of the other world
   abbrev LeadsAt : World → World → List Record → List (List ℕ) → Type 0
-  LeadsAt world w records keys = (end : World) × (replay w records ≡ Some end) × ((q : List ℕ) → fin.get end q ≡ cond (has_key keys q) (fin.get world q) (fin.get w q))
+  LeadsAt world w records keys = (end : World) × (replay_as Effects w records ≡ Some end) × ((q : List ℕ) → fin.get end q ≡ cond (has_key keys q) (fin.get world q) (fin.get w q))
 
   step_at : (world w : World) (key : List ℕ) (m : Members) (keys : List (List ℕ)) → fin.get world key ≡ Some m → IsBoundedAt key m → IsPart w world
       → ((next : World) → IsPart next world → LeadsAt world next (records_at world keys) keys) → LeadsAt world w (set_records key m ++ records_at world keys) (key ∷ keys)
   step_at world w key m keys at bounded part on =
       let next = put_set w key m in
       let more = on next part_on in
-      (more.0, replay-append w (set_records key m) (records_at world keys) next (replay_set w key m start bounded.filled bounded.members) ∙ more.1, λ q. more.2 q ∙ ap (cond (has_key keys q) (fin.get world q)) (next_at q) ∙ found q (eq_by_cmp bytes_cmp q key) refl (has_key keys q))
+      (more.0, replay_as-append Effects w (set_records key m) (records_at world keys) next (replay_set w key m start bounded.filled bounded.members) ∙ more.1, λ q. more.2 q ∙ ap (cond (has_key keys q) (fin.get world q)) (next_at q) ∙ found q (eq_by_cmp bytes_cmp q key) refl (has_key keys q))
     where
       start : (set_at w key ≡ fin.empty) ⊎ (set_at w key ≡ m)
       start = elim (part key) [ inl none ↦ inl (ap (λ (o : Option Members). unwrap_or o fin.empty) none) | inr same ↦ inr (ap (λ (o : Option Members). unwrap_or o fin.empty) (same ∙ at)) ]
@@ -145,7 +146,7 @@ module _ (read_back : (score : ℤ) → IsScore score → score_value (score_tex
   pub keys_there : (world : World) → AllByRecursion (λ key. IsSome (fin.get world key)) (fin.keys world)
   keys_there world = each_found (eq_by_cmp bytes_cmp) (eq_by_cmp_equiv total).refl (λ key. IsSome (fin.get world key)) (fin.keys world) (λ q h. fin.contains_key-keys world q ∙ h)
 
-  pub image_leads : (world : World) → IsBoundedWorld world → replay fin.empty (dump world) ≡ Some world
+  pub image_leads : (world : World) → IsBoundedWorld world → replay fin.empty (image world) ≡ Some world
   image_leads world bounded =
       let all = replay_keys world bounded (fin.keys world) (keys_there world) fin.empty (λ q. inl (fin.get-empty bytes_cmp q)) in
       all.1 ∙ ap Some (fin.same_map total exact all.0 world (λ q. all.2 q ∙ ap (λ b. cond b (fin.get world q) (fin.get {R = bytes_cmp} fin.empty q)) (sym (fin.contains_key-keys world q)) ∙ by (fin.get world q) _ (fin.get-empty bytes_cmp q)))

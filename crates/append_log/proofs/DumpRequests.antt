@@ -1,20 +1,22 @@
 -- The records of a world are requests, so that their text is read as they are.
-use Rattle.std.proofs.Common.{ℕ, zero, suc, ◌≤◌, ℤ, pos, negsuc, List, [], ◌∷◌, ◌++◌, length, take, drop, map, Option, None, Some, IfSome, unwrap_or, arith, length-take}
+use Rattle.std.proofs.Common.{◌≡◌, refl, ℕ, zero, suc, ◌≤◌, ℤ, pos, negsuc, List, [], ◌∷◌, ◌++◌, length, take, drop, map, Option, None, Some, IfSome, unwrap_or, arith, length-take}
+use Rattle.std.specs.Prelude.{codes}
 use Rattle.std.specs.List.{All, AllByRecursion}
 use Rattle.std.specs.FinMap as fin
-use Rattle.std.proofs.lemmas.Fmt.{length_signed_le}
+use Rattle.std.proofs.lemmas.Fmt.{decimal_digit, length_signed_le}
 use Rattle.score_bounds.specs.Scores.{IsScore, score_text}
-use Rattle.resp_wire.specs.RequestEncoding.{IsArgument, IsRequest}
+use Rattle.resp_wire.specs.RequestEncoding.{request, IsArgument, IsRequest}
 use Rattle.zset_core.proofs.CallerLemmas.{whole_empty}
 use Rattle.zset_core.specs.SortedSet.{Members, Pair, whole}
 use Rattle.zset_core.specs.World.{World, set_at}
 use Rattle.zset_core.specs.ExpressibleWorld.{IsSpelled, IsBoundedAt, IsBoundedWorld}
+use Rattle.append_log.specs.Replay.{header}
 use Rattle.append_log.specs.Dump.{add_record, cut_pieces, set_records, records_at}
 use Rattle.append_log.proofs.AddRecord.{pair_words, length-pair_words}
 use Rattle.append_log.proofs.RecordTexts.{AreRequests}
 use Rattle.append_log.proofs.DumpReplay.{whole_spelled, each_take, each_drop}
 
-score_short : (s : ℤ) → IsScore s → IsArgument (score_text s)
+pub score_short : (s : ℤ) → IsScore s → IsArgument (score_text s)
 unfolding score_text
 score_short (pos n) within = omega (arith, length_signed_le 19 (pos n) (omega (arith, within.sfits)) (omega (arith, within.sfits)))
 score_short (negsuc n) within = omega (arith, length_signed_le 19 (negsuc n) (omega (arith, within.sfits)) (omega (arith, within.sfits)))
@@ -23,7 +25,7 @@ words_short : (ps : List Pair) → AllByRecursion IsSpelled ps → AllByRecursio
 words_short [] each = tt
 words_short (p ∷ ps) each = (score_short p.0 each.0.0, (each.0.1, words_short ps each.1))
 
-all_of : {X : Type 0} (P : X → Type 0) (xs : List X) → AllByRecursion P xs → All P xs
+pub all_of : {X : Type 0} (P : X → Type 0) (xs : List X) → AllByRecursion P xs → All P xs
 all_of P [] each k d lt = absurd (omega (arith, lt))
 all_of P (x ∷ xs) each zero d lt = each.0
 all_of P (x ∷ xs) each (suc k) d lt = all_of P xs each.1 k d (omega (arith, lt))
@@ -55,3 +57,10 @@ set_requests world key bounded = by (fin.get world key) (bounded key)
 pub image_requests : (world : World) (keys : List (List ℕ)) → IsBoundedWorld world → AreRequests (records_at world keys)
 image_requests world [] bounded = tt
 image_requests world (key ∷ keys) bounded = each-append IsRequest (set_records key (set_at world key)) (records_at world keys) (set_requests world key bounded) (image_requests world keys bounded)
+
+pub header_is : IsRequest header
+header_is = record { some = omega arith; few = omega arith; each = all_of IsArgument header (omega arith, (omega arith, tt)) }
+
+-- the bytes of the header
+pub header_text : codes "*2" ++ (13 ∷ 10 ∷ (codes "$7" ++ (13 ∷ 10 ∷ (codes "ZCRACKD" ++ (13 ∷ 10 ∷ (codes "$1" ++ (13 ∷ 10 ∷ (codes "2" ++ (13 ∷ 10 ∷ []))))))))) ≡ request header
+header_text = rw (decimal_digit 2 (omega arith), decimal_digit 7 (omega arith), decimal_digit 1 (omega arith)) refl

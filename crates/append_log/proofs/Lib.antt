@@ -7,6 +7,7 @@ pub mod HeldReplay
 pub mod ReloadProgress
 pub mod SameWorlds
 pub mod OutlineLemmas
+pub mod PreparedRecords
 pub mod LoggedOwnerLemmas
 pub mod RecordPieces
 pub mod DumpPrefix
@@ -16,5 +17,9 @@ pub mod AddRecord
 pub mod DumpReplay
 pub mod DumpRequests
 pub mod KeyWalk
+pub mod EffectReplay
+pub mod EffectArguments
+pub mod EntryTexts
+pub mod RecordedEffects
 mod LedgerShareSend
 pub mod CallerLemmas

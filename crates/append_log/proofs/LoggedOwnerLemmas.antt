@@ -1,6 +1,6 @@
 -- What a logged owner keeps over a command.
 use Rattle.std.proofs.Common.{◌≡◌, ℕ, List, [], ◌∷◌, ◌++◌, refl, sym, ◌∙◌, ap, subst, Option, None, Some, Bool, true, false, cond, length, arith, Ok}
-use Rattle.std.specs.Prelude.{IfSome, IsTrue, option_map}
+use Rattle.std.specs.Prelude.{◌≢◌, IfSome, option_map}
 use Rattle.resp_wire.specs.Response.{Response}
 use Rattle.zset_core.specs.SortedSet.{Members}
 use Rattle.zset_core.specs.AbstractCommand.{Meaning, Asked, key_of, is_writing, Ping, Add, Increase, Remove, RemoveRange, Score, Card, Count, ListRange}
@@ -13,11 +13,12 @@ use Rattle.zset_core.specs.declared.refusal.Refusal.{Refusal}
 use Rattle.zset_core.specs.declared.refusal.Refusal.TheVariants.{NoMemory, ScoreOverflow}
 use Rattle.zset_core.specs.World.{World, set_at, put_set}
 use Rattle.append_log.specs.Records.{Record}
-use Rattle.append_log.specs.Replay.{after, after_reading}
+use Rattle.append_log.specs.Replay.{after}
+use Rattle.append_log.specs.declared.version.Version.TheVariants.{Effects}
 use Rattle.append_log.specs.Log.{LogView, HasRecords, IsLog, Ends}
 use Rattle.append_log.specs.LoggedOwner.{LoggedView, AreSame, Changes, NotAppended, NotRun, Replays}
-use Rattle.append_log.proofs.ReplayLemmas.{replay-append, replay-one}
-use Rattle.append_log.proofs.SameWorlds.{some_is, AreSame-put_back, set_at-put_set-same, act-same}
+use Rattle.append_log.proofs.ReplayLemmas.{replay-push}
+use Rattle.append_log.proofs.SameWorlds.{some_is, AreSame-put_back, AreSame-put_set, set_at-put_set-same}
 use Rattle.append_log.proofs.OutlineLemmas.{unchanged}
 
 -- what a commit does, by the outline
@@ -50,30 +51,28 @@ changes-ready world (Some k) meaning outline next ready o change = shown (step (
     shown None is = absurd is
     shown (Some done) is = (by_next world (put_set world k done.0) outline (k, record { meaning = meaning; members = done.0; reply = done.1 }) refl (subst (λ (n : Option (List ℕ × Next)). IfSome n (λ n. IsOutline outline (set_at world n.0) n.1.members)) is o)).moved change
 
+-- the set that is prepared is another
+pub changes-next : (world : World) (outline : Outline) (next : Option (List ℕ × Next)) → IfSome next (λ n. IsOutline outline (set_at world n.0) n.1.members) → outline.changed ≡ true → IfSome next (λ n. n.1.members ≢ set_at world n.0)
+changes-next world outline None o change = tt
+changes-next world outline (Some n) o change = o.changed.0 change
+
 -- a command that changes a set and whose record is not appended is not run
 pub not_run : (refusal : Refusal) (world : World) (made : Option (World × Response)) (bytes : List ℕ) (old new : LogView) → Changes world made → NotAppended refusal bytes old new → NotRun refusal world made bytes old new
 not_run NoMemory world made bytes old new changes cause = cause
 not_run ScoreOverflow world made bytes old new changes cause = absurd cause
 not_run refusal world made bytes old new changes cause = (changes, cause)
 
-after-writing : (world : World) (words : Record) (meaning : Meaning) → asked words ≡ Ok meaning → IsTrue (is_writing meaning) → after world words ≡ option_map (λ done. done.0) (act world meaning)
-after-writing world words meaning read writes =
-    ap (after_reading world) read ∙ ap (λ (b : Bool). cond b (option_map (λ done. done.0) (act world meaning)) None) writes
-
 -- a record more
-pub Replays-push : (start : World) (old new : LoggedView) (command : Asked) (reply : Response) → asked command.words ≡ Ok command.meaning → IsTrue (is_writing command.meaning)
-    → act old.world command.meaning ≡ Some (new.world, reply) → ((records : List Record) → HasRecords old.log records → HasRecords new.log (records ++ command.words ∷ [])) → Replays start old → Replays start new
-Replays-push start old new command reply read writes acted more r =
-    let a = act-same old.world r.world (key_of command.meaning) command.meaning new.world reply (λ q. sym (r.same q)) acted in
-    record {
-      records = r.records ++ command.words ∷ [];
-      stand = more r.records r.stand;
-      world = a.0;
-      replayed =
-          replay-append start r.records (command.words ∷ []) r.world r.replayed ∙ replay-one r.world command.words
-          ∙ after-writing r.world command.words command.meaning read writes ∙ ap (option_map (λ done. done.0)) a.1;
-      same = a.2;
-    }
+pub Replays-push : (start : World) (old new : LoggedView) (words : Record) (key : List ℕ) (members : Members) → new.world ≡ put_set old.world key members
+    → ((world : World) → AreSame world old.world → after Effects world words ≡ Some (put_set world key members)) → ((records : List Record) → HasRecords old.log records → HasRecords new.log (records ++ words ∷ []))
+    → Replays start old → Replays start new
+Replays-push start old new words key members made leads more r = record {
+  records = r.records ++ words ∷ [];
+  stand = more r.records r.stand;
+  world = put_set r.world key members;
+  replayed = replay-push start r.records words r.world (put_set r.world key members) r.replayed (leads r.world r.same);
+  same = λ q. AreSame-put_set r.world old.world key members r.same q ∙ ap (λ (w : World). set_at w q) (sym made);
+}
 
 -- the same records
 pub Replays-stay : (start : World) (old new : LoggedView) → AreSame old.world new.world → ((records : List Record) → HasRecords old.log records → HasRecords new.log records) → Replays start old → Replays start new

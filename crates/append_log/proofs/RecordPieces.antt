@@ -73,6 +73,10 @@ words_more first items new pairs i pair d lt is was now =
 pub front_taken : (old new : Option (List ℕ)) (bytes : List ℕ) (n : ℕ) → new ≡ append_known old (take n bytes) → TakesPrefix old new bytes
 front_taken old new bytes n told = record { out = take n bytes; more = drop n bytes; whole = take-append-drop n bytes; told = told }
 
+-- a write that took all of a text
+pub taken_whole : (old new : Option (List ℕ)) (bytes text : List ℕ) (n : ℕ) → new ≡ append_known old (take n bytes) → n ≡ length bytes → bytes ≡ text → new ≡ append_known old text
+taken_whole old new bytes text n told all is = told ∙ ap (append_known old) (take_all n bytes (omega (arith, all)) ∙ is)
+
 pub on_err : {T E P : Type 0} (result : Result T E) → P → OnErr result P
 on_err (Ok value) p = tt
 on_err (Err e) p = p

@@ -2,7 +2,7 @@
 use Rattle.std.proofs.Common.{◌≡◌, ℕ, Result, Ok, Err, subst, sym, ◌∙◌}
 use Rattle.std.specs.Prelude.{◌≢◌, IfErr, IsErrAnd, MatchResult}
 use Rattle.append_log.specs.declared.loading.ReloadFault.{ReloadFault}
-use Rattle.append_log.specs.declared.loading.ReloadFault.TheVariants.{NoMemory, Damaged, ReadFault, NotACommand, TooManyReads}
+use Rattle.append_log.specs.declared.loading.ReloadFault.TheVariants.{NoMemory, Damaged, ReadFault, NotACommand, TooManyReads, UnknownVersion}
 use Rattle.append_log.specs.ReloadSteps.{IsOfBytes, SourceFailed}
 
 source_stays : (fault : ReloadFault) (old new : ℕ) → IsOfBytes fault → new ≡ old → SourceFailed fault old new
@@ -11,6 +11,7 @@ source_stays (Damaged at) old new from same = same
 source_stays ReadFault old new from same = absurd from
 source_stays (NotACommand at) old new from same = same
 source_stays TooManyReads old new from same = absurd from
+source_stays UnknownVersion old new from same = same
 
 -- what the bytes give is no failure of the source
 pub of_bytes : {U : Type 0} (fault : ReloadFault) (result : Result U ReloadFault) (old new : ℕ) → IsOfBytes fault → IsErrAnd result (λ e. e ≡ fault) → new ≡ old
@@ -24,6 +25,7 @@ never_late (Damaged at) from is = cc
 never_late ReadFault from is = absurd from
 never_late (NotACommand at) from is = cc
 never_late TooManyReads from is = absurd from
+never_late UnknownVersion from is = cc
 
 pub not_late : {U : Type 0} (fault : ReloadFault) (result : Result U ReloadFault) → IsOfBytes fault → IsErrAnd result (λ e. e ≡ fault) → IfErr result (λ e. e ≢ TooManyReads)
 not_late fault (Ok u) from handed = tt

@@ -34,7 +34,7 @@ put_one_get m k s q = by (fin.get m k) refl
     by None is = fin.get-insert total m k s q
     by (Some old) is = there old is (int_eq s old) refl
 
-put_all_get : (base m : Members) (ps : List Pair) (q : List ℕ) → AllByRecursion (λ p. fin.get m p.1 ≡ Some p.0) ps → fin.get (put_all plain base ps) q ≡ cond (has_member ps q) (fin.get m q) (fin.get base q)
+pub put_all_get : (base m : Members) (ps : List Pair) (q : List ℕ) → AllByRecursion (λ p. fin.get m p.1 ≡ Some p.0) ps → fin.get (put_all plain base ps) q ≡ cond (has_member ps q) (fin.get m q) (fin.get base q)
 put_all_get base m [] q each = refl
 put_all_get base m (p ∷ ps) q each =
     put_all_get (put_one plain base p.1 p.0) m ps q each.1 ∙ ap (cond (has_member ps q) (fin.get m q)) (put_one_get base p.1 p.0 q) ∙ by (eq_by_cmp bytes_cmp q p.1) refl (has_member ps q)

@@ -6,6 +6,7 @@ use Rattle.score_bounds.specs.Scores.{score_text}
 use Rattle.zset_core.specs.SortedSet.{Pair, Members, whole}
 use Rattle.zset_core.specs.World.{World, set_at}
 use Rattle.append_log.specs.Records.{Record}
+use Rattle.append_log.specs.Replay.{header}
 
 -- ZADD of pairs
 abbrev pub add_record : List ℕ → List Pair → Record
@@ -34,3 +35,7 @@ records_at world keys = flat_map (λ key. set_records key (set_at world key)) ke
 -- the records of a world: its sets in the byte order of their keys
 abbrev pub dump : World → List Record
 dump world = records_at world (fin.keys world)
+
+-- what a rewrite writes: the header, and these records
+abbrev pub image : World → List Record
+image world = header ∷ dump world

@@ -7,5 +7,6 @@ pub mod Reload
 pub mod ReloadSteps
 pub mod LoggedOwner
 pub mod Dump
+pub mod EffectRecords
 pub mod Rewrite
 pub mod FileOpening

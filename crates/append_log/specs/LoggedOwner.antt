@@ -9,6 +9,7 @@ use Rattle.zset_core.specs.AbstractCommand.{Asked}
 use Rattle.zset_core.specs.declared.refusal.Refusal.{Refusal}
 use Rattle.zset_core.specs.declared.refusal.Refusal.TheVariants.{NoMemory, ScoreOverflow, LogBroken, LogFull, LogRefused}
 use Rattle.append_log.specs.Records.{Record}
+use Rattle.append_log.specs.EffectRecords.{change_record, record_made}
 use Rattle.append_log.specs.Replay.{replay}
 use Rattle.append_log.specs.Log.{LogView, HasRecords, Appends, Breaks}
 
@@ -51,14 +52,14 @@ NotRun NoMemory world made bytes old new = new ≡ old
 NotRun ScoreOverflow world made bytes old new = (new ≡ old) × (made ≡ None)
 NotRun refusal world made bytes old new = Changes world made × NotAppended refusal bytes old new
 
--- a command was run: its record was appended exactly where a set changed
+-- a command was run: the record of its change was appended exactly where a set changed
 pub record Ran (old new : LoggedView) (command : Asked) (reply : Response) : Type 0 where
   pub acted : act old.world command.meaning ≡ Some (new.world, reply)
   pub kept : AreSame old.world new.world → (new.log ≡ old.log) × (new.share ≡ old.share)
-  pub logged : (AreSame old.world new.world → ⊥) → Appends old.log new.log (request command.words) × (new.share ≡ old.share + 1)
+  pub logged : (AreSame old.world new.world → ⊥) → Appends old.log new.log (request (change_record command old.world new.world)) × (new.share ≡ old.share + 1)
 
 -- a command was refused: all sets stay
 pub record Refused (old new : LoggedView) (command : Asked) (refusal : Refusal) : Type 0 where
   pub world_stays : new.world ≡ old.world
   pub share_stays : new.share ≡ old.share
-  pub cause : NotRun refusal old.world (act old.world command.meaning) (request command.words) old.log new.log
+  pub cause : NotRun refusal old.world (act old.world command.meaning) (request (record_made command old.world (act old.world command.meaning))) old.log new.log

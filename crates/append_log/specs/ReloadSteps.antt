@@ -1,15 +1,18 @@
 -- How far a reload came, between its steps.
-use Rattle.std.specs.Prelude.{◌≡◌, ℕ, ◌+◌, ◌≤◌, List, ◌++◌, Bool, true, false, Option, None, Some, Result, Ok, Err}
+use Rattle.std.specs.Prelude.{◌≡◌, ℕ, ◌+◌, ◌≤◌, List, [], ◌∷◌, ◌++◌, Bool, true, false, Option, None, Some, Result, Ok, Err}
 use Rattle.resp_wire.specs.Device.{Rose}
 use Rattle.resp_wire.specs.DecoderView.{DecoderView}
 use Rattle.zset_core.specs.World.{World}
 use Rattle.append_log.specs.Reload.{Holds, IsLess, IsLoaded, FaultAt}
+use Rattle.append_log.specs.Records.{Record}
+use Rattle.append_log.specs.Replay.{replay_from, names_version, is_header, version_after, count_from}
+use Rattle.append_log.specs.declared.version.Version.{Version}
 use Rattle.append_log.specs.declared.loading.Loaded.{Loaded}
 use Rattle.std.specs.Io.KnownBytes.{prepend_known}
 use Rattle.append_log.specs.declared.loading.ReloadFault.{ReloadFault}
 use Rattle.append_log.specs.declared.loading.ReloadFault.TheVariants as faults
 use Rattle.append_log.specs.declared.loading.Unreplayed.{Unreplayed}
-use Rattle.append_log.specs.declared.loading.Unreplayed.TheVariants.{NoMemory, NotACommand}
+use Rattle.append_log.specs.declared.loading.Unreplayed.TheVariants.{NoMemory, NotACommand, UnknownVersion}
 
 -- a reload between two of its steps: no fault was answered, and each record took a byte or more
 pub record IsBetweenReads (wire : DecoderView) (records : ℕ) : Type 0 where
@@ -20,29 +23,42 @@ pub record IsBetweenReads (wire : DecoderView) (records : ℕ) : Type 0 where
 abbrev pub UnreplayedFor : Unreplayed → Option World → Type 0
 UnreplayedFor NoMemory next = Unit {0}
 UnreplayedFor NotACommand next = next ≡ None
+UnreplayedFor UnknownVersion next = ⊥
 
--- one record more was replayed; or none is whole; or the reload ends
-abbrev pub Stepped : Result Bool ReloadFault → World → List ℕ → ℕ → DecoderView → World → Type 0
-Stepped (Ok true) start bytes count new world = Holds start bytes new world (count + 1)
-Stepped (Ok false) start bytes count new world = Holds start bytes new world count × IsLess new.held
-Stepped (Err fault) start bytes count new world = FaultAt fault start bytes world
+-- a record is not taken: the same, or the first one names another version
+abbrev pub NotTakenFor : Unreplayed → Option Version → World → Record → Type 0
+NotTakenFor NoMemory version world words = Unit {0}
+NotTakenFor NotACommand version world words = (replay_from version world (words ∷ []) ≡ None) × (version ≡ None → names_version words ≡ false)
+NotTakenFor UnknownVersion version world words = (version ≡ None) × (names_version words ≡ true) × (is_header words ≡ false)
+
+-- a record was taken: replayed and counted, or a header was passed over
+pub record Takes (from to : Option Version) (before after : ℕ) (old new : World) (words : Record) : Type 0 where
+  pub replayed : replay_from from old (words ∷ []) ≡ Some new
+  pub version : to ≡ version_after from (words ∷ [])
+  pub count : after ≡ before + count_from from (words ∷ [])
+
+-- one record more was taken; or none is whole; or the reload ends
+abbrev pub Stepped : Result Bool ReloadFault → World → List ℕ → DecoderView → World → ℕ → Option Version → Type 0
+Stepped (Ok true) start bytes new world count version = Holds start bytes new world count version
+Stepped (Ok false) start bytes new world count version = Holds start bytes new world count version × IsLess new.held
+Stepped (Err fault) start bytes new world count version = FaultAt fault start bytes world
 
 -- all that is held was replayed as far as it is whole; or the reload ends
-abbrev pub Drained : {U : Type 0} → Result U ReloadFault → World → List ℕ → DecoderView → World → ℕ → Type 0
-Drained (Ok u) start bytes new world count = Holds start bytes new world count × IsLess new.held
-Drained (Err fault) start bytes new world count = FaultAt fault start bytes world
+abbrev pub Drained : {U : Type 0} → Result U ReloadFault → World → List ℕ → DecoderView → World → ℕ → Option Version → Type 0
+Drained (Ok u) start bytes new world count version = Holds start bytes new world count version × IsLess new.held
+Drained (Err fault) start bytes new world count version = FaultAt fault start bytes world
 
 -- one read, and what followed from it: the file ended; or it may go on; or the reload ends
-abbrev pub Rounded : Result (Option Loaded) ReloadFault → World → List ℕ → DecoderView → World → ℕ → Type 0
-Rounded (Ok (Some loaded)) start bytes wire world count = IsLoaded start bytes loaded world
-Rounded (Ok None) start bytes wire world count = Holds start bytes wire world count × IsLess wire.held
-Rounded (Err fault) start bytes wire world count = FaultAt fault start bytes world
+abbrev pub Rounded : Result (Option Loaded) ReloadFault → World → List ℕ → DecoderView → World → ℕ → Option Version → Type 0
+Rounded (Ok (Some loaded)) start bytes wire world count version = IsLoaded start bytes loaded world
+Rounded (Ok None) start bytes wire world count version = Holds start bytes wire world count version × IsLess wire.held
+Rounded (Err fault) start bytes wire world count version = FaultAt fault start bytes world
 
 -- one read from where all was replayed as far as it is whole
-pub record ReadsOn (source₀ source₁ : Option (List ℕ)) (wire₀ wire₁ : DecoderView) (world₀ world₁ : World) (count₀ count₁ : ℕ) (result : Result (Option Loaded) ReloadFault) : Type 0 where
+pub record ReadsOn (source₀ source₁ : Option (List ℕ)) (wire₀ wire₁ : DecoderView) (world₀ world₁ : World) (count₀ count₁ : ℕ) (version₀ version₁ : Option Version) (result : Result (Option Loaded) ReloadFault) : Type 0 where
   pub piece : List ℕ
   pub read_is : source₀ ≡ prepend_known piece source₁
-  pub rounded : (start : World) (bytes : List ℕ) → Holds start bytes wire₀ world₀ count₀ → IsLess wire₀.held → Rounded result start (bytes ++ piece) wire₁ world₁ count₁
+  pub rounded : (start : World) (bytes : List ℕ) → Holds start bytes wire₀ world₀ count₀ version₀ → IsLess wire₀.held → Rounded result start (bytes ++ piece) wire₁ world₁ count₁ version₁
 
 -- faults that the bytes give, or out of memory
 abbrev pub IsOfBytes : ReloadFault → Type 0
@@ -51,6 +67,7 @@ IsOfBytes (faults.Damaged at) = Unit {0}
 IsOfBytes faults.ReadFault = ⊥
 IsOfBytes (faults.NotACommand at) = Unit {0}
 IsOfBytes faults.TooManyReads = ⊥
+IsOfBytes faults.UnknownVersion = Unit {0}
 
 -- a source's count of failures rose exactly where a reload ends by a read fault
 abbrev pub SourceFailed : ReloadFault → ℕ → ℕ → Type 0
@@ -59,10 +76,11 @@ SourceFailed (faults.Damaged at) old new = new ≡ old
 SourceFailed faults.ReadFault old new = Rose old new
 SourceFailed (faults.NotACommand at) old new = new ≡ old
 SourceFailed faults.TooManyReads old new = new ≡ old
+SourceFailed faults.UnknownVersion old new = new ≡ old
 
 -- all that was read is replayed as far as it is whole
-pub record Underway (source₀ source₁ : Option (List ℕ)) (start : World) (wire : DecoderView) (world : World) (count : ℕ) : Type 0 where
+pub record Underway (source₀ source₁ : Option (List ℕ)) (start : World) (wire : DecoderView) (world : World) (count : ℕ) (version : Option Version) : Type 0 where
   pub bytes : List ℕ
   pub read_is : source₀ ≡ prepend_known bytes source₁
-  pub holds : Holds start bytes wire world count
+  pub holds : Holds start bytes wire world count version
   pub less : IsLess wire.held

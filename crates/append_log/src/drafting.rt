@@ -1,20 +1,19 @@
-//! A new append file, written as a draft first.
+//! A new append file, written as a draft first: under a name that is free, or in an old file's place.
 
 ghost use Rattle.std.specs.Prelude.{◌≡◌, ◌^◌, ◌-◌, None, length, min, IfOk};
 ghost use Rattle.append_log.specs.Dump.{dump};
 ghost use Rattle.append_log.specs.declared.drafting.RenewFault.TheVariants as renews;
 
-use crate::file::{FileFault, FileSink, LockFile};
+use crate::file::{FileFault, FileSink, LockFile, is_named_by};
 use crate::opening::sync_folder;
 use crate::renewing::{RewriteFault, rewrite};
 use std::alloc::Allocator;
 use std::fs::{self, Files, OpenFile, OpenOptions};
 use std::hash::BuildHasher;
-use std::os::unix::fs::MetadataExt;
 use thiserror::Error;
 use zset_core::OneOwner;
 
-/// Why there is no new append file.
+/// Why there is no new append file, or none in an old one's place.
 #[derive(Clone, Copy, Debug, PartialEq, Eq, Error)]
 pub enum RenewFault {
     /// The new file or its draft can't be used.
@@ -33,22 +32,13 @@ impl From<FileFault> for RenewFault {
     }
 }
 
-/// Whether this path names the file that is open. Else it was another's draft, which has its name
-/// by now.
-fn is_named<R: Files>(rt: &R, file: &R::File, path: &str) -> bool {
-    match (file.metadata(), fs::symlink_metadata(rt, path)) {
-        (Ok(open), Ok(named)) => open.dev() == named.dev() && open.ino() == named.ino(),
-        _ => false,
-    }
-}
-
-/// Locks a draft alone, under its name.
+/// Locks a draft alone, under its name. One that has another name was somebody else's draft.
 fn hold_draft<R: Files>(rt: &R, file: &R::File, draft: &str) -> Result<(), FileFault>
 where
     R::File: LockFile,
 {
     file.hold_alone()?;
-    if is_named(rt, file, draft) {
+    if is_named_by(file, fs::symlink_metadata(rt, draft)) {
         Ok(())
     } else {
         Err(FileFault::Locked)
@@ -77,8 +67,9 @@ where
     R::File: LockFile,
 {
     remove_old(rt, draft)?;
+    // It may become the file to which a log appends.
     let Ok(file) = OpenOptions::new()
-        .write(true)
+        .append(true)
         .create_new(true)
         .open(rt, draft)
     else {
@@ -86,6 +77,28 @@ where
     };
     hold_draft(rt, &file, draft)?;
     Ok(file)
+}
+
+/// Gives a draft the permissions of the file whose place it is to take, where it has others, or takes
+/// it away.
+fn take_permissions<R: Files>(
+    rt: &R,
+    file: &R::File,
+    old: &R::File,
+    draft: &str,
+) -> Result<(), FileFault> {
+    let is_done = match (file.metadata(), old.metadata()) {
+        (Ok(found), Ok(wanted)) => {
+            found.permissions() == wanted.permissions()
+                || file.set_permissions(wanted.permissions()).is_ok()
+        }
+        _ => false,
+    };
+    if is_done {
+        return Ok(());
+    }
+    let _gone = fs::remove_file(rt, draft);
+    Err(FileFault::Open)
 }
 
 /// The names of a new append file: that of its draft, and its own.
@@ -110,11 +123,22 @@ fn name_draft<R: Files>(rt: &R, names: Names<'_>) -> Result<(), FileFault> {
     Err(FileFault::Folder)
 }
 
-/// Writes the records of the owner's sets into a draft, and gives it its name, or takes it away.
+/// Gives a whole draft the name of an old file. Where it can't take the name the old file keeps it,
+/// and the draft is taken away; where only the folder can't be synced, the new file has the name.
+fn replace_by_draft<R: Files>(rt: &R, names: Names<'_>) -> Result<(), FileFault> {
+    if fs::rename(rt, names.draft, names.path).is_err() {
+        let _gone = fs::remove_file(rt, names.draft);
+        return Err(FileFault::Name);
+    }
+    sync_folder(rt, names.path)
+}
+
+/// Writes the header and the records of the owner's sets into a draft, and syncs it, or takes it
+/// away.
 fn fill_draft<R: Files, H: BuildHasher + Clone + Drop, A: Allocator + Copy>(
     rt: &R,
     alloc: A,
-    names: Names<'_>,
+    draft: &str,
     owner: &OneOwner<H, A>,
     sink: &mut FileSink<R::File>,
 ) -> Result<u64, RenewFault>
@@ -122,23 +146,28 @@ fn fill_draft<R: Files, H: BuildHasher + Clone + Drop, A: Allocator + Copy>(
     ensures { IfOk result (λ n. n ≡ min (length (dump owner.now.world)) (2 ^ 64 - 1)) }
 {
     match rewrite(alloc, owner, sink) {
-        Ok(records) => {
-            name_draft(rt, names)?;
-            Ok(records)
-        }
+        Ok(records) => Ok(records),
         Err(fault) => {
-            let _gone = fs::remove_file(rt, names.draft);
+            let _gone = fs::remove_file(rt, draft);
             Err(RenewFault::Rewrite(fault))
         }
+    }
+}
+
+/// The name of a file's draft.
+fn draft_of<A: Allocator>(alloc: A, path: &str) -> Result<String<A>, RenewFault> {
+    match format!(in alloc; "{path}.new") {
+        Ok(draft) => Ok(draft),
+        Err(_) => Err(RenewFault::Rewrite(RewriteFault::NoMemory)),
     }
 }
 
 /// Makes a new append file with the records of an owner's sets, and gives their number, which stays
 /// at 2^64 - 1.
 ///
-/// The records are written into a draft beside it, whose name has `.new` behind. Once these are
-/// synced the draft is brought to its name by a link, and the folder is synced. The file is locked
-/// alone meanwhile, under either name.
+/// A draft beside it, whose name has `.new` behind, gets the header and these records. Once it is
+/// synced it is brought to its name by a link, and the folder is synced. The file is locked alone
+/// meanwhile, under either name.
 ///
 /// # Errors
 ///
@@ -155,13 +184,50 @@ where
     requires { owner.now.next ≡ None }
     ensures { IfOk result (λ n. n ≡ min (length (dump owner.now.world)) (2 ^ 64 - 1)) }
 {
-    let Ok(draft) = format!(in alloc; "{path}.new") else {
-        return Err(RenewFault::Rewrite(RewriteFault::NoMemory));
-    };
-    let mut sink = FileSink::new(make_draft(rt, draft.as_str())?);
+    let draft = draft_of(alloc, path)?;
     let names = Names {
         draft: draft.as_str(),
         path,
     };
-    fill_draft(rt, alloc, names, owner, &mut sink)
+    let mut sink = FileSink::new(make_draft(rt, names.draft)?);
+    let records = fill_draft(rt, alloc, names.draft, owner, &mut sink)?;
+    name_draft(rt, names)?;
+    Ok(records)
+}
+
+/// Puts a new append file with the records of an owner's sets in the place of an old one, and gives
+/// it, open for appending and locked alone. The path is that of the old file itself and no link.
+///
+/// A draft beside it, whose name has `.new` behind, gets the header and these records, and the old
+/// file's permissions. Once it is synced it is renamed over the old file, and the folder is synced.
+/// Whoever holds the old file's lock meanwhile keeps all others out: the draft is locked before its
+/// first byte.
+///
+/// # Errors
+///
+/// The old file stands as it was, but where only the folder could not be synced: the new one has its
+/// name then. The draft is taken away as far as that can be done, but for one that somebody else
+/// holds.
+pub(crate) fn replace_old<R: Files, H: BuildHasher + Clone + Drop, A: Allocator + Copy>(
+    rt: &R,
+    alloc: A,
+    path: &str,
+    old: &R::File,
+    owner: &OneOwner<H, A>,
+) -> Result<R::File, RenewFault>
+where
+    R::File: LockFile,
+    requires { owner.now.next ≡ None }
+{
+    let draft = draft_of(alloc, path)?;
+    let names = Names {
+        draft: draft.as_str(),
+        path,
+    };
+    let file = make_draft(rt, names.draft)?;
+    take_permissions(rt, &file, old, names.draft)?;
+    let mut sink = FileSink::new(file);
+    let _records = fill_draft(rt, alloc, names.draft, owner, &mut sink)?;
+    replace_by_draft(rt, names)?;
+    Ok(sink.into_file())
 }

@@ -6,8 +6,9 @@ ghost use Rattle.append_log.specs.FileOpening.{IsOfLock};
 
 use crate::sink::{LogSink, SinkFault};
 use resp_wire::{ATTEMPTS, is_interrupted, write_uninterrupted};
-use std::fs::{File, OpenFile, TryLockError};
+use std::fs::{File, Metadata, OpenFile, TryLockError};
 use std::io::{Result as IoResult, Write};
+use std::os::unix::fs::MetadataExt;
 use thiserror::Error;
 
 /// Why a file can't be used.
@@ -19,7 +20,7 @@ pub enum FileFault {
     /// It is a folder, a pipe or a device.
     #[error("it is no regular file")]
     NotRegular,
-    /// Somebody else holds a lock on it.
+    /// Somebody else holds a lock on it, or gave its name to another file meanwhile.
     #[error("it is in use")]
     Locked,
     /// The system gave no lock.
@@ -28,7 +29,14 @@ pub enum FileFault {
     /// Its torn end could not be cut.
     #[error("it can't be cut")]
     Cut,
-    /// It could not be given its name: a file of that name is there, or the folder has no links.
+    /// Its bytes could not be brought to the device.
+    #[error("it can't be synced")]
+    Sync,
+    /// A record could not be written or synced.
+    #[error("it can't be written")]
+    Write,
+    /// It could not be given its name: a file of that name is there, or the folder has no links, or
+    /// does not let it be renamed.
     #[error("it can't be given its name")]
     Name,
     /// Its folder could not be synced.
@@ -73,7 +81,18 @@ impl LockFile for File {
     }
 }
 
-fn sync_uninterrupted<F: OpenFile>(file: &F) -> IoResult<()> {
+/// Whether a path that has this metadata names the file that is open. Else it was given to another
+/// file, or taken away, after the file was opened.
+pub(crate) fn is_named_by<F: OpenFile>(file: &F, found: IoResult<Metadata>) -> bool {
+    match (file.metadata(), found) {
+        (Ok(open), Ok(named)) => open.dev() == named.dev() && open.ino() == named.ino(),
+        _ => false,
+    }
+}
+
+/// Brings a file's data to the device. A call that a signal interrupted is made again, a hundred
+/// times at the most.
+pub(crate) fn sync_uninterrupted<F: OpenFile>(file: &F) -> IoResult<()> {
     for _ in 1..ATTEMPTS {
         let answer = file.sync_data();
         if !is_interrupted(&answer) {
@@ -103,6 +122,11 @@ impl<F: Write + OpenFile> FileSink<F> {
             calls: 0,
             failures: 0,
         }
+    }
+
+    /// The file, for a sink that counts anew.
+    pub(crate) fn into_file(self) -> F {
+        self.file
     }
 
     fn fail(&mut self) -> SinkFault

@@ -1,12 +1,14 @@
-//! The append file: a log of the commands that changed sets, its reload, and its rewrite.
+//! The append file: a log of the changes of sets, its reload, and its rewrite.
 //!
-//! A record is the request of a command that changes sets, in RESP2, with its arguments as they
-//! were given. Records stand one behind the other, and each is synced before its command is
+//! A record is the request of a command that changes sets, in RESP2. In a file of version 1 it is
+//! the command as it was given; in one of version 2, which begins with a header, it is what the
+//! command changed. Records stand one behind the other, and each is synced before its command is
 //! answered, so that a reload after a crash replays to all that was answered.
 #![tactic(auto)]
 
 mod drafting;
 mod file;
+pub mod laws;
 mod ledger_share;
 mod loading;
 mod log;
@@ -16,6 +18,7 @@ mod record;
 mod renewing;
 mod share;
 mod sink;
+mod version;
 
 pub use drafting::{RenewFault, write_anew};
 pub use file::{FileFault, FileSink, LockFile};
@@ -27,3 +30,4 @@ pub use record::Record;
 pub use renewing::{RewriteFault, rewrite};
 pub use share::RecordShare;
 pub use sink::{FuseSink, LogSink, MemorySink, NoSink, SinkFault};
+pub use version::Version;

@@ -5,12 +5,12 @@ ghost use Rattle.std.specs.Io.KnownBytes.{prepend_known, IsAtEnd};
 ghost use Rattle.resp_wire.specs.Device.{Rose, saturating_succ};
 ghost use Rattle.resp_wire.specs.RequestEncoding.{request as request_text};
 ghost use Rattle.zset_core.specs.World.{World as WorldType};
-ghost use Rattle.append_log.specs.Replay.{after};
-ghost use Rattle.append_log.specs.Reload.{Reads};
-ghost use Rattle.append_log.specs.ReloadSteps.{IsBetweenReads, Stepped, Drained, ReadsOn, SourceFailed, IsOfBytes, UnreplayedFor};
-ghost use Rattle.append_log.specs.Reload.{Holds};
+ghost use Rattle.append_log.specs.Replay.{after, is_replayed as is_replayed_by};
+ghost use Rattle.append_log.specs.Reload.{Holds, Reads};
+ghost use Rattle.append_log.specs.ReloadSteps.{IsBetweenReads, Stepped, Drained, ReadsOn, SourceFailed, IsOfBytes, UnreplayedFor, NotTakenFor, Takes};
 ghost use Rattle.append_log.specs.declared.loading.ReloadFault.TheVariants as faults;
 
+use crate::version::{Version, is_header, names_version, number_of};
 use resp_wire::{
     ByteSource, Decoder, MAX_READ_BUFFER, MAX_READS, Request, WireFault, laws, write_request,
 };
@@ -22,12 +22,14 @@ use zset_core::{Command, OneOwner, Refusal};
 /// What a reload took.
 #[derive(Clone, Copy, Debug, PartialEq, Eq)]
 pub struct Loaded {
-    /// How many records were replayed.
+    /// How many records were replayed. A header is none.
     pub records: u64,
-    /// The bytes of the whole records, and of the skips between them.
+    /// The bytes of the whole records, of the header, and of the skips between them.
     pub whole: u64,
     /// The bytes behind them: the torn end of one more record.
     pub torn: u64,
+    /// The file's version, 1 or 2: 2 where the first record is the header.
+    pub version: u8,
 }
 
 /// Why a reload ended before the end of its file. What was replayed before stands.
@@ -42,11 +44,14 @@ pub enum ReloadFault {
     #[error("the append file can't be read")]
     ReadFault,
     /// The record that begins at this byte, counted from 0, is no command that changes sets, or is
-    /// refused.
+    /// refused; or in a file of version 2 it is a ZADD with an option.
     #[error("the append file has no command at byte {0}")]
     NotACommand(u64),
     #[error("the append file was read as often as allowed")]
     TooManyReads,
+    /// The first record names a version other than 2. Nothing was replayed.
+    #[error("the append file is of an unknown version")]
+    UnknownVersion,
 }
 
 impl From<AllocError> for ReloadFault {
@@ -62,26 +67,38 @@ impl From<AllocError> for ReloadFault {
 pub(crate) enum Unreplayed {
     NoMemory,
     NotACommand,
+    UnknownVersion,
+}
+
+/// Whether a command is replayed in a file of this version.
+fn is_replayed<A: Allocator>(version: Version, command: &Command<A>) -> bool
+    ensures { result ≡ is_replayed_by version command.now.meaning }
+{
+    match version {
+        Version::Commands => command.writes(),
+        Version::Effects => command.writes() && !command.has_options(),
+    }
 }
 
 /// Replays one record. All sets stay where it is not replayed.
 fn replay_one<H: BuildHasher + Clone + Drop, A: Allocator + Copy>(
     alloc: A,
     owner: &mut OneOwner<H, A>,
+    version: Version,
     request: Request<A>,
 ) -> Result<(), Unreplayed>
     requires idle { owner.old.next ≡ None }
     ensures idle { owner.new.next ≡ None }
-    ensures ok { OnOk result (after owner.old.world request ≡ Some owner.new.world) }
+    ensures ok { OnOk result (after version owner.old.world request ≡ Some owner.new.world) }
     ensures err { OnErr result (owner.new.world ≡ owner.old.world) }
-    ensures cause { IfErr result (λ cause. UnreplayedFor cause (after owner.old.world request)) }
+    ensures cause { IfErr result (λ cause. UnreplayedFor cause (after version owner.old.world request)) }
 {
     let command = match Command::read(alloc, request) {
         Ok(command) => command,
         Err(Refusal::NoMemory) => return Err(Unreplayed::NoMemory),
         Err(_) => return Err(Unreplayed::NotACommand),
     };
-    if !command.writes() {
+    if !is_replayed(version, &command) {
         return Err(Unreplayed::NotACommand);
     }
     match owner.run(&command) {
@@ -109,6 +126,8 @@ struct Reloader<A: Allocator> {
     scratch: Vec<u8, A>,
     /// The number of records that were replayed.
     records: u64,
+    /// How records are read, once the first one was taken.
+    version: Option<Version>,
 }
 
 impl<A: Allocator + Copy> Reloader<A> {
@@ -116,34 +135,72 @@ impl<A: Allocator + Copy> Reloader<A> {
     fn new(alloc: A) -> Self
         ensures decoder { result.decoder ≡ record { held = []; taken = 0; fault = None } }
         ensures records { result.records ≡ 0 }
+        ensures version { result.version ≡ None }
     {
         Reloader {
             alloc,
             decoder: Decoder::new(alloc),
             scratch: Vec::new(alloc),
             records: 0,
+            version: None,
         }
     }
 
-    /// Replays the next record that the decoder holds, and says whether there was one. It is not
-    /// counted here.
+    /// Takes a record, of which the first tells how the others are read: the header is passed over,
+    /// any other one is replayed and counted.
+    fn take_record<H: BuildHasher + Clone + Drop>(
+        &mut self,
+        owner: &mut OneOwner<H, A>,
+        request: Request<A>,
+    ) -> Result<(), Unreplayed>
+        requires idle { owner.old.next ≡ None }
+        requires few { self.old.records < 2 ^ 60 }
+        ensures idle { owner.new.next ≡ None }
+        ensures decoder { self.new.decoder ≡ self.old.decoder }
+        ensures ok { OnOk result (Takes self.old.version self.new.version self.old.records self.new.records
+            owner.old.world owner.new.world request) }
+        ensures few { self.new.records ≤ self.old.records + 1 }
+        ensures err { OnErr result (owner.new.world ≡ owner.old.world) }
+        ensures cause { IfErr result
+            (λ cause. NotTakenFor cause self.old.version owner.old.world request) }
+    {
+        let version = match self.version {
+            Some(version) => version,
+            None => {
+                if is_header(&request) {
+                    self.version = Some(Version::Effects);
+                    return Ok(());
+                }
+                if names_version(&request) {
+                    return Err(Unreplayed::UnknownVersion);
+                }
+                Version::Commands
+            }
+        };
+        replay_one(self.alloc, owner, version, request)?;
+        self.version = Some(version);
+        self.records += 1;
+        Ok(())
+    }
+
+    /// Takes the next record that the decoder holds, and says whether there was one.
     fn replay_next<H: BuildHasher + Clone + Drop>(
         &mut self,
         owner: &mut OneOwner<H, A>,
     ) -> Result<bool, ReloadFault>
         requires idle { owner.old.next ≡ None }
-        requires unfaulted { self.old.decoder.fault ≡ None }
+        requires ready { IsBetweenReads self.old.decoder self.old.records }
+        requires room { self.old.decoder.taken + length self.old.decoder.held < 2 ^ 60 }
         ensures idle { owner.new.next ≡ None }
-        ensures records { self.new.records ≡ self.old.records }
         ensures bytes { self.new.decoder.taken + length self.new.decoder.held
             ≡ self.old.decoder.taken + length self.old.decoder.held }
-        ensures unfaulted { OnOk result (self.new.decoder.fault ≡ None) }
-        ensures taken { OnOk result (self.old.decoder.taken ≤ self.new.decoder.taken) }
+        ensures ready { OnOk result (IsBetweenReads self.new.decoder self.new.records) }
         ensures took { result ≡ Ok true → self.old.decoder.taken < self.new.decoder.taken }
         ensures cause { IfErr result IsOfBytes }
-        ensures stepped { (start : WorldType) (bytes : List ℕ) (count : ℕ)
-            → Holds start bytes self.old.decoder owner.old.world count
-            → Stepped result start bytes count self.new.decoder owner.new.world }
+        ensures stepped { (start : WorldType) (bytes : List ℕ)
+            → Holds start bytes self.old.decoder owner.old.world self.old.records self.old.version
+            → Stepped result start bytes self.new.decoder owner.new.world self.new.records
+            self.new.version }
     {
         // What a stream holds does not depend on the pieces that it comes in.
         laws::cut();
@@ -155,9 +212,10 @@ impl<A: Allocator + Copy> Reloader<A> {
             Ok(None) => Ok(false),
             Ok(Some(request)) => {
                 let size = text_len(&request, &mut self.scratch)?;
-                match replay_one(self.alloc, owner, request) {
+                match self.take_record(owner, request) {
                     Ok(()) => Ok(true),
                     Err(Unreplayed::NoMemory) => Err(ReloadFault::NoMemory),
+                    Err(Unreplayed::UnknownVersion) => Err(ReloadFault::UnknownVersion),
                     Err(Unreplayed::NotACommand) => {
                         Err(ReloadFault::NotACommand(self.decoder.taken() - size))
                     }
@@ -180,12 +238,11 @@ impl<A: Allocator + Copy> Reloader<A> {
         ensures ready { OnOk result (IsBetweenReads self.new.decoder self.new.records) }
         ensures cause { IfErr result IsOfBytes }
         ensures drained { (start : WorldType) (bytes : List ℕ)
-            → Holds start bytes self.old.decoder owner.old.world self.old.records
-            → Drained result start bytes self.new.decoder owner.new.world self.new.records }
+            → Holds start bytes self.old.decoder owner.old.world self.old.records self.old.version
+            → Drained result start bytes self.new.decoder owner.new.world self.new.records
+            self.new.version }
     {
-        'records: while self.replay_next(owner)? {
-            self.records += 1;
-        }
+        'records: while self.replay_next(owner)? {}
         Ok(())
     }
 
@@ -205,9 +262,9 @@ impl<A: Allocator + Copy> Reloader<A> {
         ensures ready { OnOk result (IsBetweenReads self.new.decoder self.new.records) }
         ensures cause { IfErr result IsOfBytes }
         ensures drained { (start : WorldType) (bytes : List ℕ)
-            → Holds start bytes self.old.decoder owner.old.world self.old.records
+            → Holds start bytes self.old.decoder owner.old.world self.old.records self.old.version
             → Drained result start (bytes ++ piece.now) self.new.decoder owner.new.world
-            self.new.records }
+            self.new.records self.new.version }
     {
         self.decoder.feed(piece)?;
         self.replay_held(owner)
@@ -231,7 +288,7 @@ impl<A: Allocator + Copy> Reloader<A> {
         ensures ready { OnOk result (IsBetweenReads self.new.decoder self.new.records) }
         ensures round { ReadsOn (R.told source.old) (R.told source.new) self.old.decoder
             self.new.decoder owner.old.world owner.new.world self.old.records self.new.records
-            result }
+            self.old.version self.new.version result }
         ensures at_end { IfOk result (λ loaded. IsSome loaded → IsAtEnd (R.told source.new)) }
         ensures not_late { IfErr result (λ fault. fault ≢ faults.TooManyReads) }
         ensures calls { R.calls source.new ≡ saturating_succ (R.calls source.old) }
@@ -247,6 +304,7 @@ impl<A: Allocator + Copy> Reloader<A> {
                 records: self.records,
                 whole: self.decoder.taken(),
                 torn: self.decoder.rest_len() as u64,
+                version: number_of(self.version),
             })),
             Ok(n) => {
                 self.take_piece(owner, &buffer[..n])?;
@@ -257,7 +315,7 @@ impl<A: Allocator + Copy> Reloader<A> {
 }
 
 /// Replays the records that a source gives, on the sets of an owner, until the source is at its
-/// end.
+/// end. The first record decides whether they are commands or effects, as [`Version`] says.
 ///
 /// `buffer` is the length of the slice that is handed to `read`, in bytes, and `max_reads` how
 /// often it is handed. Bytes at the end that are less than a record are not replayed: they are the
@@ -271,9 +329,10 @@ impl<A: Allocator + Copy> Reloader<A> {
 ///
 /// [`ReloadFault::Damaged`] and [`ReloadFault::NotACommand`] name the byte where the first record with a
 /// fault begins, counted from where the source stood; the owner then holds the sets that the records
-/// before it replay to. At [`ReloadFault::ReadFault`], [`ReloadFault::TooManyReads`] (`max_reads` reads
-/// did not come to the end) and [`ReloadFault::NoMemory`] it holds those that some of the records that
-/// were read replay to, from the first on: all of them, but where memory ran out.
+/// before it replay to. At [`ReloadFault::UnknownVersion`] it holds those that it had. At
+/// [`ReloadFault::ReadFault`], [`ReloadFault::TooManyReads`] (`max_reads` reads did not come to the
+/// end) and [`ReloadFault::NoMemory`] it holds those that some of the records that were read replay
+/// to, from the first on: all of them, but where memory ran out.
 pub fn reload<R: ByteSource, H: BuildHasher + Clone + Drop, A: Allocator + Copy>(
     alloc: A,
     source: &mut R,

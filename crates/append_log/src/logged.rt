@@ -1,11 +1,15 @@
 //! An owner of sets whose changes are logged.
 
-ghost use Rattle.std.specs.Prelude.{◌≡◌, ℕ, ◌+◌, ◌≤◌, None, Some, true, false, IfOk, IfErr, OnOk, IsTrue};
+ghost use Rattle.std.specs.Prelude.{◌≡◌, ◌≢◌, ℕ, List, IfSome, ◌+◌, ◌≤◌, None, Some, true, false, IfOk, IfErr, OnOk, IsTrue};
 ghost use Rattle.resp_wire.specs.Response.{response_of};
 ghost use Rattle.resp_wire.specs.RequestEncoding.{request};
-ghost use Rattle.zset_core.specs.AbstractCommand.{is_writing};
-ghost use Rattle.zset_core.specs.World.{World as WorldType};
+ghost use Rattle.zset_core.specs.AbstractCommand.{is_writing, key_of};
+ghost use Rattle.zset_core.specs.SetAndOwnerViews.{IsPreparedAt, IsPreparedFor};
+ghost use Rattle.zset_core.specs.World.{World as WorldType, put_set, set_at};
+ghost use Rattle.append_log.specs.EffectRecords.{next_record, prepared_record};
 ghost use Rattle.append_log.specs.Log.{LogView, Appends, HasRecords, records_after, share_after};
+ghost use Rattle.append_log.specs.Replay.{after};
+ghost use Rattle.append_log.specs.declared.version.Version.TheVariants.{Effects};
 ghost use Rattle.append_log.specs.LoggedOwner.{LoggedView, AreSame, Replays, NotAppended, Ran, Refused};
 
 use crate::log::Log;
@@ -17,26 +21,66 @@ use std::alloc::Allocator;
 use std::hash::BuildHasher;
 use std::marker::Model;
 use std::sync::ledger::Ledger;
-use zset_core::{Command, OneOwner, Refusal};
+use zset_core::{Command, OneOwner, Refusal, ZSet};
 
-/// Appends the record of a command that changes sets.
-fn append_command<S: LogSink, L: Ledger, A: Allocator + Copy>(
+/// Appends the record of a command that a set has prepared.
+fn append_prepared<H: BuildHasher, S: LogSink, L: Ledger, A: Allocator + Copy>(
     alloc: A,
+    set: &ZSet<H, A>,
     log: &mut Log<S, L>,
     share: &mut RecordShare<L>,
     command: &Command<A>,
 ) -> Result<(), Refusal>
     requires writing { IsTrue (is_writing command.now.meaning) }
-    ensures ok { OnOk result (Appends log.old log.new (request command.now.words)) }
+    requires prepared { IsPreparedFor set.now.members command.now.meaning set.now.next }
+    requires changes { IfSome set.now.next (λ next. next.members ≢ set.now.members) }
+    ensures ok { OnOk result (Appends log.old log.new (request (next_record command.now set.now))) }
     ensures unbroken { OnOk result (log.old.broken ≡ false) }
     ensures share { share.new ≡ share_after share.old result }
     ensures cause { IfErr result
-        (λ refusal. NotAppended refusal (request command.now.words) log.old log.new) }
+        (λ refusal. NotAppended refusal (request (next_record command.now set.now)) log.old log.new) }
     ensures records { (records : _) → HasRecords log.old records
-        → HasRecords log.new (records_after records command.now.words result) }
+        → HasRecords log.new (records_after records (next_record command.now set.now) result) }
+    ensures replays { OnOk result ((world : WorldType) (key : List ℕ) → key_of command.now.meaning ≡ Some key
+        → set_at world key ≡ set.now.members
+        → IfSome set.now.next (λ next. after Effects world (next_record command.now set.now)
+        ≡ Some (put_set world key next.members))) }
 {
-    let entry = Record::of_command(alloc, command)?;
+    let entry = Record::of(alloc, command, set)?;
     log.append(share, &entry)
+}
+
+/// Appends the record of a command that an owner has prepared in the set of its key.
+fn append_command<H: BuildHasher + Clone + Drop, S: LogSink, L: Ledger, A: Allocator + Copy>(
+    alloc: A,
+    owner: &OneOwner<H, A>,
+    log: &mut Log<S, L>,
+    share: &mut RecordShare<L>,
+    command: &Command<A>,
+) -> Result<(), Refusal>
+    requires writing { IsTrue (is_writing command.now.meaning) }
+    requires prepared { IsPreparedAt owner.now.world (key_of command.now.meaning) command.now.meaning
+        owner.now.next }
+    requires changes { IfSome owner.now.next
+        (λ next. next.1.members ≢ set_at owner.now.world next.0) }
+    ensures ok { OnOk result (Appends log.old log.new (request (prepared_record command.now owner.now))) }
+    ensures unbroken { OnOk result (log.old.broken ≡ false) }
+    ensures share { share.new ≡ share_after share.old result }
+    ensures cause { IfErr result (λ refusal. NotAppended refusal
+        (request (prepared_record command.now owner.now)) log.old log.new) }
+    ensures records { (records : _) → HasRecords log.old records
+        → HasRecords log.new (records_after records (prepared_record command.now owner.now) result) }
+    ensures replays { OnOk result ((world : WorldType) → AreSame world owner.now.world
+        → IfSome owner.now.next (λ next. after Effects world (prepared_record command.now owner.now)
+        ≡ Some (put_set world next.0 next.1.members))) }
+{
+    match command.key() {
+        None => unreachable!(),
+        Some(key) => match owner.set(key) {
+            None => unreachable!(),
+            Some(set) => append_prepared(alloc, set, log, share, command),
+        },
+    }
 }
 
 /// Runs a command that changes sets once: prepares it, appends its record where the set will change,
@@ -66,7 +110,7 @@ fn run_writing_once<H: BuildHasher + Clone + Drop, S: LogSink, L: Ledger, A: All
     let _request = command.request();
     let outline = owner.prepare(command)?;
     if outline.changed {
-        if let Err(refusal) = append_command(alloc, log, share, command) {
+        if let Err(refusal) = append_command(alloc, owner, log, share, command) {
             owner.drop_prepared(command);
             return Err(refusal);
         }

@@ -1,18 +1,21 @@
-//! Opening an append file: it is locked before it is read.
+//! Opening an append file: it is locked before it is read, what was read is on the device before
+//! anything is answered from it, and one of version 1 is renewed.
 
 ghost use Rattle.std.specs.Prelude.{◌≡◌, ◌<◌, None, IfOk, IfErr};
-ghost use Rattle.append_log.specs.FileOpening.{Restores, OpenFails};
+ghost use Rattle.append_log.specs.FileOpening.{Restores, OpenFails, LeavesSets, IsUnkept, IsUnready};
 ghost use Rattle.append_log.specs.declared.opening.OpenFault.TheVariants as opens;
 ghost use Rattle.append_log.specs.declared.file.FileFault.TheVariants as files;
 
-use crate::file::{FileFault, FileSink, LockFile};
+use crate::drafting::{RenewFault, replace_old};
+use crate::file::{FileFault, FileSink, LockFile, is_named_by, sync_uninterrupted};
 use crate::loading::{Loaded, ReloadFault, reload};
 use crate::sink::LogSink;
 use resp_wire::{MAX_READS, READ_BUFFER, Reading};
 use std::alloc::Allocator;
 use std::fs::{self, Files, OpenFile, OpenOptions};
 use std::hash::BuildHasher;
-use std::path::Path;
+use std::io::ErrorKind;
+use std::path::{Path, PathBuf};
 use thiserror::Error;
 use zset_core::OneOwner;
 
@@ -25,6 +28,9 @@ pub enum OpenFault {
     /// Its records can't be replayed.
     #[error("{0}")]
     Reload(ReloadFault),
+    /// It is of version 1, and can't be renewed.
+    #[error("{0}")]
+    Renew(RenewFault),
 }
 
 impl From<FileFault> for OpenFault {
@@ -40,6 +46,14 @@ impl From<ReloadFault> for OpenFault {
 
     fn from(cause: ReloadFault) -> OpenFault {
         OpenFault::Reload(cause)
+    }
+}
+
+impl From<RenewFault> for OpenFault {
+    ghost from_gives = { λ cause fault. fault ≡ opens.Renew cause };
+
+    fn from(cause: RenewFault) -> OpenFault {
+        OpenFault::Renew(cause)
     }
 }
 
@@ -84,9 +98,76 @@ fn cut_torn<F: OpenFile>(file: &F, loaded: &Loaded) -> Result<(), FileFault>
     }
 }
 
+/// Cuts the torn end, where there is one, and brings what was read and the file's name to the device.
+/// Whoever wrote it may have been killed before a sync.
+fn keep<R: Files>(rt: &R, file: &R::File, place: &str, loaded: &Loaded) -> Result<(), FileFault>
+    ensures { IfErr result (λ fault. IsUnkept fault loaded.now) }
+{
+    cut_torn(file, loaded)?;
+    if sync_uninterrupted(file).is_err() {
+        return Err(FileFault::Sync);
+    }
+    sync_folder(rt, place)
+}
+
+/// The path under which a file stands: this one, or where a link leads.
+fn place_of<R: Files, A: Allocator>(rt: &R, alloc: A, path: &str) -> Result<PathBuf<A>, OpenFault>
+    ensures { IfErr result LeavesSets }
+{
+    let found = match fs::symlink_metadata(rt, path) {
+        Ok(found) if found.is_symlink() => rt.canonicalize(alloc, path),
+        _ => PathBuf::from_str(alloc, path).map_err(|error| error.into()),
+    };
+    match found {
+        Ok(place) => Ok(place),
+        Err(error) if error.kind() == ErrorKind::OutOfMemory => {
+            Err(OpenFault::Reload(ReloadFault::NoMemory))
+        }
+        Err(_) => Err(OpenFault::File(FileFault::Open)),
+    }
+}
+
+/// Refuses a file that is locked but has lost its name: another process gave that to a new file after
+/// this one was opened, and this one's records are old.
+fn check_named<R: Files>(rt: &R, file: &R::File, path: &str) -> Result<(), FileFault>
+    ensures { IfErr result (λ fault. fault ≡ files.Locked) }
+{
+    if is_named_by(file, fs::metadata(rt, path)) {
+        Ok(())
+    } else {
+        Err(FileFault::Locked)
+    }
+}
+
+/// The file to which a log appends, once this one was replayed: itself, or of version 1 the one that
+/// takes its place. The old one stays locked until its name is the new one's.
+fn made_ready<R: Files, H: BuildHasher + Clone + Drop, A: Allocator + Copy>(
+    rt: &R,
+    alloc: A,
+    place: &str,
+    file: R::File,
+    loaded: &Loaded,
+    owner: &OneOwner<H, A>,
+) -> Result<R::File, OpenFault>
+where
+    R::File: LockFile,
+    requires { owner.now.next ≡ None }
+    ensures { IfErr result (λ fault. IsUnready fault loaded.now) }
+{
+    if loaded.version == 1 {
+        return Ok(replace_old(rt, alloc, place, &file, owner)?);
+    }
+    keep(rt, &file, place, loaded)?;
+    Ok(file)
+}
+
 /// Opens an append file for appending, and locks it alone until the sink is dropped: makes it where
-/// it is missing, replays its records on the sets of the owner, and cuts its torn end where there
-/// is one. The folder of a file with no whole byte is synced.
+/// it is missing, and replays its records on the sets of the owner.
+///
+/// A file of version 2 is then cut where its end is torn, and synced, with its folder: what is
+/// answered from is on the device. One of version 1, an empty one included, is renewed: a file of
+/// version 2 with the owner's sets is written beside it, under its name with `.new` behind, and
+/// takes its name. Where the path is a link it stays one, and this goes on where it leads.
 ///
 /// No contract knows a file's bytes: this one says that some were read, that the owner has what these
 /// replay to, and that the new sink counts its calls and failures from 0.
@@ -94,7 +175,8 @@ fn cut_torn<F: OpenFile>(file: &F, loaded: &Loaded) -> Result<(), FileFault>
 /// # Errors
 ///
 /// A file with damage, or with a record that is no command, is not written to. The owner then holds
-/// the sets that the records before replay to.
+/// the sets that the records before replay to. One of version 1 that can't be renewed has its bytes
+/// as before, but where the new one has its name and only the sync of the folder failed.
 pub fn open_to_append<R: Files, H: BuildHasher + Clone + Drop, A: Allocator + Copy>(
     rt: &R,
     alloc: A,
@@ -122,18 +204,23 @@ where
     };
     check_regular(&file)?;
     file.hold_alone()?;
+    let place = place_of(rt, alloc, path)?;
+    check_named(rt, &file, place.as_str())?;
     let mut source = Reading::new(file);
     let loaded = reload(alloc, &mut source, owner, READ_BUFFER, MAX_READS)?;
-    let file = source.into_inner();
-    cut_torn(&file, &loaded)?;
-    if loaded.whole == 0 {
-        sync_folder(rt, path)?;
-    }
+    let file = made_ready(
+        rt,
+        alloc,
+        place.as_str(),
+        source.into_inner(),
+        &loaded,
+        owner,
+    )?;
     Ok((FileSink::new(file), loaded))
 }
 
-/// Opens an append file for reading, locks it beside others who read, and replays its records on
-/// the sets of the owner. The lock is held until the file is dropped.
+/// Opens an append file of either version for reading, locks it beside others who read, and replays
+/// its records on the sets of the owner. The lock is held until the file is dropped.
 ///
 /// # Errors
 ///
@@ -156,6 +243,7 @@ where
         return Err(OpenFault::File(FileFault::Open));
     };
     file.hold_shared()?;
+    check_named(rt, &file, path)?;
     let mut source = Reading::new(file);
     let loaded = reload(alloc, &mut source, owner, READ_BUFFER, MAX_READS)?;
     Ok((source.into_inner(), loaded))

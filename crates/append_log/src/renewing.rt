@@ -4,7 +4,8 @@ ghost use Rattle.std.specs.Prelude.{◌≡◌, ◌≤◌, [], ◌∷◌, ◌++�
 ghost use Rattle.std.specs.Io.KnownBytes.{append_known};
 ghost use Rattle.resp_wire.specs.Device.{Rose};
 ghost use Rattle.resp_wire.specs.RequestEncoding.{request};
-ghost use Rattle.append_log.specs.Dump.{add_record, pieces, piece_records, set_records, dump};
+ghost use Rattle.append_log.specs.Dump.{add_record, pieces, piece_records, set_records, dump, image};
+ghost use Rattle.append_log.specs.Replay.{header};
 ghost use Rattle.append_log.specs.Records.{text_of as text_of_records};
 ghost use Rattle.append_log.specs.Rewrite.{ReplaysTo, TakesPrefix, SinkFailed};
 ghost use Rattle.append_log.specs.declared.renewing.RewriteFault.TheVariants as faults;
@@ -23,6 +24,9 @@ use zset_core::OneOwner;
 
 /// The most pairs of one record.
 const PIECE: usize = 512;
+
+/// The header of version 2, as it is written.
+const HEADER: &[u8] = b"*2\r\n$7\r\nZCRACKD\r\n$1\r\n2\r\n";
 
 /// Why a rewrite ended.
 #[derive(Clone, Copy, Debug, PartialEq, Eq, Error)]
@@ -152,9 +156,24 @@ fn put_set<S: LogSink, A: Allocator + Copy>(
     Ok(count)
 }
 
-/// A law: the text of an owner's records replays to its sets. The body does nothing.
+/// Writes the header.
+fn put_header<S: LogSink>(sink: &mut S) -> Result<(), RewriteFault>
+    ensures ok { OnOk result (S.told sink.new
+        ≡ append_known (S.told sink.old) (request header)) }
+    ensures err { OnErr result (TakesPrefix (S.told sink.old) (S.told sink.new) (request header)) }
+    ensures failures { MatchResult result (λ _. S.failures sink.new ≡ S.failures sink.old)
+        (λ fault. SinkFailed fault (S.failures sink.old) (S.failures sink.new)) }
+{
+    if write_out(sink, HEADER).whole {
+        Ok(())
+    } else {
+        Err(RewriteFault::Sink)
+    }
+}
+
+/// A law: the text of an owner's records, behind the header, replays to its sets. The body does nothing.
 fn replays_back<H: BuildHasher + Clone + Drop, A: Allocator + Copy>(owner: &OneOwner<H, A>)
-    ensures { ReplaysTo (text_of_records (dump owner.now.world)) owner.now.world }
+    ensures { ReplaysTo (text_of_records (image owner.now.world)) owner.now.world }
 {
     owner.bounds();
     // A score is printed as it is read.
@@ -163,10 +182,40 @@ fn replays_back<H: BuildHasher + Clone + Drop, A: Allocator + Copy>(owner: &OneO
     laws::longest();
 }
 
-/// Writes the sets of an owner anew: the pairs of each set in the order of their listing, as
-/// records of ZADD with 512 of them, the last with what remains, and the sets in the byte order of
-/// their keys. Then syncs. A reload of these bytes replays them, from no sets, to the owner's. Gives the
-/// number of records, which stays at 2^64 - 1.
+/// Writes the records of an owner's sets, and syncs.
+fn put_sets<H: BuildHasher + Clone + Drop, S: LogSink, A: Allocator + Copy>(
+    alloc: A,
+    owner: &OneOwner<H, A>,
+    sink: &mut S,
+) -> Result<u64, RewriteFault>
+    requires idle { owner.now.next ≡ None }
+    ensures count { IfOk result (λ n. n ≡ min (length (dump owner.now.world)) (2 ^ 64 - 1)) }
+    ensures told { OnOk result (S.told sink.new
+        ≡ append_known (S.told sink.old) (text_of_records (dump owner.now.world))) }
+    ensures synced { OnOk result (IfSome (S.told sink.new) (λ all. S.synced sink.new ≡ length all)) }
+    ensures refused { OnErr result
+        (TakesPrefix (S.told sink.old) (S.told sink.new) (text_of_records (dump owner.now.world))) }
+    ensures failures { MatchResult result (λ _. S.failures sink.new ≡ S.failures sink.old)
+        (λ fault. SinkFailed fault (S.failures sink.old) (S.failures sink.new)) }
+{
+    let mut count: u64 = 0;
+    let mut next = owner.key_after(None);
+    'keys: while let Some(key) = next {
+        let rows = owner.pairs(key)?;
+        count = count.saturating_add(put_set(alloc, sink, key, &rows)? as u64);
+        next = owner.key_after(Some(key));
+    }
+    match sink.sync() {
+        Ok(()) => Ok(count),
+        Err(_) => Err(RewriteFault::Sink),
+    }
+}
+
+/// Writes the sets of an owner anew, as a file of version 2: the header, and then the pairs of each
+/// set in the order of their listing, as records of ZADD with 512 of them, the last with what
+/// remains, and the sets in the byte order of their keys. Then syncs. A reload of these bytes replays
+/// them, from no sets, to the owner's. Gives the number of records, which stays at 2^64 - 1; the
+/// header is none.
 ///
 /// # Errors
 ///
@@ -179,24 +228,15 @@ pub fn rewrite<H: BuildHasher + Clone + Drop, S: LogSink, A: Allocator + Copy>(
     requires idle { owner.now.next ≡ None }
     ensures count { IfOk result (λ n. n ≡ min (length (dump owner.now.world)) (2 ^ 64 - 1)) }
     ensures told { OnOk result (S.told sink.new
-        ≡ append_known (S.told sink.old) (text_of_records (dump owner.now.world))) }
-    ensures replays_back { ReplaysTo (text_of_records (dump owner.now.world)) owner.now.world }
+        ≡ append_known (S.told sink.old) (text_of_records (image owner.now.world))) }
+    ensures replays_back { ReplaysTo (text_of_records (image owner.now.world)) owner.now.world }
     ensures synced { OnOk result (IfSome (S.told sink.new) (λ all. S.synced sink.new ≡ length all)) }
     ensures refused { OnErr result
-        (TakesPrefix (S.told sink.old) (S.told sink.new) (text_of_records (dump owner.now.world))) }
+        (TakesPrefix (S.told sink.old) (S.told sink.new) (text_of_records (image owner.now.world))) }
     ensures failures { MatchResult result (λ _. S.failures sink.new ≡ S.failures sink.old)
         (λ fault. SinkFailed fault (S.failures sink.old) (S.failures sink.new)) }
 {
     replays_back(owner);
-    let mut count: u64 = 0;
-    let mut next = owner.key_after(None);
-    'keys: while let Some(key) = next {
-        let rows = owner.pairs(key)?;
-        count = count.saturating_add(put_set(alloc, sink, key, &rows)? as u64);
-        next = owner.key_after(Some(key));
-    }
-    match sink.sync() {
-        Ok(()) => Ok(count),
-        Err(_) => Err(RewriteFault::Sink),
-    }
+    put_header(sink)?;
+    put_sets(alloc, owner, sink)
 }

@@ -129,6 +129,16 @@ fn sorted(alloc: Global, list: &[Row<Global>]) -> Result<Vec<&Row<Global>>, Allo
     Ok(rows)
 }
 
+// Whether two lists have the same rows, each at the same place.
+fn are_same(rows: &[&Row<Global>], others: &[&Row<Global>]) -> bool {
+    for (row, like) in rows.iter().zip(others.iter()) {
+        if !row.is_same(*like) {
+            return false;
+        }
+    }
+    rows.len() == others.len()
+}
+
 // Two lists have the same rows when they are sorted.
 fn expect_same_rows<R: Abort>(
     rt: &R,
@@ -138,10 +148,7 @@ fn expect_same_rows<R: Abort>(
 ) -> Result<(), AllocError> {
     let rows = sorted(alloc, one)?;
     let others = sorted(alloc, other)?;
-    assert_eq!(rt; rows.len(), others.len());
-    for (row, like) in rows.iter().zip(others.iter()) {
-        assert!(rt; row.is_same(*like));
-    }
+    assert!(rt; are_same(&rows, &others));
     Ok(())
 }
 
@@ -321,6 +328,24 @@ fn drive_in_rounds<R: Abort>(
     Ok(())
 }
 
+// Shows the pivots of a course in both, and drives them.
+fn drive_through<R: Abort>(
+    rt: &R,
+    alloc: Global,
+    one: &mut Driven,
+    other: &mut Driven,
+    course: Course,
+) -> Result<(), AllocError>
+    requires one { Holds one.old.column one.old.held.items }
+    requires other { Holds other.old.column other.old.held.items }
+{
+    one.show_pivots(course.ranges)?;
+    other.show_pivots(course.ranges)?;
+    let pivots = one.column.pivot_list().len();
+    assert!(rt; pivots == (course.ranges as usize).saturating_mul(2));
+    drive_in_rounds(rt, alloc, one, other, course)
+}
+
 // Random changes, merges and selects lead to the same rows and pivots, however many changes each all that waits is
 // merged, and to the rows of a plain list: the same numbers drive both columns.
 fn run_both<R: Abort>(
@@ -330,16 +355,10 @@ fn run_both<R: Abort>(
     course: Course,
     each: (u32, u32),
 ) -> Result<(), AllocError> {
-    let Course { scores, ranges, .. } = course;
+    let scores = course.scores;
     let mut one = Driven::new(alloc, Numbers { state, scores }, each.0);
     let mut other = Driven::new(alloc, Numbers { state, scores }, each.1);
-    one.show_pivots(ranges)?;
-    other.show_pivots(ranges)?;
-    assert_eq!(rt;
-        one.column.pivot_list().len(),
-        (ranges as usize).saturating_mul(2)
-    );
-    drive_in_rounds(rt, alloc, &mut one, &mut other, course)
+    drive_through(rt, alloc, &mut one, &mut other, course)
 }
 
 // Rows come, stay as many, go, and come and go.

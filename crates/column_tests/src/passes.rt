@@ -8,11 +8,10 @@ use std::alloc::{AllocError, Global};
 use std::test::*;
 use std::time::{Duration, Instant};
 
-/// A column of 2,000 rows among as many pivots.
-fn parted(alloc: Global) -> Result<Column<Global>, AllocError> {
-    let mut column = Column::new(alloc);
+/// Adds 2,000 rows, and selects ranges whose cuts are as many pivots.
+fn part(alloc: Global, column: &mut Column<Global>) -> Result<(), AllocError> {
     for i in 0..2000u16 {
-        add(alloc, &mut column, i64::from(i), b"m")?;
+        add(alloc, column, i64::from(i), b"m")?;
     }
     for i in 0..1000u16 {
         let low = 2 * i64::from(i);
@@ -21,7 +20,7 @@ fn parted(alloc: Global) -> Result<Column<Global>, AllocError> {
             max: Bound::Excl(low + 1),
         })?;
     }
-    Ok(column)
+    Ok(())
 }
 
 /// Adds 200 rows below all pivots, and merges them: each by itself, or all at once.
@@ -39,13 +38,21 @@ fn add_below(
     column.merge_all()
 }
 
-/// How long that takes.
-fn time_of(rt: &HostRuntime, is_each_merged: bool) -> Result<Duration, Fail> {
-    let alloc = rt.alloc();
-    let mut column = parted(alloc)?;
+/// How long that takes in a new column, once it is parted.
+fn time_in(
+    rt: &HostRuntime,
+    column: &mut Column<Global>,
+    is_each_merged: bool,
+) -> Result<Duration, Fail> {
+    part(rt.alloc(), column)?;
     let start = Instant::now(rt)?;
-    add_below(alloc, &mut column, is_each_merged)?;
+    add_below(rt.alloc(), column, is_each_merged)?;
     Ok(start.elapsed(rt)?)
+}
+
+fn time_of(rt: &HostRuntime, is_each_merged: bool) -> Result<Duration, Fail> {
+    let mut column = Column::new(rt.alloc());
+    time_in(rt, &mut column, is_each_merged)
 }
 
 /// How many times as long the rows take one by one, at the least, in one of so many tries.

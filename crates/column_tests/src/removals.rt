@@ -25,23 +25,22 @@ pub fn remove<R: Abort>(
     Ok(())
 }
 
-// A column of ten rows with the scores from 1 on, and pivots at 3 and at 7.
-fn ten(alloc: Global) -> Result<Column<Global>, AllocError> {
-    let mut column = Column::new(alloc);
+// Adds ten rows with the scores from 1 on, and makes pivots at 3 and at 7.
+fn fill(alloc: Global, column: &mut Column<Global>) -> Result<(), AllocError> {
     for i in 1..11u8 {
-        add(alloc, &mut column, i64::from(i) * 7 % 11, &[b'm', i])?;
+        add(alloc, column, i64::from(i) * 7 % 11, &[b'm', i])?;
     }
     column.select(&Range {
         min: Bound::Incl(3),
         max: Bound::Incl(6),
     })?;
-    column.merge_all()?;
-    Ok(column)
+    column.merge_all()
 }
 
-// Takes steps in turn with such a column.
+// Takes steps in turn with a column of these rows.
 fn expect_steps_of_ten<R: Abort>(rt: &R, alloc: Global, steps: &[Step]) -> Result<(), AllocError> {
-    let mut column = ten(alloc)?;
+    let mut column = Column::new(alloc);
+    fill(alloc, &mut column)?;
     expect_steps(rt, alloc, &mut column, steps)
 }
 

@@ -79,16 +79,22 @@ fn turn<A: Allocator + Copy>(
     remove(column, Bound::NegInf, Bound::Excl(low + STEP - WINDOW))
 }
 
-/// Turns a window so many times.
-fn slide<A: Allocator + Copy>(
-    alloc: A,
-    column: &mut Column<A>,
+/// Turns a window so many times: its rows then, and the bytes that the heap has given.
+fn slide<'h>(
+    heap: &'h LocalHeap,
+    column: &mut Column<&'h LocalHeap>,
     turns: u16,
-) -> Result<(), AllocError> {
+) -> Result<(usize, usize), AllocError> {
     for number in 0..turns {
-        turn(alloc, column, number)?;
+        turn(heap, column, number)?;
     }
-    Ok(())
+    Ok((column.len(), heap.used()))
+}
+
+/// The same of a new column that is turned 750 times.
+fn slid(heap: &LocalHeap) -> Result<(usize, usize), AllocError> {
+    let mut column = Column::new(heap);
+    slide(heap, &mut column, 750)
 }
 
 /// Twice what a window takes with its pivots. The rows that came would take as much again, and more.
@@ -98,10 +104,8 @@ const ENOUGH: usize = 120_000;
 #[test]
 fn a_sliding_window_takes_no_more_memory(rt: HostRuntime) -> Result<(), Fail> {
     let heap = LocalHeap::new(rt.alloc(), ROOM)?;
-    let mut column = Column::new(&heap);
-    slide(&heap, &mut column, 750)?;
-    assert_eq!(rt; column.len(), 500);
-    assert!(rt; heap.used() < ENOUGH, "{}", heap.used());
+    let (rows, bytes) = slid(&heap)?;
+    assert!(rt; rows == 500 && bytes < ENOUGH, "{bytes}");
     Ok(())
 }
 
@@ -115,15 +119,24 @@ const LEAVING: [(Bound, Bound); 3] = [
 /// What the members of 400 rows take at the least.
 const LEAVING_BYTES: usize = 40_000;
 
-/// How many bytes more a heap has once the rows of a range left, with members that take blocks of their own.
+/// How many bytes more a heap has once the rows of a range left a new column, with members that take blocks of their
+/// own.
+fn give_back<'h>(
+    heap: &'h LocalHeap,
+    column: &mut Column<&'h LocalHeap>,
+    range: &Range,
+) -> Result<usize, AllocError> {
+    fill(heap, column, 1000, &LONG)?;
+    column.merge_all()?;
+    column.select(range)?;
+    let used = heap.used();
+    column.remove_rows(range);
+    Ok(used.saturating_sub(heap.used()))
+}
+
 fn given_back(heap: &LocalHeap, min: Bound, max: Bound) -> Result<usize, AllocError> {
     let mut column = Column::new(heap);
-    fill(heap, &mut column, 1000, &LONG)?;
-    column.merge_all()?;
-    column.select(&Range { min, max })?;
-    let used = heap.used();
-    column.remove_rows(&Range { min, max });
-    Ok(used.saturating_sub(heap.used()))
+    give_back(heap, &mut column, &Range { min, max })
 }
 
 #[test]
@@ -136,13 +149,21 @@ fn rows_that_left_give_their_blocks_back(rt: HostRuntime) -> Result<(), Fail> {
     Ok(())
 }
 
-/// The bytes that a column takes while so many rows wait, and once they were merged.
-fn taken(heap: &LocalHeap, count: u16) -> Result<(usize, usize), AllocError> {
-    let mut column = Column::new(heap);
-    fill(heap, &mut column, count, b"m")?;
+/// The bytes that a new column takes while so many rows wait, and once they were merged.
+fn take<'h>(
+    heap: &'h LocalHeap,
+    column: &mut Column<&'h LocalHeap>,
+    count: u16,
+) -> Result<(usize, usize), AllocError> {
+    fill(heap, column, count, b"m")?;
     let waiting = heap.used();
     column.select(&ALL)?;
     Ok((waiting, heap.used()))
+}
+
+fn taken(heap: &LocalHeap, count: u16) -> Result<(usize, usize), AllocError> {
+    let mut column = Column::new(heap);
+    take(heap, &mut column, count)
 }
 
 // The rows take as much in the column as in their list, which keeps nothing.

@@ -150,32 +150,43 @@ struct After {
     has_rows: bool,
 }
 
-fn refused<A: Allocator + Copy>(
-    alloc: A,
+fn refuse<A: Allocator + Copy>(
+    fuse: &Fuse<Global>,
+    room: Global,
+    column: &mut Column<A>,
+    setup: Setup,
+    call: Call,
+    allocation: u64,
+) -> Result<After, AllocError> {
+    let before = numbers_of(column);
+    fuse.arm(allocation);
+    let is_made_at_once = is_made(column, call);
+    let is_whole = fuse.is_armed();
+    fuse.arm(0);
+    let has_stayed = numbers_of(column) == before;
+    if !is_made_at_once {
+        is_made(column, call);
+    }
+    Ok(After {
+        is_whole,
+        is_made: is_made_at_once,
+        has_stayed,
+        end: numbers_of(column),
+        with_inner: column.piece_list().len(),
+        has_rows: has_rows_of(room, column, setup)?,
+    })
+}
+
+/// The same with a column that is made first.
+fn refused(
     fuse: &Fuse<Global>,
     room: Global,
     setup: Setup,
     call: Call,
     allocation: u64,
 ) -> Result<After, AllocError> {
-    let mut column = made(alloc, setup)?;
-    let before = numbers_of(&column);
-    fuse.arm(allocation);
-    let is_made_at_once = is_made(&mut column, call);
-    let is_whole = fuse.is_armed();
-    fuse.arm(0);
-    let has_stayed = numbers_of(&column) == before;
-    if !is_made_at_once {
-        is_made(&mut column, call);
-    }
-    Ok(After {
-        is_whole,
-        is_made: is_made_at_once,
-        has_stayed,
-        end: numbers_of(&column),
-        with_inner: column.piece_list().len(),
-        has_rows: has_rows_of(room, &mut column, setup)?,
-    })
+    let mut column = made(fuse, setup)?;
+    refuse(fuse, room, &mut column, setup, call, allocation)
 }
 
 /// How many allocations of a call were refused, one in each run, how often the call was refused for want of one, and
@@ -193,7 +204,7 @@ fn points_of(rt: &HostRuntime, setup: Setup, call: Call, end: Numbers) -> Result
     let mut refusals = 0u64;
     for allocation in 1..100u64 {
         let fuse = Fuse::new(rt.alloc(), 0);
-        let after = refused(&fuse, &fuse, rt.alloc(), setup, call, allocation)?;
+        let after = refused(&fuse, rt.alloc(), setup, call, allocation)?;
         let is_right = after.is_made || after.has_stayed && !after.is_whole;
         if after.end != end || !is_right || !after.has_rows {
             return Err("neither refused nor made")?;
@@ -320,13 +331,11 @@ const REMOVED: [Range; 3] = [
 ];
 
 /// Whether a column that has an answer for a range lets its rows go without an allocation.
-fn leaves_without_memory<A: Allocator + Copy>(
-    alloc: A,
+fn remove_without_memory<A: Allocator + Copy>(
     fuse: &Fuse<Global>,
-    setup: Setup,
+    column: &mut Column<A>,
     range: &Range,
 ) -> Result<bool, AllocError> {
-    let mut column = made(alloc, setup)?;
     column.narrow(&ALL, 1000, 1010);
     column.select(range)?;
     let before = column.len();
@@ -335,6 +344,16 @@ fn leaves_without_memory<A: Allocator + Copy>(
     let is_armed = fuse.is_armed();
     fuse.arm(0);
     Ok(is_armed && column.len() < before)
+}
+
+/// The same of a column that is made first.
+fn leaves_without_memory(
+    fuse: &Fuse<Global>,
+    setup: Setup,
+    range: &Range,
+) -> Result<bool, AllocError> {
+    let mut column = made(fuse, setup)?;
+    remove_without_memory(fuse, &mut column, range)
 }
 
 #[test]
@@ -347,19 +366,17 @@ fn rows_leave_without_memory(rt: HostRuntime) -> Result<(), Fail> {
         };
         for range in REMOVED {
             let fuse = Fuse::new(rt.alloc(), 0);
-            assert!(rt; leaves_without_memory(&fuse, &fuse, setup, &range)?);
+            assert!(rt; leaves_without_memory(&fuse, setup, &range)?);
         }
     }
     Ok(())
 }
 
 /// Whether the rows that wait in a column are merged without an allocation.
-fn merges_without_memory<A: Allocator + Copy>(
-    alloc: A,
+fn merge_without_memory<A: Allocator + Copy>(
     fuse: &Fuse<Global>,
-    setup: Setup,
+    column: &mut Column<A>,
 ) -> Result<bool, AllocError> {
-    let mut column = made(alloc, setup)?;
     let waiting = column.pending().0;
     fuse.arm(1);
     column.merge_all()?;
@@ -368,13 +385,19 @@ fn merges_without_memory<A: Allocator + Copy>(
     Ok(is_armed && waiting > 0)
 }
 
+/// The same of a column that is made first.
+fn merges_without_memory(fuse: &Fuse<Global>, setup: Setup) -> Result<bool, AllocError> {
+    let mut column = made(fuse, setup)?;
+    merge_without_memory(fuse, &mut column)
+}
+
 // Beside many rows there is room for those that wait, so that rows can leave where there is none left.
 #[test]
 fn rows_beside_many_are_merged_without_memory(rt: HostRuntime) -> Result<(), Fail> {
     for then in [1u16, 100, 2000] {
         let setup = Setup { then, ..LONG };
         let fuse = Fuse::new(rt.alloc(), 0);
-        assert!(rt; merges_without_memory(&fuse, &fuse, setup)?, "{then}");
+        assert!(rt; merges_without_memory(&fuse, setup)?, "{then}");
     }
     Ok(())
 }

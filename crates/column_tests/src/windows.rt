@@ -3,6 +3,7 @@ ghost use Rattle.std.specs.Prelude.{◌<◌, ◌≤◌, ◌^◌};
 use crate::columns::{add, expect_count, expect_state};
 use crate::removals::{expect_parted, remove};
 use crate::steps::{Step, expect_steps};
+use crack_kernel::Row;
 use ripple_column::Column;
 use score_bounds::Bound;
 use std::alloc::{AllocError, Global};
@@ -22,15 +23,21 @@ fn push(alloc: Global, window: &mut Window, score: i64) -> Result<(), AllocError
     Ok(())
 }
 
+// Adds so many rows with the scores from 0 on.
+fn fill(alloc: Global, window: &mut Window, len: u16) -> Result<(), AllocError> {
+    for score in 0..len {
+        push(alloc, window, i64::from(score))?;
+    }
+    Ok(())
+}
+
 // A window of so many rows with the scores from 0 on.
 fn filled_window(alloc: Global, len: u16) -> Result<Window, AllocError> {
     let mut window = Window {
         column: Column::new(alloc),
         scores: Vec::new(alloc),
     };
-    for score in 0..len {
-        push(alloc, &mut window, i64::from(score))?;
-    }
+    fill(alloc, &mut window, len)?;
     Ok(window)
 }
 
@@ -64,16 +71,21 @@ fn slide<R: Abort>(
     window.column.merge_all()
 }
 
-// The column has just these rows, and its pivots part them.
-fn expect_rows<R: Abort>(rt: &R, alloc: Global, window: &Window) -> Result<(), AllocError> {
-    let rows = window.column.rows(0, window.column.len());
-    let mut scores: Vec<i64> = rows.iter().map(|row| row.score()).collect(alloc)?;
-    scores.sort_unstable();
-    assert_eq!(rt; scores.as_slice(), window.scores.as_slice());
+// Each row has its score as its member.
+fn expect_members<R: Abort>(rt: &R, rows: &[Row<Global>]) {
     for row in rows {
         assert!(rt; row.member() == row.score().to_be_bytes().as_slice());
     }
+}
+
+// The column has just these rows, and its pivots part them.
+fn expect_rows<R: Abort>(rt: &R, alloc: Global, window: &Window) -> Result<(), AllocError> {
+    let rows = window.column.rows(0, window.column.len());
+    expect_members(rt, rows);
     expect_parted(rt, &window.column);
+    let mut scores: Vec<i64> = rows.iter().map(|row| row.score()).collect(alloc)?;
+    scores.sort_unstable();
+    assert!(rt; scores.as_slice() == window.scores.as_slice());
     Ok(())
 }
 
@@ -190,14 +202,22 @@ fn first_piece(column: &Column<Global>) -> usize {
 }
 
 // More turns than there may be pivots for a search to crack at: a sliding cut reads a short piece all the same.
+fn expect_short_pieces<R: Abort>(
+    rt: &R,
+    alloc: Global,
+    window: &mut Window,
+) -> Result<(), AllocError> {
+    assert!(rt; first_piece(&window.column) > 2048);
+    slide(rt, alloc, window, 9000, 9600, 8)?;
+    assert!(rt; first_piece(&window.column) <= 2048);
+    expect_rows(rt, alloc, window)
+}
+
 #[test]
 fn a_sliding_cut_finds_short_pieces(rt: HostRuntime) -> Result<(), AllocError> {
     let alloc = rt.alloc();
     let mut window = filled_window(alloc, 9000)?;
-    assert!(rt; first_piece(&window.column) > 2048);
-    slide(&rt, alloc, &mut window, 9000, 9600, 8)?;
-    assert!(rt; first_piece(&window.column) <= 2048);
-    expect_rows(&rt, alloc, &window)
+    expect_short_pieces(&rt, alloc, &mut window)
 }
 
 // Cuts that move on, below each of which a row waits.

@@ -5,7 +5,7 @@ use clap::builder::ValueParser;
 use clap::{Arg, ArgAction, ArgMatches, Command};
 use std::alloc::{AllocError, Global};
 
-/// Workers, each of which serves one connection at a time.
+/// Workers: threads, each of which serves many connections.
 const MAX_WORKERS: u64 = 64;
 
 /// Places of the table of sets.
@@ -16,6 +16,9 @@ const MAX_RECORDS: u64 = 1 << 40;
 
 /// Connections after which a server ends.
 const MAX_CONNECTIONS: u64 = 1_000_000;
+
+/// Clients that are served at once.
+const MAX_CLIENTS: u64 = 64_000;
 
 /// Seconds for which a connection may send or take nothing: a day.
 const MAX_TIMEOUT: u64 = 86_400;
@@ -35,6 +38,8 @@ pub struct ServeTask<'a> {
     pub max_records: u64,
     /// Connections after which the server ends: 1 to 1,000,000.
     pub connections: u64,
+    /// Clients that are served at once: 1 to 64,000.
+    pub max_clients: u64,
     /// Seconds for which a connection may send or take nothing, or 0 for any time: 0 to 86,400.
     pub timeout: u64,
 }
@@ -74,7 +79,7 @@ fn number_option<'a>(
 }
 
 fn workers_option<'a>(alloc: Global) -> Arg<'a> {
-    let help = "Workers, 1 to 64: a connection holds one until it ends, and the next client waits";
+    let help = "Workers, 1 to 64: threads that share the clients among them";
     number_option(alloc, "workers", help, 1, MAX_WORKERS, "4")
 }
 
@@ -94,6 +99,11 @@ fn connections_option<'a>(alloc: Global) -> Arg<'a> {
     number_option(alloc, "connections", help, 1, MAX_CONNECTIONS, "100000")
 }
 
+fn clients_option<'a>(alloc: Global) -> Arg<'a> {
+    let help = "Clients that are served at once, 1 to 64000; more wait until one has gone";
+    number_option(alloc, "max-clients", help, 1, MAX_CLIENTS, "900")
+}
+
 fn timeout_option<'a>(alloc: Global) -> Arg<'a> {
     let help =
         "Ends a connection that sends or takes nothing for so many seconds, 0 to 86400; 0 is never";
@@ -109,6 +119,7 @@ pub(crate) fn serve_command<'a>(alloc: Global) -> Result<Command<'a>, AllocError
         .arg(places_option(alloc))?
         .arg(records_option(alloc))?
         .arg(connections_option(alloc))?
+        .arg(clients_option(alloc))?
         .arg(timeout_option(alloc))?
         .arg(explain_option(alloc))
 }
@@ -121,6 +132,7 @@ pub(crate) fn asked_serve<'a>(words: &ArgMatches<'a>) -> Option<ServeTask<'a>> {
         places: words.get_one("places")?,
         max_records: words.get_one("max-records")?,
         connections: words.get_one("connections")?,
+        max_clients: words.get_one("max-clients")?,
         timeout: words.get_one("timeout")?,
     })
 }

@@ -6,7 +6,9 @@ ghost use Rattle.crossbeam_channel.specs.Ends.{sends_on, receives_on, ruled_capa
 ghost use Rattle.hand_over.specs.ChannelInvariant.{tally, times, once_below, IsHandedOut};
 
 use crate::arrivals::{Arrival, Arrivals};
-use crate::channel::{Sender, TallyPass, send_connection};
+use crate::channel::{Ends, Sender, TallyPass, send_connection};
+use crate::door::ring_least;
+use crate::handler::Bell;
 use std::alloc::{AllocError, Global};
 use std::sync::Wait;
 
@@ -53,19 +55,19 @@ impl Unsent {
 
     /// Accepts until the limit, the end or a fault, and sends each connection. True at a fault. The
     /// numbers of those that could not be sent are noted.
-    pub fn accept_all<A: Arrivals, R: Wait>(
+    pub fn accept_all<A: Arrivals, B: Bell, R: Wait>(
         &mut self,
         rt: &R,
-        sender: &Sender<A::Conn>,
+        ends: &Ends<A::Conn, B>,
         pass: &mut TallyPass<A::Conn>,
         arrivals: &mut A,
         limit: u64,
     ) -> bool
-        requires pass { IsSeatAt (sends_on sender.now) pass.old }
+        requires pass { IsSeatAt (sends_on ends.now.sender) pass.old }
         requires sends { ((view pass.old).sends ≡ true) × ((view pass.old).sent ≡ 0) }
         requires limit { 1 ≤ limit }
         requires none { (self.old.numbers.items ≡ []) × (limit ≤ vec_capacity self.old.numbers) }
-        ensures pass { IsSeatAt (sends_on sender.now) pass.new }
+        ensures pass { IsSeatAt (sends_on ends.now.sender) pass.new }
         ensures view { view pass.new ≡ tally (view pass.old).parts true (view pass.new).sent (view pass.old).stops (view pass.old).taken }
         ensures once { (k : ℕ) → A.came arrivals.new ≡ A.came arrivals.old + k → (x : ℕ) → once_below x (view pass.new).sent + times x self.new.numbers.items ≡ once_below x k }
         ensures room { ((view pass.new).sent + vec_len self.new.numbers ≤ limit) × (vec_capacity self.new.numbers ≡ vec_capacity self.old.numbers) }
@@ -75,7 +77,10 @@ impl Unsent {
     {
         for number in 0..limit {
             match arrivals.arrive() {
-                Arrival::Came(connection) => self.hand_out(rt, sender, pass, number, connection),
+                Arrival::Came(connection) => {
+                    self.hand_out(rt, &ends.sender, pass, number, connection);
+                    ring_least(&ends.doors);
+                }
                 Arrival::Closed => return false,
                 Arrival::Fault => return true,
             }

@@ -4,9 +4,11 @@ ghost use Rattle.std.specs.Prelude.{◌≡◌, ℕ, ◌+◌, ◌-◌, ◌<◌, �
 ghost use Rattle.crossbeam_channel.specs.Claims.{view, IsSeatAt};
 ghost use Rattle.crossbeam_channel.specs.Ends.{sends_on, receives_on, ruled_capacity};
 ghost use Rattle.hand_over.specs.ChannelInvariant.{tally, times, once_below, AllBelow, numbers_of, IsNumbered, after_sending, after_taking, IsAboveTaken, TakesFew, with_taken, after_send, after_stop};
+ghost use Rattle.hand_over.specs.Finding.{IsFound};
 
+use crate::door::Door;
 use crossbeam_channel::protocol::{Join, Lesson, Outcome, Protocol, Split};
-use crossbeam_channel::{Pass, RuledReceiver, RuledSender};
+use crossbeam_channel::{Pass, RuledReceiver, RuledSender, TryRecvError};
 use std::collections::LinkedList;
 use std::sync::Wait;
 
@@ -93,28 +95,57 @@ pub type Receiver<C> = RuledReceiver<Message<C>, Tally, Numbered>;
 
 pub type TallyPass<C> = Pass<Message<C>, Tally>;
 
-/// Both ends of a channel.
+/// Both ends of a channel, and the doors of the workers that take from it.
 #[derive(Drop)]
-pub struct Ends<C: Drop> {
+pub struct Ends<C: Drop, B> {
     pub sender: Sender<C>,
     pub receiver: Receiver<C>,
+    pub doors: Vec<Door<B>>,
 }
 
-/// The next connection for a worker. None at a stop message, and where the channel fails.
-pub fn next_connection<C: Drop, R: Wait>(
+/// What a worker finds in the channel.
+#[derive(Drop)]
+pub enum Found<C> {
+    /// A connection and its number.
+    Connection(u64, C),
+    /// A stop message, or the channel has failed.
+    Stop,
+    /// No message now.
+    Nothing,
+}
+
+/// The next message for a worker, for which it waits.
+pub fn await_message<C: Drop, R: Wait>(
     rt: &R,
     receiver: &Receiver<C>,
     pass: &mut TallyPass<C>,
-) -> Option<(u64, C)>
+) -> Found<C>
     requires pass { IsSeatAt (receives_on receiver.now) pass.old }
     requires part { 0 < (view pass.old).parts }
     ensures pass { IsSeatAt (receives_on receiver.now) pass.new }
-    ensures some { IfSome result (λ r. (view pass.new ≡ with_taken (view pass.old) r.0) × AllBelow r.0 (view pass.old).taken) }
-    ensures none { IfNone result (view pass.new ≡ view pass.old) }
+    ensures found { IsFound result (view pass.old) (view pass.new) }
 {
     match receiver.recv_as::<Takes, R>(rt, pass) {
-        Ok(Message::Connection(number, connection)) => Some((number, connection)),
-        Ok(Message::Stop) | Err(_) => None,
+        Ok(Message::Connection(number, connection)) => Found::Connection(number, connection),
+        Ok(Message::Stop) | Err(_) => Found::Stop,
+    }
+}
+
+/// The next message for a worker, if one is there.
+pub fn look_for_message<C: Drop, R: Wait>(
+    rt: &R,
+    receiver: &Receiver<C>,
+    pass: &mut TallyPass<C>,
+) -> Found<C>
+    requires pass { IsSeatAt (receives_on receiver.now) pass.old }
+    requires part { 0 < (view pass.old).parts }
+    ensures pass { IsSeatAt (receives_on receiver.now) pass.new }
+    ensures found { IsFound result (view pass.old) (view pass.new) }
+{
+    match receiver.try_recv_as::<Takes, R>(rt, pass) {
+        Ok(Message::Connection(number, connection)) => Found::Connection(number, connection),
+        Ok(Message::Stop) | Err(TryRecvError::Disconnected) => Found::Stop,
+        Err(TryRecvError::Empty) => Found::Nothing,
     }
 }
 

@@ -8,6 +8,7 @@ ghost use Rattle.hand_over.specs.ChannelInvariant.{tally, times, once_below, wit
 ghost use Rattle.hand_over.specs.Outcome.{all_of, Served};
 
 use crate::channel::{Cut, Drains, Ends, Message, Receiver, Sender, TallyPass, dismiss};
+use crate::door::{Door, ring_all};
 use crate::handler::Handler;
 use crate::outcome::HandOverFault;
 use crate::worker::{Desk, Finished, Worked, work};
@@ -42,7 +43,10 @@ fn start<'s, E, C: Drop + Send + 's, H: Handler<C> + Drop + Send + 's, R: Wait +
     receiver: &'s Receiver<C>,
     pass: TallyPass<C>,
     desk: Desk<H>,
+    door: Option<&'s Door<H::Bell>>,
 ) -> Option<Child<C, H>>
+where
+    H::Bell: Sync,
     requires pass { IsSeatAt (receives_on receiver.now) pass × (view pass ≡ tally 1 false 0 0 []) }
     requires room { H.handled desk.handler + desk.limit < 2 ^ 64 }
     ensures { IfSome result (λ h. (h.promise.channel.value ≡ receiver.entry.now) × (h.promise.handler.value ≡ desk.handler)) }
@@ -51,7 +55,7 @@ fn start<'s, E, C: Drop + Send + 's, H: Handler<C> + Drop + Send + 's, R: Wait +
         channel: Snapshot::of(receiver),
         handler: Snapshot::of(&desk.handler),
     };
-    let started = scope.spawn_with(promise, move || work(rt, receiver, pass, desk));
+    let started = scope.spawn_with(promise, move || work(rt, receiver, pass, desk, door));
     started.ok()
 }
 
@@ -59,10 +63,13 @@ fn start<'s, E, C: Drop + Send + 's, H: Handler<C> + Drop + Send + 's, R: Wait +
 fn start_one<'s, E, C: Drop + Send + 's, H: Handler<C> + Drop + Send + 's, R: Wait + Sync>(
     scope: &Scope<'s, E>,
     rt: &'s R,
-    ends: &'s Ends<C>,
+    ends: &'s Ends<C, H::Bell>,
     pass: &mut TallyPass<C>,
     desk: Desk<H>,
+    door: Option<&'s Door<H::Bell>>,
 ) -> Result<Child<C, H>, HandOverFault>
+where
+    H::Bell: Sync,
     requires pass { IsSeatAt (sends_on ends.now.sender) pass.old × (receives_on ends.now.receiver ≡ sends_on ends.now.sender) }
     requires parts { 1 < (view pass.old).parts }
     requires room { H.handled desk.handler + desk.limit < 2 ^ 64 }
@@ -72,18 +79,20 @@ fn start_one<'s, E, C: Drop + Send + 's, H: Handler<C> + Drop + Send + 's, R: Wa
     ensures ok { IfOk result (λ h. (receives_on h.promise.channel.value ≡ sends_on ends.now.sender) × (h.promise.handler.value ≡ desk.handler)) }
 {
     let own = ends.sender.another::<Cut>(pass);
-    start(scope, rt, &ends.receiver, own, desk).ok_or(HandOverFault::Spawn)
+    start(scope, rt, &ends.receiver, own, desk, door).ok_or(HandOverFault::Spawn)
 }
 
 /// Starts one worker for each desk.
 pub fn start_all<'s, E, C: Drop + Send + 's, H: Handler<C> + Drop + Send + 's, R: Wait + Sync>(
     scope: &Scope<'s, E>,
     rt: &'s R,
-    ends: &'s Ends<C>,
+    ends: &'s Ends<C, H::Bell>,
     pass: &mut TallyPass<C>,
     desks: Vec<Desk<H>>,
     children: &mut Vec<Child<C, H>>,
 ) -> Result<(), HandOverFault>
+where
+    H::Bell: Sync,
     requires pass { IsSeatAt (sends_on ends.now.sender) pass.old × (receives_on ends.now.receiver ≡ sends_on ends.now.sender) }
     requires parts { vec_len desks < (view pass.old).parts }
     requires children { (children.old.items ≡ []) × (vec_len desks ≤ vec_capacity children.old) }
@@ -96,7 +105,8 @@ pub fn start_all<'s, E, C: Drop + Send + 's, H: Handler<C> + Drop + Send + 's, R
     ensures all { IfOk result (λ _. ((view pass.new).parts + vec_len desks ≡ (view pass.old).parts) × (map (λ h. h.promise.handler.value) children.new.items ≡ map (λ d. d.handler) desks.items)) }
 {
     for desk in desks {
-        let child = start_one(scope, rt, ends, pass, desk)?;
+        let door = ends.doors.get(children.len());
+        let child = start_one(scope, rt, ends, pass, desk, door)?;
         children.push_reserved(child);
     }
     Ok(())
@@ -180,24 +190,25 @@ impl<H: Drop> Returned<H> {
     pub fn recall<C: Drop + Send, R: Threads + Wait>(
         &mut self,
         rt: &R,
-        sender: &Sender<C>,
+        ends: &Ends<C, H::Bell>,
         pass: &mut TallyPass<C>,
         children: Vec<Child<C, H>>,
     )
     where
         H: Handler<C> + Send,
-        requires pass { IsSeatAt (sends_on sender.now) pass.old }
-        requires channel { All (λ h. receives_on h.promise.channel.value ≡ sends_on sender.now) children.items }
+        requires pass { IsSeatAt (sends_on ends.now.sender) pass.old }
+        requires channel { All (λ h. receives_on h.promise.channel.value ≡ sends_on ends.now.sender) children.items }
         requires empty { (self.old.handlers.items ≡ []) × (self.old.taken.items ≡ []) }
         requires room { (vec_len children ≤ vec_capacity self.old.handlers) × (vec_len children ≤ vec_capacity self.old.taken) }
-        ensures pass { IsSeatAt (sends_on sender.now) pass.new }
+        ensures pass { IsSeatAt (sends_on ends.now.sender) pass.new }
         ensures view { view pass.new ≡ tally ((view pass.old).parts + vec_len children) (view pass.old).sends (view pass.old).sent (view pass.new).stops ((view pass.old).taken ++ all_of self.new.taken.items) }
         ensures rises { All (λ v. IsStrictlyIncreasing v.items) self.new.taken.items }
         ensures lists { (vec_len self.new.taken ≡ vec_len children) × (vec_len self.new.handlers ≡ vec_len children) }
         ensures served { Served H.keeps H.handled (map (λ h. h.promise.handler.value) children.items) self.new.handlers.items self.new.taken.items }
     {
-        let refused = dismiss(rt, sender, pass, children.len());
-        self.gather(rt, sender, pass, children, refused);
+        let refused = dismiss(rt, &ends.sender, pass, children.len());
+        ring_all(&ends.doors);
+        self.gather(rt, &ends.sender, pass, children, refused);
     }
 }
 

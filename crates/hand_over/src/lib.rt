@@ -10,14 +10,13 @@ mod accepting;
 mod arrivals;
 mod channel;
 mod crew;
+mod door;
 mod handler;
 mod outcome;
 mod scope;
-#[cfg(test)]
-mod tests;
 mod worker;
 
 pub use arrivals::{Arrival, Arrivals};
-pub use handler::Handler;
+pub use handler::{Bell, Handler};
 pub use outcome::{HandOverFault, HandedOver};
 pub use scope::hand_over;

@@ -10,6 +10,7 @@ use crate::accepting::Unsent;
 use crate::arrivals::Arrivals;
 use crate::channel::{Ends, TallyPass};
 use crate::crew::{Returned, desks_of, drain, start_all};
+use crate::door::doors_of;
 use crate::handler::Handler;
 use crate::outcome::{HandOverFault, HandedOver};
 use crate::worker::Desk;
@@ -35,13 +36,14 @@ struct Crew<H> {
 fn run<'s, E, A: Arrivals, H: Handler<A::Conn> + Drop + Send + 's, R: Wait + Threads + Sync>(
     scope: &Scope<'s, E>,
     rt: &'s R,
-    ends: &'s Ends<A::Conn>,
+    ends: &'s Ends<A::Conn, H::Bell>,
     mut pass: TallyPass<A::Conn>,
     arrivals: &mut A,
     crew: Crew<H>,
 ) -> Result<HandedOver<H>, HandOverFault>
 where
     A::Conn: Send + 's,
+    H::Bell: Sync,
     requires pass { IsSeatAt (sends_on ends.now.sender) pass × (receives_on ends.now.receiver ≡ sends_on ends.now.sender) }
     requires view { view pass ≡ tally 1024 true 0 0 [] }
     requires parts { vec_len crew.desks ≤ 64 }
@@ -60,12 +62,13 @@ where
     let mut unsent = Unsent::with_room(alloc, limit)?;
     match start_all(scope, rt, ends, &mut pass, desks, &mut children) {
         Err(fault) => {
-            returned.recall(rt, &ends.sender, &mut pass, children);
+            returned.recall(rt, ends, &mut pass, children);
             Err(fault)
         }
         Ok(()) => {
-            let fault = unsent.accept_all(rt, &ends.sender, &mut pass, arrivals, limit);
-            returned.recall(rt, &ends.sender, &mut pass, children);
+            let fault = unsent.accept_all(rt, ends, &mut pass, arrivals, limit);
+            arrivals.close();
+            returned.recall(rt, ends, &mut pass, children);
             drain(rt, &ends.receiver, &mut pass, &mut unsent.numbers);
             Ok(HandedOver {
                 handlers: returned.handlers,
@@ -80,13 +83,14 @@ where
 /// Opens the scope in which the workers run, and gives the arrivals back.
 fn in_scope<'a, A: Arrivals, H: Handler<A::Conn> + Drop + Send, R: Wait + Threads + Sync>(
     rt: &R,
-    ends: &Ends<A::Conn>,
+    ends: &Ends<A::Conn, H::Bell>,
     pass: TallyPass<A::Conn>,
     arrivals: &'a mut A,
     crew: Crew<H>,
 ) -> (&'a mut A, Result<HandedOver<H>, HandOverFault>)
 where
     A::Conn: Send,
+    H::Bell: Sync,
     requires pass { IsSeatAt (sends_on ends.now.sender) pass × (receives_on ends.now.receiver ≡ sends_on ends.now.sender) }
     requires view { view pass ≡ tally 1024 true 0 0 [] }
     requires parts { vec_len crew.desks ≤ 64 }
@@ -124,9 +128,10 @@ fn end<A>(last: &mut A)
 
 /// Hands connections over to workers, one for each handler, 64 at most. It accepts `limit`
 /// connections, fewer where the arrivals close or accepting fails, and answers once each worker has
-/// handled what it took. A connection holds its worker until it ends, so the next ones wait. Where
-/// accepting fails, the answer says so (`fault`) and tells all that was handled before. Before the
-/// first connection it takes memory for `limit` numbers, and as many again for each handler.
+/// handled what it took. A handler may hold several at a time; the next one goes to the worker that
+/// holds the fewest. Once no more are accepted the arrivals are closed. Where accepting fails, the
+/// answer says so (`fault`) and tells all that was handled before. Before the first connection it
+/// takes memory for `limit` numbers, and as many again for each handler.
 ///
 /// The connections that came are numbered from 0. Each number stands exactly once, in the list of the
 /// handler that took it or in `left`; lists rise; each handler kept what it promises and handled as
@@ -146,15 +151,21 @@ pub fn hand_over<A: Arrivals, H: Handler<A::Conn> + Drop + Send, R: Wait + Threa
 ) -> Result<HandedOver<H>, HandOverFault>
 where
     A::Conn: Send,
+    H::Bell: Sync,
     requires workers { vec_len handlers ≤ 64 }
     requires limit { 1 ≤ limit }
     requires room { All (λ handler. H.handled handler + limit < 2 ^ 64) handlers.items }
     ensures ok { IfOk result (λ handed. IsHandedOver A.came A.last H.keeps H.handled arrivals.old handlers.items limit arrivals.new handed) }
     ensures err { OnErr result (arrivals.new ≡ arrivals.old) }
 {
+    let doors = doors_of(alloc, &handlers)?;
     let desks = desks_of(alloc, handlers, limit as usize)?;
     let (sender, receiver, pass) = bounded_with(alloc, WAITING)?;
-    let ends = Ends { sender, receiver };
+    let ends = Ends {
+        sender,
+        receiver,
+        doors,
+    };
     let crew = Crew {
         alloc,
         desks,

@@ -3,8 +3,9 @@
 use append_log::{FileFault, LockFile};
 use std::alloc::Allocator;
 use std::cell::Cell;
-use std::fs::{self, File, Files, Metadata, OpenFile, OpenOptions};
+use std::fs::{self, File, Files, Metadata, OpenFile, OpenOptions, Permissions};
 use std::io::{Error, ErrorKind, Read, Result, Seek, SeekFrom, Write};
+use std::path::PathBuf;
 
 /// The calls that fail.
 #[derive(Clone, Copy, Debug, PartialEq, Eq)]
@@ -17,14 +18,18 @@ pub enum Fails {
     /// No call fails, but a file that is cut loses all its bytes.
     CutsAll,
     HardLink,
-    /// No call fails, but a file that is not locked alone gets no second name.
-    LinksLocked,
+    Rename,
+    SetPermissions,
+    /// No call fails, but a file that is not locked alone gets no other name.
+    NamesLocked,
     /// The sync of a folder.
     SyncAll,
     /// A signal interrupts each read, write and sync of a file's data once.
     Interrupted,
     /// No call fails, but a draft loses its name to another's file right after it was opened.
     DraftIsReplaced,
+    /// No call fails, but a file loses its name to a draft right after it was opened.
+    OpenedIsReplaced,
 }
 
 impl Fails {
@@ -37,7 +42,7 @@ impl Fails {
     }
 }
 
-/// The file that takes a draft's name.
+/// The file that takes the name of one that was opened.
 pub const OF_ANOTHER: &[u8] = b"another's";
 
 #[derive(Drop)]
@@ -47,6 +52,23 @@ pub struct Failing<'a> {
 }
 
 impl Failing<'_> {
+    /// Gives the name of a file that was opened to a new file, as where another opening renewed it.
+    fn replace_opened(&self, path: &str) -> Result<()> {
+        if path.strip_suffix(".new").is_none() {
+            fs::remove_file(self.rt, path)?;
+            fs::write(self.rt, path, OF_ANOTHER)?;
+        }
+        Ok(())
+    }
+
+    /// Refuses where somebody else could lock this file.
+    fn check_locked(&self, path: &str) -> Result<()> {
+        if self.fails == Fails::NamesLocked && fs::open(self.rt, path)?.hold_shared().is_ok() {
+            return Err(Error::from(ErrorKind::Other));
+        }
+        Ok(())
+    }
+
     /// Gives a draft's file the name that it is for, and the draft's name to another file, as where another rewrite
     /// ended and a third one began.
     fn replace_draft(&self, path: &str) -> Result<()> {
@@ -89,8 +111,10 @@ impl Files for Failing<'_> {
 
     fn open_file(&self, how: &OpenOptions, path: &str) -> Result<FailingFile> {
         let file = self.rt.open_file(how, path)?;
-        if self.fails == Fails::DraftIsReplaced {
-            self.replace_draft(path)?;
+        match self.fails {
+            Fails::DraftIsReplaced => self.replace_draft(path)?,
+            Fails::OpenedIsReplaced => self.replace_opened(path)?,
+            _ => {}
         }
         Ok(FailingFile {
             file,
@@ -116,6 +140,9 @@ impl Files for Failing<'_> {
     }
 
     fn rename(&self, from: &str, to: &str) -> Result<()> {
+        self.fails.refuse(Fails::Rename)?;
+        self.check_locked(from)?;
+        self.check_locked(to)?;
         fs::rename(self.rt, from, to)
     }
 
@@ -135,11 +162,13 @@ impl Files for Failing<'_> {
         self.rt.remove_dir_all(alloc, path)
     }
 
+    fn canonicalize<B: Allocator>(&self, alloc: B, path: &str) -> Result<PathBuf<B>> {
+        self.rt.canonicalize(alloc, path)
+    }
+
     fn hard_link(&self, original: &str, link: &str) -> Result<()> {
         self.fails.refuse(Fails::HardLink)?;
-        if self.fails == Fails::LinksLocked && fs::open(self.rt, original)?.hold_shared().is_ok() {
-            return Err(Error::from(ErrorKind::Other));
-        }
+        self.check_locked(original)?;
         fs::hard_link(self.rt, original, link)
     }
 }
@@ -191,6 +220,11 @@ impl OpenFile for FailingFile {
     fn sync_data(&self) -> Result<()> {
         self.refuse(Fails::SyncData)?;
         self.file.sync_data()
+    }
+
+    fn set_permissions(&self, permissions: Permissions) -> Result<()> {
+        self.fails.refuse(Fails::SetPermissions)?;
+        self.file.set_permissions(permissions)
     }
 }
 

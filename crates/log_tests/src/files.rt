@@ -16,26 +16,39 @@ use std::sync::ledger::{Blank, Ledger};
 use std::test::Fail;
 use zset_core::OneOwner;
 
-/// ZADD k 1 a.
-const RECORD: &[u8] = b"*4\r\n$4\r\nZADD\r\n$1\r\nk\r\n$1\r\n1\r\n$1\r\na\r\n";
+/// ZADD k 1 a: a file of version 1.
+pub const RECORD: &[u8] = b"*4\r\n$4\r\nZADD\r\n$1\r\nk\r\n$1\r\n1\r\n$1\r\na\r\n";
 
 /// The same, and a prefix of one more.
-const TORN: &[u8] = b"*4\r\n$4\r\nZADD\r\n$1\r\nk\r\n$1\r\n1\r\n$1\r\na\r\n*3";
+pub const TORN: &[u8] = b"*4\r\n$4\r\nZADD\r\n$1\r\nk\r\n$1\r\n1\r\n$1\r\na\r\n*3";
 
-fn loaded(records: u64, whole: u64, torn: u64) -> Loaded {
+/// The header, of 24 bytes: a file of version 2.
+pub const HEADER: &[u8] = b"*2\r\n$7\r\nZCRACKD\r\n$1\r\n2\r\n";
+
+/// The header, and ZADD k 1 a: 59 bytes.
+pub const EFFECT: &[u8] =
+    b"*2\r\n$7\r\nZCRACKD\r\n$1\r\n2\r\n*4\r\n$4\r\nZADD\r\n$1\r\nk\r\n$1\r\n1\r\n$1\r\na\r\n";
+
+/// The same, and a prefix of one record more.
+const TORN_EFFECT: &[u8] =
+    b"*2\r\n$7\r\nZCRACKD\r\n$1\r\n2\r\n*4\r\n$4\r\nZADD\r\n$1\r\nk\r\n$1\r\n1\r\n$1\r\na\r\n*3";
+
+/// A file of version 1, or of version 2, replayed.
+pub fn loaded(version: u8, records: u64, whole: u64, torn: u64) -> Loaded {
     Loaded {
         records,
         whole,
         torn,
+        version,
     }
 }
 
-fn failing(rt: &HostRuntime, fails: Fails) -> Failing<'_> {
+pub fn failing(rt: &HostRuntime, fails: Fails) -> Failing<'_> {
     Failing { rt, fails }
 }
 
 /// What a file is opened as, for appending.
-fn appending(
+pub fn appending(
     rt: &HostRuntime,
     fails: Fails,
     path: &str,
@@ -48,7 +61,11 @@ fn appending(
 }
 
 /// What a file is opened as, for reading.
-fn reading(rt: &HostRuntime, fails: Fails, path: &str) -> Result<Result<Loaded, OpenFault>, Fail> {
+pub fn reading(
+    rt: &HostRuntime,
+    fails: Fails,
+    path: &str,
+) -> Result<Result<Loaded, OpenFault>, Fail> {
     let mut owner = OneOwner::new(rt.alloc(), RandomState::new(rt)?);
     match open_to_read(&failing(rt, fails), rt.alloc(), path, &mut owner) {
         Ok((_, loaded)) => Ok(Ok(loaded)),
@@ -72,68 +89,79 @@ fn renewed(rt: &HostRuntime, fails: Fails, path: &str) -> Result<Result<u64, Ren
     Ok(write_anew(&failing(rt, fails), rt.alloc(), path, &owner))
 }
 
-fn has_bytes(rt: &HostRuntime, path: &str, wanted: &[u8]) -> Result<bool, Fail> {
+pub fn has_bytes(rt: &HostRuntime, path: &str, wanted: &[u8]) -> Result<bool, Fail> {
     Ok(fs::read(rt, path)?.as_slice() == wanted)
 }
 
-fn is_missing(rt: &HostRuntime, path: &str) -> bool {
+pub fn is_missing(rt: &HostRuntime, path: &str) -> bool {
     fs::metadata(rt, path).is_err()
 }
 
 #[test]
 fn a_file_is_cut_only_where_it_is_torn(rt: HostRuntime) -> Result<(), Fail> {
-    fs::write(&rt, "whole.append", RECORD)?;
-    assert!(rt; appending(&rt, Fails::SetLen, "whole.append")? == Ok(loaded(1, 35, 0)));
-    assert!(rt; appending(&rt, Fails::CutsAll, "whole.append")? == Ok(loaded(1, 35, 0)));
-    assert!(rt; has_bytes(&rt, "whole.append", RECORD)?);
-    fs::write(&rt, "torn.append", TORN)?;
+    fs::write(&rt, "whole.append", EFFECT)?;
+    assert!(rt; appending(&rt, Fails::SetLen, "whole.append")? == Ok(loaded(2, 1, 59, 0)));
+    assert!(rt; appending(&rt, Fails::CutsAll, "whole.append")? == Ok(loaded(2, 1, 59, 0)));
+    assert!(rt; has_bytes(&rt, "whole.append", EFFECT)?);
+    fs::remove_file(&rt, "whole.append")?;
+    Ok(())
+}
+
+#[test]
+fn a_torn_end_that_stays_is_told(rt: HostRuntime) -> Result<(), Fail> {
+    fs::write(&rt, "torn.append", TORN_EFFECT)?;
     let cut = Err(OpenFault::File(FileFault::Cut));
     assert!(rt; appending(&rt, Fails::SetLen, "torn.append")? == cut);
-    assert!(rt; has_bytes(&rt, "torn.append", TORN)?);
-    assert!(rt; reading(&rt, Fails::SetLen, "torn.append")? == Ok(loaded(1, 35, 2)));
-    assert!(rt; has_bytes(&rt, "torn.append", TORN)?);
-    fs::remove_file(&rt, "whole.append")?;
+    assert!(rt; reading(&rt, Fails::SetLen, "torn.append")? == Ok(loaded(2, 1, 59, 2)));
+    assert!(rt; has_bytes(&rt, "torn.append", TORN_EFFECT)?);
     fs::remove_file(&rt, "torn.append")?;
     Ok(())
 }
 
 #[test]
 fn a_torn_end_is_cut_off(rt: HostRuntime) -> Result<(), Fail> {
-    fs::write(&rt, "cut.append", TORN)?;
-    assert!(rt; appending(&rt, Fails::Nothing, "cut.append")? == Ok(loaded(1, 35, 2)));
-    assert!(rt; has_bytes(&rt, "cut.append", RECORD)?);
+    fs::write(&rt, "cut.append", TORN_EFFECT)?;
+    assert!(rt; appending(&rt, Fails::Nothing, "cut.append")? == Ok(loaded(2, 1, 59, 2)));
+    assert!(rt; has_bytes(&rt, "cut.append", EFFECT)?);
     fs::remove_file(&rt, "cut.append")?;
     Ok(())
 }
 
-/// A file without a whole byte, with one torn, and with a record, and whether its folder is synced.
-const FOLDERS: [(&[u8], bool); 4] = [
-    (b"", true),
-    (b"*", true),
-    (b"*3\r\n", true),
-    (RECORD, false),
-];
+/// Files of version 2, and what is left of them once they are cut.
+const OF_EFFECTS: [(&[u8], &[u8]); 3] = [(HEADER, HEADER), (EFFECT, EFFECT), (TORN_EFFECT, EFFECT)];
+
+/// Whether a file is not opened where this call fails, and has these bytes then.
+fn needs(
+    rt: &HostRuntime,
+    fails: Fails,
+    fault: FileFault,
+    bytes: &[u8],
+    left: &[u8],
+) -> Result<bool, Fail> {
+    fs::write(rt, "needed.append", bytes)?;
+    let opened = appending(rt, fails, "needed.append")?;
+    let has_left = has_bytes(rt, "needed.append", left)?;
+    fs::remove_file(rt, "needed.append")?;
+    Ok(has_left && opened == Err(OpenFault::File(fault)))
+}
 
 #[test]
-fn the_folder_of_a_file_with_no_whole_byte_is_synced(rt: HostRuntime) -> Result<(), Fail> {
-    for (bytes, is_synced) in FOLDERS {
-        fs::write(&rt, "folder.append", bytes)?;
-        let opened = appending(&rt, Fails::SyncAll, "folder.append")?;
-        let unsynced = opened == Err(OpenFault::File(FileFault::Folder));
-        assert!(rt; unsynced == is_synced, "{opened:?}");
-        fs::remove_file(&rt, "folder.append")?;
+fn what_was_read_and_the_folder_are_synced(rt: HostRuntime) -> Result<(), Fail> {
+    for (bytes, cut) in OF_EFFECTS {
+        assert!(rt; needs(&rt, Fails::SyncData, FileFault::Sync, bytes, cut)?);
+        assert!(rt; needs(&rt, Fails::SyncAll, FileFault::Folder, bytes, cut)?);
     }
     Ok(())
 }
 
 #[test]
 fn an_interrupted_call_of_a_file_is_made_again(rt: HostRuntime) -> Result<(), Fail> {
-    fs::write(&rt, "signal.append", TORN)?;
-    assert!(rt; appending(&rt, Fails::Interrupted, "signal.append")? == Ok(loaded(1, 35, 2)));
-    assert!(rt; has_bytes(&rt, "signal.append", RECORD)?);
+    fs::write(&rt, "signal.append", TORN_EFFECT)?;
+    assert!(rt; appending(&rt, Fails::Interrupted, "signal.append")? == Ok(loaded(2, 1, 59, 2)));
+    assert!(rt; has_bytes(&rt, "signal.append", EFFECT)?);
     fs::remove_file(&rt, "signal.append")?;
     assert!(rt; renewed(&rt, Fails::Interrupted, "signal.append")? == Ok(1));
-    assert!(rt; has_bytes(&rt, "signal.append", RECORD)?);
+    assert!(rt; has_bytes(&rt, "signal.append", EFFECT)?);
     fs::remove_file(&rt, "signal.append")?;
     Ok(())
 }
@@ -144,13 +172,11 @@ fn a_fault_of_opening_is_told(rt: HostRuntime) -> Result<(), Fail> {
     let unread = Err(OpenFault::Reload(ReloadFault::ReadFault));
     assert!(rt; appending(&rt, Fails::Read, "unread.append")? == unread);
     assert!(rt; reading(&rt, Fails::Read, "unread.append")? == unread);
-    let folder = Err(OpenFault::File(FileFault::Folder));
-    assert!(rt; appending(&rt, Fails::SyncAll, "empty.append")? == folder);
     let missing = Err(OpenFault::File(FileFault::Open));
     assert!(rt; reading(&rt, Fails::Nothing, "missing.append")? == missing);
     assert!(rt; appending(&rt, Fails::Nothing, "no_folder/a.append")? == missing);
+    assert!(rt; has_bytes(&rt, "unread.append", RECORD)?);
     fs::remove_file(&rt, "unread.append")?;
-    fs::remove_file(&rt, "empty.append")?;
     Ok(())
 }
 
@@ -171,7 +197,7 @@ fn a_failed_rewrite_leaves_nothing(rt: HostRuntime) -> Result<(), Fail> {
         assert!(rt; is_missing(&rt, "new.append.new"));
     }
     assert!(rt; renewed(&rt, Fails::Nothing, "new.append")? == Ok(1));
-    assert!(rt; has_bytes(&rt, "new.append", RECORD)?);
+    assert!(rt; has_bytes(&rt, "new.append", EFFECT)?);
     fs::remove_file(&rt, "new.append")?;
     Ok(())
 }
@@ -182,7 +208,7 @@ fn readers_share_a_file(rt: HostRuntime) -> Result<(), Fail> {
     let mut owner = OneOwner::new(rt.alloc(), RandomState::new(&rt)?);
     let held = open_to_read(&rt, rt.alloc(), "shared.append", &mut owner);
     assert!(rt; held.is_ok());
-    assert!(rt; reading(&rt, Fails::Nothing, "shared.append")? == Ok(loaded(1, 35, 0)));
+    assert!(rt; reading(&rt, Fails::Nothing, "shared.append")? == Ok(loaded(1, 1, 35, 0)));
     let locked = Err(OpenFault::File(FileFault::Locked));
     assert!(rt; appending(&rt, Fails::Nothing, "shared.append")? == locked);
     fs::remove_file(&rt, "shared.append")?;
@@ -191,7 +217,7 @@ fn readers_share_a_file(rt: HostRuntime) -> Result<(), Fail> {
 
 #[test]
 fn a_new_file_is_locked_as_it_gets_its_name(rt: HostRuntime) -> Result<(), Fail> {
-    assert!(rt; renewed(&rt, Fails::LinksLocked, "named.append")? == Ok(1));
+    assert!(rt; renewed(&rt, Fails::NamesLocked, "named.append")? == Ok(1));
     fs::remove_file(&rt, "named.append")?;
     Ok(())
 }
@@ -217,7 +243,7 @@ fn a_draft_in_use_is_left_alone(rt: HostRuntime) -> Result<(), Fail> {
     let locked = Err(RenewFault::File(FileFault::Locked));
     assert!(rt; renewed(&rt, Fails::Nothing, "used.append")? == locked);
     assert!(rt; is_missing(&rt, "used.append"));
-    assert!(rt; has_bytes(&rt, "used.append.new", b"")?);
+    assert!(rt; has_bytes(&rt, "used.append.new", HEADER)?);
     fs::remove_file(&rt, "used.append.new")?;
     Ok(())
 }

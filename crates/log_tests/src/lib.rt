@@ -3,6 +3,8 @@
 #![tactic(auto)]
 
 #[cfg(test)]
+mod effects;
+#[cfg(test)]
 mod failing;
 #[cfg(test)]
 mod files;
@@ -13,8 +15,12 @@ mod records;
 #[cfg(test)]
 mod removals;
 #[cfg(test)]
+mod renewals;
+#[cfg(test)]
 mod room;
 #[cfg(test)]
 mod sweeps;
+#[cfg(test)]
+mod versions;
 #[cfg(test)]
 mod want_of_memory;

@@ -119,7 +119,7 @@ pub fn play<L: Ledger>(
 }
 
 // Whether a reload of these bytes gives that, and a command after it this reply.
-fn reloads_to(
+pub fn reloads_to(
     rt: &HostRuntime,
     bytes: &[u8],
     wanted: Result<Loaded, ReloadFault>,
@@ -134,11 +134,23 @@ fn reloads_to(
     Ok(loaded == wanted && told.as_str() == reply)
 }
 
+/// A file of version 1, reloaded.
 pub fn loaded(records: u64, whole: u64, torn: u64) -> Result<Loaded, ReloadFault> {
     Ok(Loaded {
         records,
         whole,
         torn,
+        version: 1,
+    })
+}
+
+/// A file of version 2, reloaded.
+pub fn loaded_effects(records: u64, whole: u64, torn: u64) -> Result<Loaded, ReloadFault> {
+    Ok(Loaded {
+        records,
+        whole,
+        torn,
+        version: 2,
     })
 }
 
@@ -251,6 +263,10 @@ pub const THREE_RECORDS: &[u8] =
 pub const TWO_SETS: &[u8] =
     b"*4\r\n$4\r\nZADD\r\n$1\r\nj\r\n$2\r\n-3\r\n$1\r\nx\r\n*8\r\n$4\r\nZADD\r\n$1\r\nk\r\n$1\r\n1\r\n$1\r\nB\r\n$1\r\n1\r\n$1\r\na\r\n$1\r\n1\r\n$1\r\nb\r\n";
 
+/// The header, of 24 bytes, and behind it ZADD j -3 x and ZADD k 1 B 1 a 1 b.
+pub const TWO_SETS_REWRITTEN: &[u8] =
+    b"*2\r\n$7\r\nZCRACKD\r\n$1\r\n2\r\n*4\r\n$4\r\nZADD\r\n$1\r\nj\r\n$2\r\n-3\r\n$1\r\nx\r\n*8\r\n$4\r\nZADD\r\n$1\r\nk\r\n$1\r\n1\r\n$1\r\nB\r\n$1\r\n1\r\n$1\r\na\r\n$1\r\n1\r\n$1\r\nb\r\n";
+
 #[test]
 fn whole_records_are_reloaded(rt: HostRuntime) -> Result<(), Fail> {
     let whole = file(rt.alloc(), &["ZADD k 1 a", "ZADD k 2 b", "ZREM k a"])?;
@@ -299,9 +315,10 @@ fn rewritten_sets(rt: HostRuntime) -> Result<(), Fail> {
     answer(alloc, &mut owner, "ZADD j -3 x")?;
     let mut sink = MemorySink::new(alloc, 7);
     assert!(rt; rewrite(alloc, &owner, &mut sink) == Ok(2));
-    assert_eq!(rt; sink.bytes(), TWO_SETS);
+    assert_eq!(rt; sink.bytes(), TWO_SETS_REWRITTEN);
     let listed = "*6~$1~B~$1~1~$1~a~$1~1~$1~b~$1~1~";
-    assert!(rt; reloads_to(&rt, TWO_SETS, loaded(2, 99, 0), LISTING, listed)?);
+    let wanted = loaded_effects(2, 123, 0);
+    assert!(rt; reloads_to(&rt, TWO_SETS_REWRITTEN, wanted, LISTING, listed)?);
     Ok(())
 }
 

@@ -142,8 +142,8 @@ fn is_replayed(rt: &HostRuntime, played: Played) -> Result<bool, Fail> {
 fn each_failing_call_leaves_the_accepted_commands(rt: HostRuntime) -> Result<(), Fail> {
     let alloc = rt.alloc();
     let hasher = RandomState::new(&rt)?;
-    // 261 bytes of six records, and six syncs
-    for (chunk, calls) in [(1usize, 267u64), (3, 95), (7, 46)] {
+    // 235 bytes of six records, and six syncs
+    for (chunk, calls) in [(1usize, 241u64), (3, 86), (7, 42)] {
         for fails_at in 1..calls + 2 {
             let sink = FuseSink::new(MemorySink::new(alloc, chunk), fails_at);
             let played = play::<Brand>(alloc, hasher, Blank::new(2), sink, 10, &COMMANDS)?;
@@ -332,10 +332,10 @@ fn failing_calls_of_a_rewrite(rt: &HostRuntime, chunk: usize) -> Result<u64, Fai
     Err("no end")?
 }
 
-// Records of 36 and 63 bytes, and a sync.
+// A header of 24 bytes, records of 36 and 63, and a sync.
 #[test]
 fn a_rewrite_meets_each_failing_call(rt: HostRuntime) -> Result<(), Fail> {
-    for (chunk, calls) in [(1usize, 100u64), (3, 34), (7, 16)] {
+    for (chunk, calls) in [(1usize, 124u64), (3, 42), (7, 20)] {
         assert_eq!(rt;
             failing_calls_of_a_rewrite(&rt, chunk)?,
             calls,

@@ -3,7 +3,7 @@
 
 ghost use Rattle.std.specs.Prelude.{◌≡◌, ◌≤◌, ◌^◌, None};
 
-use crate::records::{LISTING, THREE_RECORDS, TWO_SETS, loaded};
+use crate::records::{LISTING, THREE_RECORDS, TWO_SETS_REWRITTEN, loaded};
 use append_log::{
     FuseSink, Loaded, Log, LoggedOwner, MemorySink, NoSink, ReloadFault, RewriteFault, reload,
     rewrite,
@@ -184,7 +184,7 @@ fn rewrite_twice<A: Allocator + Copy>(
         found,
         bytes: sink.bytes().len(),
         again,
-        is_rewritten: other.bytes() == TWO_SETS,
+        is_rewritten: other.bytes() == TWO_SETS_REWRITTEN,
     })
 }
 
@@ -200,12 +200,12 @@ fn a_rewrite_meets_each_refused_allocation(rt: HostRuntime) -> Result<(), Fail> 
         let after = rewrite_twice(&fuse, &fuse, hasher, allocation)?;
         assert!(rt; after.again == Ok(2) && after.is_rewritten, "{allocation}");
         if after.is_whole {
-            assert!(rt; after.found == Ok(2) && after.bytes == 99);
+            assert!(rt; after.found == Ok(2) && after.bytes == 123);
             assert!(rt; allocation > LEAST_OF_A_REWRITE, "{allocation}");
             return Ok(());
         }
         // out of memory, or the sink in memory failed, which could not grow
-        assert!(rt; after.found.is_err() && after.bytes < 99, "{allocation}");
+        assert!(rt; after.found.is_err() && after.bytes < 123, "{allocation}");
     }
     Err("no end")?
 }

@@ -10,3 +10,4 @@ pub mod LawProofs
 pub mod CallerLemmas
 pub mod FaultRows
 pub mod FaultsTold
+pub mod OutboxLemmas

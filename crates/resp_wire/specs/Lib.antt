@@ -9,3 +9,4 @@ pub mod Device
 pub mod ParserAgreement
 pub mod ParsingSteps
 pub mod DecoderFields
+pub mod Polled

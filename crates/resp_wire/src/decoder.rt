@@ -100,6 +100,17 @@ impl<A: Allocator + Copy> Decoder<A> {
         self.taken
     }
 
+    /// Gives up the memory of a decoder that holds nothing. What it holds, and all that it answers,
+    /// stays.
+    pub fn let_go(&mut self)
+        ensures { self.new ≡ self.old }
+    {
+        if self.start == self.bytes.len() {
+            self.bytes = Vec::new(self.alloc);
+            self.start = 0;
+        }
+    }
+
     /// Takes the next piece of the stream. On Err, the decoder is unchanged. After a
     /// fault of the protocol no piece is kept, and the answer is Ok.
     pub fn feed(&mut self, piece: &[u8]) -> Result<(), AllocError>

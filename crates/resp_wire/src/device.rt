@@ -11,7 +11,7 @@ ghost use Rattle.resp_wire.specs.Device.{Rose, moved, saturating_succ, failures_
 
 use std::error::Error;
 use std::fmt;
-use std::io::{ErrorKind, Read, Result as IoResult, Write};
+use std::io::{Error as IoError, ErrorKind, Read, Result as IoResult, Write};
 
 /// A call of a device failed.
 #[derive(Clone, Copy, Debug, PartialEq, Eq)]
@@ -124,7 +124,12 @@ pub fn is_interrupted<T>(answer: &IoResult<T>) -> bool
     }
 }
 
-fn read_uninterrupted<R: Read>(reader: &mut R, buffer: &mut [u8]) -> IoResult<usize>
+/// Whether a call would have to wait.
+pub(crate) fn is_blocked(error: &IoError) -> bool {
+    error.kind() == ErrorKind::WouldBlock
+}
+
+pub(crate) fn read_uninterrupted<R: Read>(reader: &mut R, buffer: &mut [u8]) -> IoResult<usize>
     ensures { IfOk result (λ n. n ≤ length buffer.old) }
 {
     for _ in 1..ATTEMPTS {
@@ -163,9 +168,9 @@ fn flush_uninterrupted<W: Write>(writer: &mut W) -> IoResult<()> {
 /// hundred times at the most; all of these are one call.
 #[derive(Drop)]
 pub struct Reading<R> {
-    inner: R,
-    calls: u64,
-    failures: u64,
+    pub(crate) inner: R,
+    pub(crate) calls: u64,
+    pub(crate) failures: u64,
 }
 
 impl<R: Read> Reading<R> {
@@ -178,6 +183,11 @@ impl<R: Read> Reading<R> {
             calls: 0,
             failures: 0,
         }
+    }
+
+    /// The reader.
+    pub fn get_ref(&self) -> &R {
+        &self.inner
     }
 
     /// Gives the reader back.
@@ -214,8 +224,8 @@ impl<R: Read> ByteSource for Reading<R> {
 /// that a signal interrupted is made again, a hundred times at the most; all of these are one call.
 #[derive(Drop)]
 pub struct Writing<W> {
-    inner: W,
-    calls: u64,
+    pub(crate) inner: W,
+    pub(crate) calls: u64,
     failures: u64,
 }
 
@@ -243,7 +253,7 @@ impl<W: Write> Writing<W> {
         inner
     }
 
-    fn fail(&mut self) -> Failed
+    pub(crate) fn fail(&mut self) -> Failed
         ensures calls { self.new.calls ≡ self.old.calls }
         ensures failures { self.new.failures ≡ saturating_succ self.old.failures }
     {

@@ -7,7 +7,7 @@ use crate::device::{ByteDrain, ByteSource, Failed};
 
 /// Which call fails, and how many calls there were.
 #[derive(Drop)]
-struct Count {
+pub(crate) struct Count {
     fails_at: u64,
     calls: u64,
     failures: u64,
@@ -26,7 +26,7 @@ impl Count {
     }
 
     /// Counts a call, and says whether it is the one that fails.
-    fn blows(&mut self) -> bool
+    pub(crate) fn blows(&mut self) -> bool
         ensures { self.new ≡ record self.old { calls = saturating_succ self.old.calls } }
     {
         let before = self.calls;
@@ -35,7 +35,7 @@ impl Count {
     }
 
     /// Counts a failure.
-    fn fail(&mut self) -> Failed
+    pub(crate) fn fail(&mut self) -> Failed
         ensures { self.new ≡ record self.old { failures = saturating_succ self.old.failures } }
     {
         self.failures = self.failures.saturating_add(1);
@@ -46,8 +46,8 @@ impl Count {
 /// A source that fails at one of its calls, which moves nothing, and passes all others on.
 #[derive(Drop)]
 pub struct FuseSource<S> {
-    inner: S,
-    count: Count,
+    pub(crate) inner: S,
+    pub(crate) count: Count,
 }
 
 impl<S: ByteSource> FuseSource<S> {
@@ -94,8 +94,8 @@ impl<S: ByteSource> ByteSource for FuseSource<S> {
 /// passes all others on.
 #[derive(Drop)]
 pub struct FuseDrain<D> {
-    inner: D,
-    count: Count,
+    pub(crate) inner: D,
+    pub(crate) count: Count,
 }
 
 impl<D: ByteDrain> FuseDrain<D> {

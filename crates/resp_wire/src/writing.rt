@@ -1,6 +1,7 @@
 //! Requests and replies, written.
 
 ghost use Rattle.std.specs.Prelude.{◌≡◌, ◌≤◌, [], ◌++◌, ◌∷◌, length, take, OnOk, OnErr};
+ghost use Rattle.std.specs.Fmt.{signed_decimal};
 ghost use Rattle.std.specs.List.{flat_map};
 ghost use Rattle.resp_wire.specs.RequestEncoding.{line, argument, request};
 ghost use Rattle.resp_wire.specs.Response.{response_of, encoded};
@@ -85,6 +86,42 @@ fn room_for<A: Allocator>(words: &[Bytes<A>]) -> usize {
         room = room.saturating_add(word.len()).saturating_add(FRAME);
     }
     room
+}
+
+/// Writes the beginning of an array of so many bulk strings at the end of the bytes: [`write_bulk`]
+/// writes each. On Err, the bytes are unchanged.
+pub fn write_array_header<A: Allocator>(len: usize, out: &mut Vec<u8, A>) -> Result<(), AllocError>
+    ensures ok { OnOk result (out.new.items ≡ out.old.items ++ 42 ∷ line len) }
+    ensures err { OnErr result (out.new.items ≡ out.old.items) }
+{
+    let had = out.len();
+    let written = put_number(out, b'*', len);
+    if written.is_err() {
+        out.truncate(had);
+    }
+    written
+}
+
+/// Writes a bulk string, as which a request has each of its arguments, at the end of the bytes. On Err,
+/// they are unchanged.
+pub fn write_bulk<A: Allocator>(bytes: &[u8], out: &mut Vec<u8, A>) -> Result<(), AllocError>
+    ensures ok { OnOk result (out.new.items ≡ out.old.items ++ argument bytes.now) }
+    ensures err { OnErr result (out.new.items ≡ out.old.items) }
+{
+    let had = out.len();
+    let written = put_bulk(out, bytes);
+    if written.is_err() {
+        out.truncate(had);
+    }
+    written
+}
+
+/// Writes a number in decimal as a bulk string at the end of the bytes. On Err, they are unchanged.
+pub fn write_number_bulk<A: Allocator>(number: i64, out: &mut Vec<u8, A>) -> Result<(), AllocError>
+    ensures ok { OnOk result (out.new.items ≡ out.old.items ++ argument (signed_decimal number)) }
+    ensures err { OnErr result (out.new.items ≡ out.old.items) }
+{
+    write_bulk(Buffer::new().format(number).as_bytes(), out)
 }
 
 /// Writes a request at the end of the bytes. On Err, they are unchanged.

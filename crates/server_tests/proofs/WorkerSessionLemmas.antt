@@ -26,7 +26,7 @@ stays (words ∷ requests) [] old new none = absurd none
 stays (words ∷ requests) (reply ∷ replies) old new (between, exchange, rest) =
     stays requests replies between new rest ∙ stays_in_exchange old between words (asked words) reply exchange
 
-stays_to_fault : (old new : WorkerView) (end : SessionFault) (came : List (List (List ℕ))) (behind : Option ProtocolFault) (before : ℕ) (written : List ℕ) → Ends WorkerAnswers old came behind before end written new → new.table ≡ old.table
+stays_to_fault : (old new : WorkerView) (end : SessionFault) (came : List (List (List ℕ))) (behind : Option ProtocolFault) (before : ℕ) (written : List ℕ) → Ends (Exchanges WorkerAnswers) old came behind before end written new → new.table ≡ old.table
 stays_to_fault old new NoMemory came behind before written e = stays e.run e.replies old new e.exchanges
 stays_to_fault old new ReadFault came behind before written e = stays came e.0.replies old new e.0.exchanges
 stays_to_fault old new (WriteFault out) came behind before written (out_is, inl broken) = stays broken.run broken.replies old new broken.exchanges
@@ -35,6 +35,6 @@ stays_to_fault old new (Wire told) came behind before written e = stays came e.r
 stays_to_fault old new TooManyReads came behind before written e = stays came e.0.replies old new e.0.exchanges
 
 -- a session leaves its worker on the same table, however it ends
-pub table_stays : (old new : WorkerView) (source₀ source₁ drain₀ drain₁ : Option (List ℕ)) (result : Result Ended SessionFault) → Served WorkerAnswers old source₀ source₁ drain₀ drain₁ result new → new.table ≡ old.table
+pub table_stays : (old new : WorkerView) (source₀ source₁ drain₀ drain₁ : Option (List ℕ)) (result : Result Ended SessionFault) → Served (Exchanges WorkerAnswers) old source₀ source₁ drain₀ drain₁ result new → new.table ≡ old.table
 table_stays old new source₀ source₁ drain₀ drain₁ (Ok ended) s = let r = s.line.replied in stays (requests s.read) r.replies old new r.exchanges
 table_stays old new source₀ source₁ drain₀ drain₁ (Err end) s = stays_to_fault old new end (requests s.read) (fault s.read) 0 s.written s.line

@@ -202,7 +202,7 @@ fn failing_calls<R: Wait + RandomSource + AllocGlobal>(rt: &R, chunk: usize) -> 
 // A record is written in so many calls as its bytes take, and synced by one.
 #[test]
 fn each_failing_call_of_the_log_refuses_one_change(rt: HostRuntime) -> Result<(), Fail> {
-    for (chunk, calls) in [(1usize, 323u64), (3, 115), (7, 55)] {
+    for (chunk, calls) in [(1usize, 277u64), (3, 100), (7, 47)] {
         assert_eq!(rt; failing_calls(&rt, chunk)?, calls, "chunk {chunk}");
     }
     Ok(())

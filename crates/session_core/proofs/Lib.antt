@@ -2,3 +2,5 @@ pub mod ExchangeLemmas
 pub mod HeldRequests
 pub mod ServeProgress
 pub mod WorkerLemmas
+pub mod TurnProgress
+pub mod Interleaving

@@ -1,13 +1,15 @@
 //! A session, from its first byte to its end.
 
-ghost use Rattle.std.specs.Prelude.{◌≡◌, ℕ, ◌+◌, ◌-◌, ◌≤◌, ◌<◌, ◌^◌, [], ◌++◌, length, min, None, Err, IfErr, OnOk, OnSome, MatchResult};
+ghost use Rattle.std.specs.Prelude.{◌≡◌, ℕ, ◌+◌, ◌-◌, ◌≤◌, ◌<◌, ◌^◌, [], ◌++◌, length, min, true, false, None, Err, IfErr, IfOk, OnOk, OnSome, MatchResult};
 ghost use Rattle.resp_wire.specs.Stream.{requests, fault};
 ghost use Rattle.std.specs.Io.KnownBytes.{IsAtEnd};
 ghost use Rattle.resp_wire.specs.Device.{Rose, saturating_succ};
+ghost use Rattle.session_core.specs.Exchange.{Exchanges};
 ghost use Rattle.session_core.specs.SessionEnd.{Served};
+ghost use Rattle.session_core.specs.Interleaved.{TakesTurns};
 ghost use Rattle.session_core.specs.SendOutcome.{DrainFailed, SourceFailed, SentOn};
-ghost use Rattle.session_core.specs.declared.fault.SessionFault.TheVariants.{WriteFault, TooManyReads};
-ghost use Rattle.session_core.specs.ServeSteps.{IsSmall, IsBetweenReads, StaysSmall, AnsweredOne, HaltedOne, Answered, Halted, Round, fed};
+ghost use Rattle.session_core.specs.declared.fault.SessionFault.TheVariants.{NoMemory, WriteFault, TooManyReads};
+ghost use Rattle.session_core.specs.ServeSteps.{IsSmall, IsBetweenReads, StaysSmall, AnsweredOne, HaltedOne, Halfway, Answered, Halted, Round, fed};
 
 use crate::exec::{Exec, respond};
 use crate::fault::{Ended, SessionFault};
@@ -15,7 +17,8 @@ use crate::replies::{send, tell_fault};
 use resp_wire::{
     ByteDrain, ByteSource, Decoder, MAX_READ_BUFFER, MAX_READS, Request, WireFault, laws,
 };
-use std::alloc::Allocator;
+use std::alloc::{AllocError, Allocator};
+use std::mem;
 
 /// How far a session came.
 #[derive(Clone, Copy, Debug, PartialEq, Eq)]
@@ -26,19 +29,23 @@ pub struct Progress {
     pub out: u128,
 }
 
-/// What a session keeps between its reads.
+/// The requests of a turn.
+const TURN: u64 = 128;
+
+/// A session between its turns, for one who shares its executor among several: pieces of the input
+/// are fed, and the requests in them run turn by turn. [`serve`] is a session that is served alone.
 #[derive(Drop)]
-struct Session<A: Allocator> {
+pub struct Session<A: Allocator> {
     alloc: A,
-    decoder: Decoder<A>,
+    pub decoder: Decoder<A>,
     /// The buffer that replies share.
     text: Vec<u8, A>,
-    progress: Progress,
+    pub progress: Progress,
 }
 
 impl<A: Allocator + Copy> Session<A> {
     /// A session before its first read. It takes no memory.
-    fn new(alloc: A) -> Self
+    pub fn new(alloc: A) -> Self
         ensures decoder { result.decoder ≡ record { held = []; taken = 0; fault = None } }
         ensures progress { result.progress ≡ record { requests = 0; out = 0 } }
     {
@@ -84,7 +91,115 @@ impl<A: Allocator + Copy> Session<A> {
         Ok(())
     }
 
-    /// Runs the requests that the decoder holds, each after the reply before it was written whole.
+    /// Takes the next piece of the input.
+    ///
+    /// # Errors
+    ///
+    /// [`SessionFault::NoMemory`]: the session is as it was.
+    pub fn feed(&mut self, piece: &[u8]) -> Result<(), SessionFault>
+        requires unfaulted { self.old.decoder.fault ≡ None }
+        requires small { IsSmall (fed self.old.decoder piece.now) self.old.progress }
+        ensures fed { OnOk result (self.new.decoder ≡ fed self.old.decoder piece.now) }
+        ensures err { IfErr result
+            (λ end. (end ≡ NoMemory) × (self.new.decoder ≡ self.old.decoder)) }
+        ensures progress { self.new.progress ≡ self.old.progress }
+    {
+        match self.decoder.feed(piece) {
+            Ok(()) => Ok(()),
+            Err(_) => Err(SessionFault::NoMemory),
+        }
+    }
+
+    /// How a session ends whose input has come to its end.
+    pub fn ended(&self) -> Ended
+        ensures requests { result.requests ≡ self.now.progress.requests }
+        ensures rest { result.rest ≡ length self.now.decoder.held }
+    {
+        Ended {
+            requests: self.progress.requests,
+            rest: self.decoder.rest_len(),
+        }
+    }
+
+    /// Puts replies into this memory from now on, which many sessions can share in turn.
+    pub fn lend(&mut self, memory: Vec<u8, A>)
+        ensures decoder { self.new.decoder ≡ self.old.decoder }
+        ensures progress { self.new.progress ≡ self.old.progress }
+    {
+        self.text = memory;
+    }
+
+    /// Gives up the memory for replies. What the decoder has stays its own: where memory is exhausted
+    /// later, the next request still has room.
+    pub fn take_memory(&mut self) -> Vec<u8, A>
+        ensures decoder { self.new.decoder ≡ self.old.decoder }
+        ensures progress { self.new.progress ≡ self.old.progress }
+    {
+        mem::replace(&mut self.text, Vec::new(self.alloc))
+    }
+
+    /// One turn: runs requests that the decoder holds, `most` of them at most, each after the reply
+    /// before it was written whole. True: all that are whole were run. False: so many were run, and
+    /// there may be more.
+    ///
+    /// # Errors
+    ///
+    /// As [`serve`] ends: with no [`SessionFault::ReadFault`] or [`SessionFault::TooManyReads`].
+    pub fn turn<R, D: ByteDrain, E: Exec<R, A>>(
+        &mut self,
+        rt: &R,
+        most: u64,
+        drain: &mut D,
+        exec: &mut E,
+    ) -> Result<bool, SessionFault>
+        requires settled { E.settled exec.old }
+        requires ready { IsBetweenReads self.old.decoder self.old.progress }
+        ensures settled { E.settled exec.new }
+        ensures ready { OnOk result (IsBetweenReads self.new.decoder self.new.progress) }
+        ensures answered { IfOk result (λ all. all ≡ true →
+            Answered E.allows exec.old self.old.decoder self.old.progress (D.told drain.old)
+            exec.new self.new.decoder self.new.progress (D.told drain.new)) }
+        ensures half { IfOk result (λ all. all ≡ false →
+            Halfway E.allows exec.old self.old.decoder self.old.progress (D.told drain.old)
+            exec.new self.new.decoder self.new.progress (D.told drain.new)) }
+        ensures count { IfOk result (λ all. all ≡ false →
+            self.new.progress.requests ≡ self.old.progress.requests + most) }
+        // Each request that was run took a byte or more off what is held.
+        ensures shrinks { OnOk result (length self.new.decoder.held + self.new.progress.requests
+            ≤ length self.old.decoder.held + self.old.progress.requests) }
+        ensures halted { IfErr result
+            (λ end. Halted E.allows exec.old (requests self.old.decoder.held)
+            (fault self.old.decoder.held) self.old.progress.out (D.told drain.old) end exec.new
+            (D.told drain.new)) }
+        ensures failures { MatchResult result (λ _. D.failures drain.new ≡ D.failures drain.old)
+            (λ end. DrainFailed end (D.failures drain.old) (D.failures drain.new)) }
+        ensures sent_on { IfErr result
+            (λ end. SentOn end (D.told drain.new) (D.flushed drain.new)) }
+    {
+        'requests: for _ in 0..most {
+            match self.decoder.next() {
+                Err(wire_fault) => {
+                    return Err(match wire_fault {
+                        WireFault::NoMemory => SessionFault::NoMemory,
+                        WireFault::Protocol(fault) => {
+                            tell_fault(drain, &mut self.text, &mut self.progress.out, fault)
+                        }
+                    });
+                }
+                Ok(next) => match next {
+                    None => {
+                        // The rest behind the last whole request is no longer than what was held.
+                        laws::longest();
+                        return Ok(true);
+                    }
+                    Some(request) => self.answer(rt, request, drain, exec)?,
+                },
+            }
+        }
+        Ok(false)
+    }
+
+    /// Runs the requests that the decoder holds, turn after turn.
     fn answer_held<R, D: ByteDrain, E: Exec<R, A>>(
         &mut self,
         rt: &R,
@@ -107,24 +222,9 @@ impl<A: Allocator + Copy> Session<A> {
         ensures sent_on { IfErr result
             (λ end. SentOn end (D.told drain.new) (D.flushed drain.new)) }
     {
-        'requests: loop {
-            match self.decoder.next() {
-                Err(wire_fault) => {
-                    return Err(match wire_fault {
-                        WireFault::NoMemory => SessionFault::NoMemory,
-                        WireFault::Protocol(fault) => {
-                            tell_fault(drain, &mut self.text, &mut self.progress.out, fault)
-                        }
-                    });
-                }
-                Ok(next) => match next {
-                    None => {
-                        // The rest behind the last whole request is no longer than what was held.
-                        laws::longest();
-                        return Ok(());
-                    }
-                    Some(request) => self.answer(rt, request, drain, exec)?,
-                },
+        'turns: loop {
+            if self.turn(rt, TURN, drain, exec)? {
+                return Ok(());
             }
         }
     }
@@ -225,6 +325,26 @@ fn flush<D: ByteDrain>(drain: &mut D, progress: &Progress) -> Result<(), Session
     }
 }
 
+/// What is reserved for a reply at the start, more than the longest text of an error takes: where memory
+/// is exhausted later, that is told.
+const REPLY_ROOM: usize = 128;
+
+/// Where pieces of the input are read into, and a session before its first read.
+fn begun<A: Allocator + Copy>(
+    alloc: A,
+    buffer: usize,
+) -> Result<(Vec<u8, A>, Session<A>), AllocError>
+    ensures piece { IfOk result (λ begun. length begun.0.items ≡ buffer) }
+    ensures decoder { IfOk result
+        (λ begun. begun.1.decoder ≡ record { held = []; taken = 0; fault = None }) }
+    ensures progress { IfOk result (λ begun. begun.1.progress ≡ record { requests = 0; out = 0 }) }
+{
+    let piece = vec![in alloc; 0; buffer]?;
+    let mut session = Session::new(alloc);
+    session.text = Vec::with_capacity(alloc, REPLY_ROOM)?;
+    Ok((piece, session))
+}
+
 /// Serves one connection until its input ends: requests are read from the source and run in turn,
 /// and their replies written to the drain. A reply is out whole before the next request is run; a
 /// refused command is answered by its error text. What the drain holds back is sent on before each
@@ -256,7 +376,7 @@ pub fn serve<R, A: Allocator + Copy, S: ByteSource, D: ByteDrain, E: Exec<R, A>>
     requires buffer { buffer ≤ MAX_READ_BUFFER }
     requires reads { max_reads ≤ MAX_READS }
     ensures settled { E.settled exec.new }
-    ensures served { Served E.allows exec.old (S.told source.old) (S.told source.new)
+    ensures served { Served (Exchanges E.allows) exec.old (S.told source.old) (S.told source.new)
         (D.told drain.old) (D.told drain.new) result exec.new }
     ensures at_end { OnOk result (IsAtEnd (S.told source.new)) }
     ensures reads { S.calls source.new ≤ S.calls source.old + max_reads }
@@ -274,11 +394,11 @@ pub fn serve<R, A: Allocator + Copy, S: ByteSource, D: ByteDrain, E: Exec<R, A>>
 {
     // What a stream holds does not depend on the pieces that it comes in.
     laws::cut();
-    let mut piece = match vec![in alloc; 0; buffer] {
-        Ok(piece) => piece,
+    let begun = match begun(alloc, buffer) {
+        Ok(begun) => begun,
         Err(_) => return Err(SessionFault::NoMemory),
     };
-    let mut session = Session::new(alloc);
+    let (mut piece, mut session) = begun;
     'reads: for _ in 0..max_reads {
         if let Some(ended) = session.read_on(rt, source, &mut piece, drain, exec)? {
             return Ok(ended);
@@ -286,4 +406,12 @@ pub fn serve<R, A: Allocator + Copy, S: ByteSource, D: ByteDrain, E: Exec<R, A>>
     }
     flush(drain, &session.progress)?;
     Err(SessionFault::TooManyReads)
+}
+
+/// Sessions may share an executor, turn by turn: whatever others were served between its turns, a
+/// session goes on, and ends as one that is served alone, its exchanges standing among theirs.
+pub fn takes_turns<R, A: Allocator + Copy, E: Exec<R, A>>()
+    ensures law { TakesTurns E.allows }
+{
+    laws::cut();
 }

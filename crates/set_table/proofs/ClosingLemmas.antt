@@ -88,45 +88,46 @@ sum_below-same zero f g e = refl
 sum_below-same (suc n) f g e = ap (λ a. a + f n) (sum_below-same n f g e) ∙ ap (λ a. sum_below n g + a) (e n)
 
 -- one place more
-pub cells_more : (ps : List PassView) (n : ℕ) (cell : CellView) (s t : Totals) → AreOfCells ps n s.members s.records → AddsCell ps n cell s t → AreOfCells ps (n + 1) t.members t.records
-cells_more ps n cell s t h m = rw add-one (cell, m.agrees, s.members, s.records, h, m.members, m.records)
+pub cells_more : (ps : List PassView) (runs n : ℕ) (cell : CellView) (s t : Totals) → AreOfCells ps runs n s.members s.records → AddsCell ps runs n cell s t → AreOfCells ps runs (n + 1) t.members t.records
+cells_more ps runs n cell s t h m = rw add-one (cell, m.agrees, s.members, s.records, h, m.members, m.records)
 
-agrees_permuted : (ps qs : List PassView) (place : ℕ) (cell : CellView) → IsPermutation ps qs → Agrees qs place cell → Agrees ps place cell
-agrees_permuted ps qs place cell same h = record {
+agrees_permuted : (ps qs : List PassView) (runs place : ℕ) (cell : CellView) → IsPermutation ps qs → Agrees qs runs place cell → Agrees ps runs place cell
+agrees_permuted ps qs runs place cell same h = record {
   whole = h.whole;
+  runs = h.runs;
   as_many = h.as_many ∙ length_permutation ps qs same;
   in_step = λ i less.
       let j = stands_in ps qs i same less in
       subst (λ (p : PassView). InStep cell (share_at p place)) j.2 (h.in_step j.0 j.1);
 }
 
-pub cells_permuted : (ps qs : List PassView) → IsPermutation ps qs → (n members records : ℕ) → AreOfCells qs n members records → AreOfCells ps n members records
-cells_permuted ps qs same zero members records h = h
-cells_permuted ps qs same (suc n) members records h =
-    (h.0, agrees_permuted ps qs n h.0 same h.1, h.2, h.3, cells_permuted ps qs same n h.2 h.3 h.4, h.5, h.6)
+pub cells_permuted : (ps qs : List PassView) → IsPermutation ps qs → (runs n members records : ℕ) → AreOfCells qs runs n members records → AreOfCells ps runs n members records
+cells_permuted ps qs same runs zero members records h = h
+cells_permuted ps qs same runs (suc n) members records h =
+    (h.0, agrees_permuted ps qs runs n h.0 same h.1, h.2, h.3, cells_permuted ps qs same runs n h.2 h.3 h.4, h.5, h.6)
 
-other_cell_permuted : (ps qs : List PassView) (opened : List ℕ) → IsPermutation ps qs → HasOtherCell qs opened → HasOtherCell ps opened
-other_cell_permuted ps qs opened same h = record {
+other_cell_permuted : (ps qs : List PassView) (runs : ℕ) (opened : List ℕ) → IsPermutation ps qs → HasOtherCell qs runs opened → HasOtherCell ps runs opened
+other_cell_permuted ps qs runs opened same h = record {
   place = h.place;
   within = h.within;
   cell = h.cell;
   whole = h.whole;
-  differs = λ before agrees. h.differs before (agrees_permuted qs ps h.place h.cell (IsPermutation-sym ps qs same) agrees);
+  differs = λ before agrees. h.differs before (agrees_permuted qs ps runs h.place h.cell (IsPermutation-sym ps qs same) agrees);
 }
 
-other_records_permuted : (ps qs : List PassView) (places before : ℕ) → IsPermutation ps qs → HasOtherRecords qs places before → HasOtherRecords ps places before
-other_records_permuted ps qs places before same h = record {
+other_records_permuted : (ps qs : List PassView) (runs places before : ℕ) → IsPermutation ps qs → HasOtherRecords qs runs places before → HasOtherRecords ps runs places before
+other_records_permuted ps qs runs places before same h = record {
   members = h.members;
   records = h.records;
-  of_cells = cells_permuted ps qs same places h.members h.records h.of_cells;
+  of_cells = cells_permuted ps qs same runs places h.members h.records h.of_cells;
   appended = h.appended;
   differs = h.differs;
 }
 
-pub out_of_step_permuted : (ps qs : List PassView) (opened : List ℕ) (before : ℕ) → IsPermutation ps qs → IsOutOfStep qs opened before → IsOutOfStep ps opened before
-out_of_step_permuted ps qs opened before same h = elim h [
-  | inl cell ↦ inl (other_cell_permuted ps qs opened same cell)
-  | inr records ↦ inr (other_records_permuted ps qs (length opened) before same records)
+pub out_of_step_permuted : (ps qs : List PassView) (runs : ℕ) (opened : List ℕ) (before : ℕ) → IsPermutation ps qs → IsOutOfStep qs runs opened before → IsOutOfStep ps runs opened before
+out_of_step_permuted ps qs runs opened before same h = elim h [
+  | inl cell ↦ inl (other_cell_permuted ps qs runs opened same cell)
+  | inr records ↦ inr (other_records_permuted ps qs runs (length opened) before same records)
 ]
 
 -- the order of the passes does not matter

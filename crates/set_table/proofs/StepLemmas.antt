@@ -1,5 +1,6 @@
 -- What is prepared, committed and let go.
 use Rattle.std.proofs.Common.{◌≡◌, ℕ, ◌+◌, true, false, Option, Some, None, IfSome, IsTrue, IsSome, Result, Ok, IfOk, inl, inr, refl, sym, subst, ◌∙◌, arith}
+use Rattle.std.specs.Prelude.{◌≢◌}
 use Rattle.resp_wire.specs.Response.{Response}
 use Rattle.zset_core.specs.SortedSet.{Members}
 use Rattle.zset_core.specs.AbstractCommand.{Asked, is_writing, Meaning, Ping, Add, Increase, Remove, RemoveRange, Score, Card, Count, ListRange}
@@ -115,3 +116,8 @@ stayed m new meaning P o (Some n) a b ready outlined made same kept = record { w
 
 pub ok_is : {X E : Type 0} (r : Result X E) (x : X) (P : X → Type 0) → IfOk r P → r ≡ Ok x → P x
 ok_is {X = X} {E = E} r x P h is = subst (λ (q : Result X E). IfOk q P) is h
+
+-- a set whose outline tells a change becomes another
+pub becomes_other : (outline : Outline) (old now : Members) (next : Option Next) → IfSome next (λ n. IsOutline outline old n.members) → now ≡ old → outline.changed ≡ true → IfSome next (λ n. n.members ≢ now)
+becomes_other outline old now None told same changed = tt
+becomes_other outline old now (Some n) told same changed = λ is. told.changed.0 changed (is ∙ same)

@@ -25,8 +25,8 @@ pub record AddsPlace (passes : List PassView) (place opened : ℕ) (s t : Totals
   pub sets : t.sets ≡ s.sets + min size 1
 
 -- members and records that a place's cell tells were added to the totals
-pub record AddsCell (passes : List PassView) (place : ℕ) (cell : CellView) (s t : Totals) : Type 0 where
-  pub agrees : Agrees passes place cell
+pub record AddsCell (passes : List PassView) (max_runs place : ℕ) (cell : CellView) (s t : Totals) : Type 0 where
+  pub agrees : Agrees passes max_runs place cell
   pub members : t.members ≡ s.members + fin.len cell.sorted_set.members
   pub records : t.records ≡ s.records + cell.appended
 

@@ -44,38 +44,41 @@ pub record AddsUp (passes : List PassView) (opened : List ℕ) (t : Totals) : Ty
   pub sets : t.sets ≡ sum_below (length opened) (λ place. min (members_at passes opened place) 1)
   pub balance : t.members + t.removed ≡ t.opened + t.added
 
--- a place's cell, as it was when the table was closed: it was whole, and told of each pass what that pass was answered there
-pub record Agrees (passes : List PassView) (place : ℕ) (cell : CellView) : Type 0 where
+-- a place's cell, as it was when the table was closed: it was whole, might answer as many runs as the table says, and told of
+-- each pass what that pass was answered there
+pub record Agrees (passes : List PassView) (max_runs place : ℕ) (cell : CellView) : Type 0 where
   pub whole : IsWhole cell
+  pub runs : cell.max_runs ≡ max_runs
   pub as_many : length cell.tallies ≡ length passes
   pub in_step : (i : ℕ) → i < length passes → InStep cell (share_at (pass_at passes i) place)
 
 -- so many members and records are those of the cells of the first n places together, each of which agrees with the passes
-abbrev pub AreOfCells : List PassView → ℕ → ℕ → ℕ → Type 0
-AreOfCells passes zero members records = (members ≡ 0) × (records ≡ 0)
-AreOfCells passes (suc n) members records =
-    (cell : CellView) × Agrees passes n cell
-    × (m : ℕ) × (r : ℕ) × AreOfCells passes n m r × (members ≡ m + fin.len cell.sorted_set.members) × (records ≡ r + cell.appended)
+abbrev pub AreOfCells : List PassView → ℕ → ℕ → ℕ → ℕ → Type 0
+AreOfCells passes max_runs zero members records = (members ≡ 0) × (records ≡ 0)
+AreOfCells passes max_runs (suc n) members records =
+    (cell : CellView) × Agrees passes max_runs n cell
+    × (m : ℕ) × (r : ℕ) × AreOfCells passes max_runs n m r × (members ≡ m + fin.len cell.sorted_set.members) × (records ≡ r + cell.appended)
 
--- a place's cell is out of step: its members at opening are others, or it does not tell what the passes were answered there
-pub record HasOtherCell (passes : List PassView) (opened : List ℕ) : Type 0 where
+-- a place's cell is out of step: its members at opening are others, or it may answer another number of runs, or does not tell
+-- what the passes were answered there
+pub record HasOtherCell (passes : List PassView) (max_runs : ℕ) (opened : List ℕ) : Type 0 where
   pub place : ℕ
   pub within : place < length opened
   pub cell : CellView
   pub whole : IsWhole cell
-  pub differs : cell.opened ≡ get_or opened place 0 → Agrees passes place cell → ⊥
+  pub differs : cell.opened ≡ get_or opened place 0 → Agrees passes max_runs place cell → ⊥
 
 -- the cells' records, with those before, are not as many as the log has
-pub record HasOtherRecords (passes : List PassView) (places before : ℕ) : Type 0 where
+pub record HasOtherRecords (passes : List PassView) (max_runs places before : ℕ) : Type 0 where
   pub members : ℕ
   pub records : ℕ
-  pub of_cells : AreOfCells passes places members records
+  pub of_cells : AreOfCells passes max_runs places members records
   pub appended : ℕ
   pub differs : records + before ≡ appended → ⊥
 
 -- why a table whose passes are all there tells no totals
-abbrev pub IsOutOfStep : List PassView → List ℕ → ℕ → Type 0
-IsOutOfStep passes opened before = HasOtherCell passes opened ⊎ HasOtherRecords passes (length opened) before
+abbrev pub IsOutOfStep : List PassView → ℕ → List ℕ → ℕ → Type 0
+IsOutOfStep passes max_runs opened before = HasOtherCell passes max_runs opened ⊎ HasOtherRecords passes max_runs (length opened) before
 
 -- where two of the passes know a place's name, it is the same
 abbrev pub AgreeAt : List PassView → ℕ → Type 0

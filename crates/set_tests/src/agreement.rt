@@ -2,7 +2,7 @@
 
 ghost use Rattle.std.specs.Prelude.{◌≡◌, None};
 
-use crate::columns::{Set, new_set, run};
+use crate::columns::{Set, expect_run, new_set, run};
 use crate::examples::{command, text_of};
 use crate::questions::{Question, listing_text, plain_reply, plain_rows, random_question};
 use crate::random_changes::{Extent, Plain, next, random_change};
@@ -10,22 +10,6 @@ use std::alloc::Global;
 use std::collections::BTreeMap;
 use std::process::Abort;
 use std::test::*;
-
-// Runs a command on a set: the reply is as wanted.
-fn expect_run<R: Abort>(
-    rt: &R,
-    alloc: Global,
-    set: &mut Set,
-    text: &str,
-    want: &str,
-) -> Result<(), Fail>
-    requires { set.old.next ≡ None }
-    ensures { set.new.next ≡ None }
-{
-    let told = run(alloc, set, text)?;
-    assert_eq!(rt; text_of(alloc, &told)?.as_str(), want, "{text}");
-    Ok(())
-}
 
 // Asks a set as it stands: the reply is as wanted.
 fn expect_ready<R: Abort>(
@@ -63,19 +47,26 @@ fn expect_listing<R: Abort>(
     expect_ready(rt, alloc, set, text.as_str(), want.as_str())
 }
 
-// A set of 20 members with 10 scores, and the same plain.
-fn twenty(alloc: Global, set: &mut Set) -> Result<Plain, Fail>
+// Adds a member to a set and to a plain one.
+fn add(alloc: Global, set: &mut Set, plain: &mut Plain, member: u64, score: i64) -> Result<(), Fail>
     requires { set.old.next ≡ None }
     ensures { set.new.next ≡ None }
 {
-    let mut plain = BTreeMap::new(alloc);
+    plain.insert(member, score)?;
+    let text = format!(in alloc; "ZADD k {score} m{member}")?;
+    run(alloc, set, text.as_str())?;
+    Ok(())
+}
+
+// Adds 20 members with 10 scores to both.
+fn add_twenty(alloc: Global, set: &mut Set, plain: &mut Plain) -> Result<(), Fail>
+    requires { set.old.next ≡ None }
+    ensures { set.new.next ≡ None }
+{
     for member in 0..20u64 {
-        let score = (member * 7 % 10) as i64;
-        let text = format!(in alloc; "ZADD k {score} m{member}")?;
-        run(alloc, set, text.as_str())?;
-        plain.insert(member, score)?;
+        add(alloc, set, plain, member, (member * 7 % 10) as i64)?;
     }
-    Ok(plain)
+    Ok(())
 }
 
 // Asks for the windows from an offset on, of each count from -2 to 22.
@@ -112,16 +103,31 @@ fn expect_windows<R: Abort>(rt: &R, alloc: Global, set: &mut Set, plain: &Plain)
     Ok(())
 }
 
-#[test]
-fn windows_are_cut_out_of_the_listing(rt: HostRuntime) -> Result<(), Fail> {
-    let alloc = rt.alloc();
-    let mut set = new_set(&rt)?;
-    let plain = twenty(alloc, &mut set)?;
-    for crack in ["ZCARD k", "ZCOUNT k 2 4", "ZCOUNT k (6 8"] {
-        run(alloc, &mut set, crack)?;
-        expect_windows(&rt, alloc, &mut set, &plain)?;
+// What cracks a set of twenty more and more.
+const CRACKS: [&str; 3] = ["ZCARD k", "ZCOUNT k 2 4", "ZCOUNT k (6 8"];
+
+// Adds twenty members, and asks for the windows however the set is cracked.
+fn expect_cut_out<R: Abort>(
+    rt: &R,
+    alloc: Global,
+    set: &mut Set,
+    plain: &mut Plain,
+) -> Result<(), Fail>
+    requires { set.old.next ≡ None }
+{
+    add_twenty(alloc, set, plain)?;
+    for crack in CRACKS {
+        run(alloc, set, crack)?;
+        expect_windows(rt, alloc, set, plain)?;
     }
     Ok(())
+}
+
+#[test]
+fn windows_are_cut_out_of_the_listing(rt: HostRuntime) -> Result<(), Fail> {
+    let mut set = new_set(&rt)?;
+    let mut plain = BTreeMap::new(rt.alloc());
+    expect_cut_out(&rt, rt.alloc(), &mut set, &mut plain)
 }
 
 // Counts a range of a set, as the plain set has it.
@@ -147,6 +153,22 @@ const FEW: Extent = Extent {
     scores: 20,
 };
 
+// A random change of both, by a number.
+fn change(
+    alloc: Global,
+    set: &mut Set,
+    plain: &mut Plain,
+    number: u64,
+    extent: &Extent,
+) -> Result<(), Fail>
+    requires { set.old.next ≡ None }
+    ensures { set.new.next ≡ None }
+{
+    let text = random_change(alloc, plain, number, extent)?;
+    run(alloc, set, text.as_str())?;
+    Ok(())
+}
+
 // A random change of a set, a listing and a count, by the numbers behind this one; and the last of these.
 fn change_and_ask<R: Abort>(
     rt: &R,
@@ -159,8 +181,7 @@ fn change_and_ask<R: Abort>(
     ensures { set.new.next ≡ None }
 {
     let first = next(number);
-    let text = random_change(alloc, plain, first, &FEW)?;
-    run(alloc, set, text.as_str())?;
+    change(alloc, set, plain, first, &FEW)?;
     let second = next(first);
     expect_listing(rt, alloc, set, plain, &random_question(second))?;
     let third = next(second);
@@ -168,31 +189,33 @@ fn change_and_ask<R: Abort>(
     Ok(third)
 }
 
-#[test]
-fn random_commands_agree_with_a_plain_set(rt: HostRuntime) -> Result<(), Fail> {
-    let alloc = rt.alloc();
-    let mut set = new_set(&rt)?;
-    let mut plain = BTreeMap::new(alloc);
+// Three thousand of these.
+fn agree<R: Abort>(rt: &R, alloc: Global, set: &mut Set, plain: &mut Plain) -> Result<(), Fail>
+    requires { set.old.next ≡ None }
+{
     let mut number = 1;
     for _ in 0..3000u32 {
-        number = change_and_ask(&rt, alloc, &mut set, &mut plain, number)?;
+        number = change_and_ask(rt, alloc, set, plain, number)?;
     }
     Ok(())
 }
 
-// A big set of the members from 0 on, and the same plain.
-fn big(alloc: Global, set: &mut Set, extent: &Extent) -> Result<Plain, Fail>
+#[test]
+fn random_commands_agree_with_a_plain_set(rt: HostRuntime) -> Result<(), Fail> {
+    let mut set = new_set(&rt)?;
+    let mut plain = BTreeMap::new(rt.alloc());
+    agree(&rt, rt.alloc(), &mut set, &mut plain)
+}
+
+// Adds the members from 0 on to both.
+fn add_many(alloc: Global, set: &mut Set, plain: &mut Plain, extent: &Extent) -> Result<(), Fail>
     requires { set.old.next ≡ None }
     ensures { set.new.next ≡ None }
 {
-    let mut plain = BTreeMap::new(alloc);
     for member in 0..extent.members {
-        let score = extent.score(next(member + 1));
-        let text = format!(in alloc; "ZADD k {score} m{member}")?;
-        run(alloc, set, text.as_str())?;
-        plain.insert(member, score)?;
+        add(alloc, set, plain, member, extent.score(next(member + 1)))?;
     }
-    Ok(plain)
+    Ok(())
 }
 
 // A window of a big set, by a number: the lowest ranks, or some in the middle or behind the last.
@@ -215,34 +238,39 @@ fn agree_on_windows<R: Abort>(
     rt: &R,
     alloc: Global,
     set: &mut Set,
+    plain: &mut Plain,
     extent: &Extent,
 ) -> Result<(), Fail>
     requires { set.old.next ≡ None }
-    ensures { set.new.next ≡ None }
 {
-    let mut plain = big(alloc, set, extent)?;
+    add_many(alloc, set, plain, extent)?;
     let mut number = 1;
     for _ in 0..6u32 {
         number = next(number);
-        let text = random_change(alloc, &mut plain, number, extent)?;
-        run(alloc, set, text.as_str())?;
+        change(alloc, set, plain, number, extent)?;
         number = next(number);
-        let asked = big_window(number, extent);
-        expect_listing(rt, alloc, set, &plain, &asked)?;
+        expect_listing(rt, alloc, set, plain, &big_window(number, extent))?;
     }
     Ok(())
 }
 
+// The same of a set that is handed over.
+fn agree_on_big_set<R: Abort>(rt: &R, alloc: Global, set: Set, scores: u64) -> Result<(), Fail>
+    requires { set.next ≡ None }
+{
+    let mut set = set;
+    let mut plain = BTreeMap::new(alloc);
+    let extent = Extent {
+        members: 12_000,
+        scores,
+    };
+    agree_on_windows(rt, alloc, &mut set, &mut plain, &extent)
+}
+
 #[test]
 fn windows_of_big_sets_agree_with_plain_sets(rt: HostRuntime) -> Result<(), Fail> {
-    let alloc = rt.alloc();
     for scores in [3, 1_000_000] {
-        let mut set = new_set(&rt)?;
-        let extent = Extent {
-            members: 12_000,
-            scores,
-        };
-        agree_on_windows(&rt, alloc, &mut set, &extent)?;
+        agree_on_big_set(&rt, rt.alloc(), new_set(&rt)?, scores)?;
     }
     Ok(())
 }
@@ -259,11 +287,22 @@ const LIMITS: [(i64, i64); 8] = [
     (995, 10),
 ];
 
+// A thousand members of one score.
+const OF_ONE_SCORE: Extent = Extent {
+    members: 1_000,
+    scores: 1,
+};
+
 // Asks for the windows of a set of one score.
-fn expect_limits<R: Abort>(rt: &R, alloc: Global, set: &mut Set, plain: &Plain) -> Result<(), Fail>
+fn expect_limits<R: Abort>(
+    rt: &R,
+    alloc: Global,
+    set: &mut Set,
+    plain: &mut Plain,
+) -> Result<(), Fail>
     requires { set.old.next ≡ None }
-    ensures { set.new.next ≡ None }
 {
+    add_many(alloc, set, plain, &OF_ONE_SCORE)?;
     for limit in LIMITS {
         let asked = Question {
             low: -1,
@@ -278,14 +317,9 @@ fn expect_limits<R: Abort>(rt: &R, alloc: Global, set: &mut Set, plain: &Plain) 
 
 #[test]
 fn windows_of_one_score_are_listed(rt: HostRuntime) -> Result<(), Fail> {
-    let alloc = rt.alloc();
     let mut set = new_set(&rt)?;
-    let extent = Extent {
-        members: 1_000,
-        scores: 1,
-    };
-    let plain = big(alloc, &mut set, &extent)?;
-    expect_limits(&rt, alloc, &mut set, &plain)
+    let mut plain = BTreeMap::new(rt.alloc());
+    expect_limits(&rt, rt.alloc(), &mut set, &mut plain)
 }
 
 // Whether a listing of the ten lowest would read many rows of the set, and less after `narrow`.
@@ -310,21 +344,37 @@ fn expect_wide<R: Abort>(
     Ok(())
 }
 
-#[test]
-fn a_window_of_a_long_piece_is_narrowed_once(rt: HostRuntime) -> Result<(), Fail> {
-    let alloc = rt.alloc();
-    let mut set = new_set(&rt)?;
-    let extent = Extent {
-        members: 3_000,
-        scores: 1_000_000,
-    };
-    big(alloc, &mut set, &extent)?;
-    for (text, wide) in [
-        ("ZCOUNT k -inf +inf", true),
-        ("ZRANGEBYSCORE k -inf +inf", true),
-        ("ZRANGEBYSCORE k -inf +inf LIMIT 0 10", false),
-    ] {
-        expect_wide(&rt, alloc, &mut set, text, wide)?;
+// Three thousand members of many scores.
+const LONG: Extent = Extent {
+    members: 3_000,
+    scores: 1_000_000,
+};
+
+// Commands on them, and whether a listing of the ten lowest is wide then.
+const NARROWED: [(&str, bool); 3] = [
+    ("ZCOUNT k -inf +inf", true),
+    ("ZRANGEBYSCORE k -inf +inf", true),
+    ("ZRANGEBYSCORE k -inf +inf LIMIT 0 10", false),
+];
+
+fn expect_narrowed<R: Abort>(
+    rt: &R,
+    alloc: Global,
+    set: &mut Set,
+    plain: &mut Plain,
+) -> Result<(), Fail>
+    requires { set.old.next ≡ None }
+{
+    add_many(alloc, set, plain, &LONG)?;
+    for (text, wide) in NARROWED {
+        expect_wide(rt, alloc, set, text, wide)?;
     }
     Ok(())
+}
+
+#[test]
+fn a_window_of_a_long_piece_is_narrowed_once(rt: HostRuntime) -> Result<(), Fail> {
+    let mut set = new_set(&rt)?;
+    let mut plain = BTreeMap::new(rt.alloc());
+    expect_narrowed(&rt, rt.alloc(), &mut set, &mut plain)
 }

@@ -56,16 +56,37 @@ pub fn run(alloc: Global, set: &mut Set, text: &str) -> Result<Reply<Global>, Fa
     }
 }
 
+/// Runs a command on a set: the reply is as wanted.
+pub fn expect_run<R: Abort>(
+    rt: &R,
+    alloc: Global,
+    set: &mut Set,
+    text: &str,
+    want: &str,
+) -> Result<(), Fail>
+    requires { set.old.next ≡ None }
+    ensures { set.new.next ≡ None }
+{
+    let told = run(alloc, set, text)?;
+    assert_eq!(rt; text_of(alloc, &told)?.as_str(), want, "{text}");
+    Ok(())
+}
+
 // How many rows the column of a set has, how many wait to come in and to go out, and its pivots.
 fn state_of(alloc: Global, set: &Set) -> Result<String, Fail> {
     let column = set.column();
     let (coming, leaving) = column.pending();
     let mut text = format!(in alloc; "{} rows +{} -{}", column.len(), coming, leaving)?;
-    for (value, place) in column.pivot_list() {
-        let pivot = format!(in alloc; " ({value}, {place})")?;
-        text.push_str(pivot.as_str())?;
-    }
+    note_pivots(alloc, column.pivot_list(), &mut text)?;
     Ok(text)
+}
+
+// Appends pivots.
+fn note_pivots(alloc: Global, pivots: &[(i64, usize)], out: &mut String) -> Result<(), Fail> {
+    for (value, place) in pivots {
+        out.push_str(format!(in alloc; " ({value}, {place})")?.as_str())?;
+    }
+    Ok(())
 }
 
 // Commands in turn on one set, with their replies and with the column that they leave.
@@ -79,11 +100,23 @@ fn expect<R: Abort>(
     ensures { set.new.next ≡ None }
 {
     for (text, reply, state) in rows {
-        let told = run(alloc, set, text)?;
-        assert_eq!(rt; text_of(alloc, &told)?.as_str(), *reply, "{text}");
+        expect_run(rt, alloc, set, text, reply)?;
         assert_eq!(rt; state_of(alloc, set)?.as_str(), *state, "{text}");
     }
     Ok(())
+}
+
+// The same on a set that is handed over.
+fn expect_of<R: Abort>(
+    rt: &R,
+    alloc: Global,
+    set: Set,
+    rows: &[(&str, &str, &str)],
+) -> Result<(), Fail>
+    requires { set.next ≡ None }
+{
+    let mut set = set;
+    expect(rt, alloc, &mut set, rows)
 }
 
 /// Commands with the column that each leaves: what waits in a range is merged, and its cuts become pivots.
@@ -106,9 +139,7 @@ const MERGED_AND_CRACKED: [(&str, &str, &str); 6] = [
 
 #[test]
 fn a_range_merges_and_cracks(rt: HostRuntime) -> Result<(), Fail> {
-    let alloc = rt.alloc();
-    let mut set = new_set(&rt)?;
-    expect(&rt, alloc, &mut set, &MERGED_AND_CRACKED)
+    expect_of(&rt, rt.alloc(), new_set(&rt)?, &MERGED_AND_CRACKED)
 }
 
 const LEFT: &str = "8 rows +0 -0 (0, 0) (3, 3) (4, 4) (7, 4) (8, 4) (11, 8)";
@@ -179,9 +210,7 @@ const MERGED_AND_REMOVED: [(&str, &str, &str); 7] = [
 // What waits in a removed range is merged first and leaves with it; what waits outside stays.
 #[test]
 fn what_waits_leaves_with_its_range(rt: HostRuntime) -> Result<(), Fail> {
-    let alloc = rt.alloc();
-    let mut set = new_set(&rt)?;
-    expect(&rt, alloc, &mut set, &MERGED_AND_REMOVED)
+    expect_of(&rt, rt.alloc(), new_set(&rt)?, &MERGED_AND_REMOVED)
 }
 
 /// Commands with the column that each leaves, where a member's scores lie in other pieces.
@@ -200,9 +229,7 @@ const MOVED: [(&str, &str, &str); 10] = [
 
 #[test]
 fn a_member_moves_between_pieces(rt: HostRuntime) -> Result<(), Fail> {
-    let alloc = rt.alloc();
-    let mut set = new_set(&rt)?;
-    expect(&rt, alloc, &mut set, &MOVED)
+    expect_of(&rt, rt.alloc(), new_set(&rt)?, &MOVED)
 }
 
 /// Commands with the column that each leaves, where the last member goes and another comes.
@@ -218,9 +245,7 @@ const EMPTIED: [(&str, &str, &str); 7] = [
 
 #[test]
 fn the_last_member_leaves_its_pivots(rt: HostRuntime) -> Result<(), Fail> {
-    let alloc = rt.alloc();
-    let mut set = new_set(&rt)?;
-    expect(&rt, alloc, &mut set, &EMPTIED)
+    expect_of(&rt, rt.alloc(), new_set(&rt)?, &EMPTIED)
 }
 
 // Counts the scores from `low` on, in a range of its own.
@@ -244,14 +269,20 @@ fn count_all(alloc: Global, set: &mut Set) -> Result<(), Fail>
     Ok(())
 }
 
-#[test]
-fn pivots_past_the_limit_go(rt: HostRuntime) -> Result<(), Fail> {
-    let alloc = rt.alloc();
-    let mut set = new_set(&rt)?;
-    run(alloc, &mut set, "ZADD k 5 a")?;
-    count_all(alloc, &mut set)?;
+// As many pivots as there may be, and two in their place then.
+fn expect_few_pivots<R: Abort>(rt: &R, alloc: Global, set: &mut Set) -> Result<(), Fail>
+    requires { set.old.next ≡ None }
+{
+    run(alloc, set, "ZADD k 5 a")?;
+    count_all(alloc, set)?;
     assert_eq!(rt; set.column().pivot_list().len(), 4096);
-    count_from(alloc, &mut set, 50001)?;
+    count_from(alloc, set, 50001)?;
     assert_eq!(rt; set.column().pivot_list().len(), 2);
     Ok(())
+}
+
+#[test]
+fn pivots_past_the_limit_go(rt: HostRuntime) -> Result<(), Fail> {
+    let mut set = new_set(&rt)?;
+    expect_few_pivots(&rt, rt.alloc(), &mut set)
 }

@@ -1,4 +1,4 @@
-ghost use Rattle.std.specs.Prelude.{◌≡◌, None, IsSome, OnOk, OnErr, option_map};
+ghost use Rattle.std.specs.Prelude.{◌≡◌, None, IfOk, IsSome, OnOk, OnErr, option_map};
 ghost use Rattle.zset_core.specs.AbstractCommand.{key_of};
 
 use crack_kernel::Row;
@@ -22,6 +22,13 @@ pub fn command(alloc: Global, text: &str) -> Result<Command<Global>, Fail> {
         Ok(command) => Ok(command),
         Err(_) => Err("no command")?,
     }
+}
+
+/// An owner without sets.
+pub fn new_owner(rt: &HostRuntime) -> Result<Owner, Fail>
+    ensures { IfOk result (λ owner. owner.next ≡ None) }
+{
+    Ok(OneOwner::new(rt.alloc(), RandomState::new(rt)?))
 }
 
 /// The bytes of a reply, an end of line as `~`.
@@ -129,9 +136,8 @@ fn expect_replies<R: Abort>(
 
 #[test]
 fn examples_are_answered(rt: HostRuntime) -> Result<(), Fail> {
-    let alloc = rt.alloc();
-    let mut owner = OneOwner::new(alloc, RandomState::new(&rt)?);
-    expect_replies(&rt, alloc, &mut owner, &EXAMPLES)
+    let mut owner = new_owner(&rt)?;
+    expect_replies(&rt, rt.alloc(), &mut owner, &EXAMPLES)
 }
 
 // Commands with GT and LT in turn, with their replies.
@@ -159,9 +165,8 @@ const GREATER_OR_LESS: [(&str, &str); 16] = [
 
 #[test]
 fn greater_and_less_are_asked_for(rt: HostRuntime) -> Result<(), Fail> {
-    let alloc = rt.alloc();
-    let mut owner = OneOwner::new(alloc, RandomState::new(&rt)?);
-    expect_replies(&rt, alloc, &mut owner, &GREATER_OR_LESS)
+    let mut owner = new_owner(&rt)?;
+    expect_replies(&rt, rt.alloc(), &mut owner, &GREATER_OR_LESS)
 }
 
 // What a command that changes sets is prepared to do in its set.
@@ -217,15 +222,21 @@ fn expect_outline<R: Abort>(
     Ok(())
 }
 
+// They are those of a set with two members, which stays.
+fn expect_outlines<R: Abort>(rt: &R, alloc: Global, owner: &mut Owner) -> Result<(), Fail>
+    requires { owner.old.next ≡ None }
+{
+    expect_replies(rt, alloc, owner, &[("ZADD k 1 a 2 b", ":2~")])?;
+    for (text, counts) in OUTLINES {
+        expect_outline(rt, alloc, owner, text, counts)?;
+    }
+    expect_replies(rt, alloc, owner, &[("ZCARD k", ":2~")])
+}
+
 #[test]
 fn outlines_tell_the_change(rt: HostRuntime) -> Result<(), Fail> {
-    let alloc = rt.alloc();
-    let mut owner = OneOwner::new(alloc, RandomState::new(&rt)?);
-    expect_replies(&rt, alloc, &mut owner, &[("ZADD k 1 a 2 b", ":2~")])?;
-    for (text, counts) in OUTLINES {
-        expect_outline(&rt, alloc, &mut owner, text, counts)?;
-    }
-    expect_replies(&rt, alloc, &mut owner, &[("ZCARD k", ":2~")])
+    let mut owner = new_owner(&rt)?;
+    expect_outlines(&rt, rt.alloc(), &mut owner)
 }
 
 // Sets at two keys, and one that is gone again.
@@ -256,17 +267,20 @@ fn expect_rows<R: Abort>(rt: &R, rows: &[Row<Global>], members: &[&[u8]]) {
     }
 }
 
+fn expect_listed<R: Abort>(rt: &R, alloc: Global, owner: &mut Owner) -> Result<(), Fail>
+    requires { owner.old.next ≡ None }
+{
+    expect_replies(rt, alloc, owner, &TWO_KEYS)?;
+    expect_keys(rt, owner);
+    let rows = owner.pairs(b"k".as_slice())?;
+    expect_rows(rt, &rows, &MEMBERS);
+    Ok(())
+}
+
+const MEMBERS: [&[u8]; 3] = [b"B", b"a", b"b"];
+
 #[test]
 fn keys_and_pairs_are_listed(rt: HostRuntime) -> Result<(), Fail> {
-    let alloc = rt.alloc();
-    let mut owner = OneOwner::new(alloc, RandomState::new(&rt)?);
-    expect_replies(&rt, alloc, &mut owner, &TWO_KEYS)?;
-    expect_keys(&rt, &owner);
-    let rows = owner.pairs(b"k".as_slice())?;
-    expect_rows(
-        &rt,
-        &rows,
-        &[b"B".as_slice(), b"a".as_slice(), b"b".as_slice()],
-    );
-    Ok(())
+    let mut owner = new_owner(&rt)?;
+    expect_listed(&rt, rt.alloc(), &mut owner)
 }

@@ -9,6 +9,8 @@ mod columns;
 #[cfg(test)]
 mod cracks;
 #[cfg(test)]
+mod effects;
+#[cfg(test)]
 mod examples;
 #[cfg(test)]
 mod questions;

@@ -2,12 +2,11 @@
 
 ghost use Rattle.std.specs.Prelude.{◌≡◌, None};
 
-use crate::examples::{Owner, command, reply_to, text_of};
+use crate::examples::{Owner, new_owner, reply_to};
 use ripple_column::Column;
 use std::alloc::Global;
-use std::hash::RandomState;
+use std::process::Abort;
 use std::test::Fail;
-use zset_core::OneOwner;
 
 /// The most pairs of one ZADD.
 const PAIRS: u32 = 512;
@@ -49,9 +48,7 @@ fn expect(alloc: Global, owner: &mut Owner, talk: &[(&str, &str)]) -> Result<(),
     ensures { owner.new.next ≡ None }
 {
     for (text, wanted) in talk {
-        if reply_to(alloc, owner, text)?.as_str() != *wanted {
-            return Err("another reply")?;
-        }
+        expect_one(alloc, owner, text, wanted)?;
     }
     Ok(())
 }
@@ -63,65 +60,99 @@ fn fill(alloc: Global, owner: &mut Owner, times: u32) -> Result<(), Fail>
 {
     for turn in 0..times {
         let text = addition(alloc, turn.saturating_mul(500), 500)?;
-        expect(alloc, owner, &[(text.as_str(), ":500~")])?;
+        expect_one(alloc, owner, text.as_str(), ":500~")?;
+    }
+    Ok(())
+}
+
+/// A command is answered with this reply.
+fn expect_one(alloc: Global, owner: &mut Owner, text: &str, wanted: &str) -> Result<(), Fail>
+    requires { owner.old.next ≡ None }
+    ensures { owner.new.next ≡ None }
+{
+    if reply_to(alloc, owner, text)?.as_str() != wanted {
+        return Err("another reply")?;
+    }
+    Ok(())
+}
+
+/// Words that name a missing member, that add members, and that take them and more out again.
+fn expect_longest(alloc: Global, owner: &mut Owner) -> Result<(), Fail>
+    requires { owner.old.next ≡ None }
+{
+    expect_one(alloc, owner, removal_of_one_name(alloc)?.as_str(), ":0~")?;
+    expect_one(alloc, owner, addition(alloc, 0, PAIRS)?.as_str(), ":512~")?;
+    expect_one(alloc, owner, "ZCOUNT k 100 199", ":100~")?;
+    expect_one(alloc, owner, removal(alloc, NAMES)?.as_str(), ":512~")?;
+    expect_one(alloc, owner, "ZCARD k", ":0~")
+}
+
+#[test]
+fn the_longest_commands_are_answered(rt: HostRuntime) -> Result<(), Fail> {
+    let mut owner = new_owner(&rt)?;
+    expect_longest(rt.alloc(), &mut owner)
+}
+
+/// Commands with their replies, in which `_` stands for a long member.
+const OF_A_LONG_MEMBER: [(&str, &str); 4] = [
+    ("ZADD k 5 _", ":1~"),
+    ("ZRANGEBYSCORE k 5 5", "*1~$65536~_~"),
+    ("ZREM k _", ":1~"),
+    ("ZRANGEBYSCORE k 5 5", "*0~"),
+];
+
+fn expect_kept(alloc: Global, owner: &mut Owner, member: &str) -> Result<(), Fail>
+    requires { owner.old.next ≡ None }
+{
+    for (text, wanted) in OF_A_LONG_MEMBER {
+        let wanted = wanted.replace(alloc, "_", member)?;
+        let text = text.replace(alloc, "_", member)?;
+        expect_one(alloc, owner, text.as_str(), wanted.as_str())?;
     }
     Ok(())
 }
 
 #[test]
-fn the_longest_commands_are_answered(rt: HostRuntime) -> Result<(), Fail> {
-    let alloc = rt.alloc();
-    let mut owner = OneOwner::new(alloc, RandomState::new(&rt)?);
-    let added = addition(alloc, 0, PAIRS)?;
-    let removed = removal(alloc, NAMES)?;
-    let missed = removal_of_one_name(alloc)?;
-    let talk = [
-        (missed.as_str(), ":0~"),
-        (added.as_str(), ":512~"),
-        ("ZCOUNT k 100 199", ":100~"),
-        (removed.as_str(), ":512~"),
-        ("ZCARD k", ":0~"),
-    ];
-    expect(alloc, &mut owner, &talk)
+fn the_longest_member_is_kept(rt: HostRuntime) -> Result<(), Fail> {
+    let member = "m".repeat(rt.alloc(), MEMBER)?;
+    let mut owner = new_owner(&rt)?;
+    expect_kept(rt.alloc(), &mut owner, &member)
 }
 
-#[test]
-fn the_longest_member_is_kept(rt: HostRuntime) -> Result<(), Fail> {
-    let alloc = rt.alloc();
-    let mut owner = OneOwner::new(alloc, RandomState::new(&rt)?);
-    let member = "m".repeat(alloc, MEMBER)?;
-    let added = format!(in alloc; "ZADD k 5 {member}")?;
-    let listed = format!(in alloc; "*1~$65536~{member}~")?;
-    let removed = format!(in alloc; "ZREM k {member}")?;
-    let talk = [
-        (added.as_str(), ":1~"),
-        ("ZRANGEBYSCORE k 5 5", listed.as_str()),
-        (removed.as_str(), ":1~"),
-        ("ZRANGEBYSCORE k 5 5", "*0~"),
-    ];
-    expect(alloc, &mut owner, &talk)
+/// Commands on 120,000 members, with their replies.
+const OF_A_LARGE_SET: [(&str, &str); 9] = [
+    ("ZCARD k", ":120000~"),
+    ("ZCOUNT k 1000 (2000", ":1000~"),
+    ("ZADD k 1500 x", ":1~"),
+    ("ZREM k m1501", ":1~"),
+    ("ZADD k INCR 1 m99999", "$6~100000~"),
+    (
+        "ZRANGEBYSCORE k 1499 1502",
+        "*4~$5~m1499~$5~m1500~$1~x~$5~m1502~",
+    ),
+    ("ZRANGEBYSCORE k -inf +inf LIMIT 119999 5", "*1~$7~m119999~"),
+    ("ZSCORE k m119998", "$6~119998~"),
+    ("ZCOUNT k -inf +inf", ":120000~"),
+];
+
+/// Commands in turn on a set of so many times 500 members, with their replies.
+fn expect_of_members(
+    alloc: Global,
+    owner: &mut Owner,
+    times: u32,
+    talk: &[(&str, &str)],
+) -> Result<(), Fail>
+    requires { owner.old.next ≡ None }
+    ensures { owner.new.next ≡ None }
+{
+    fill(alloc, owner, times)?;
+    expect(alloc, owner, talk)
 }
 
 #[test]
 fn a_large_set_is_answered(rt: HostRuntime) -> Result<(), Fail> {
-    let alloc = rt.alloc();
-    let mut owner = OneOwner::new(alloc, RandomState::new(&rt)?);
-    fill(alloc, &mut owner, 240)?;
-    let talk = [
-        ("ZCARD k", ":120000~"),
-        ("ZCOUNT k 1000 (2000", ":1000~"),
-        ("ZADD k 1500 x", ":1~"),
-        ("ZREM k m1501", ":1~"),
-        ("ZADD k INCR 1 m99999", "$6~100000~"),
-        (
-            "ZRANGEBYSCORE k 1499 1502",
-            "*4~$5~m1499~$5~m1500~$1~x~$5~m1502~",
-        ),
-        ("ZRANGEBYSCORE k -inf +inf LIMIT 119999 5", "*1~$7~m119999~"),
-        ("ZSCORE k m119998", "$6~119998~"),
-        ("ZCOUNT k -inf +inf", ":120000~"),
-    ];
-    expect(alloc, &mut owner, &talk)
+    let mut owner = new_owner(&rt)?;
+    expect_of_members(rt.alloc(), &mut owner, 240, &OF_A_LARGE_SET)
 }
 
 /// How many rows stand between the pivots around a place.
@@ -146,33 +177,37 @@ fn rows_of_k(owner: &Owner, place: usize) -> usize {
 }
 
 // A window of a long set leaves short pieces, so that the next one reads few rows.
-#[test]
-fn a_window_leaves_short_pieces(rt: HostRuntime) -> Result<(), Fail> {
-    let alloc = rt.alloc();
-    let mut owner = OneOwner::new(alloc, RandomState::new(&rt)?);
-    fill(alloc, &mut owner, 9)?;
-    expect(alloc, &mut owner, &[("ZCOUNT k -inf +inf", ":4500~")])?;
-    assert_eq!(rt; rows_of_k(&owner, 2000), 4500);
+fn expect_short_pieces<R: Abort>(rt: &R, alloc: Global, owner: &mut Owner) -> Result<(), Fail>
+    requires { owner.old.next ≡ None }
+{
+    expect_of_members(alloc, owner, 9, &[("ZCOUNT k -inf +inf", ":4500~")])?;
+    assert_eq!(rt; rows_of_k(owner, 2000), 4500);
     let window = "ZRANGEBYSCORE k -inf +inf LIMIT 2000 2";
-    expect(alloc, &mut owner, &[(window, "*2~$5~m2000~$5~m2001~")])?;
-    assert!(rt; rows_of_k(&owner, 2000) <= 1024);
+    expect_one(alloc, owner, window, "*2~$5~m2000~$5~m2001~")?;
+    assert!(rt; rows_of_k(owner, 2000) <= 1024);
     Ok(())
 }
 
 #[test]
+fn a_window_leaves_short_pieces(rt: HostRuntime) -> Result<(), Fail> {
+    let mut owner = new_owner(&rt)?;
+    expect_short_pieces(&rt, rt.alloc(), &mut owner)
+}
+
+/// Commands on 120,000 members, with their replies.
+const GREAT_RANGES: [(&str, &str); 8] = [
+    ("ZREMRANGEBYSCORE k 1000 (101000", ":100000~"),
+    ("ZCARD k", ":20000~"),
+    ("ZSCORE k m1000", "$-1~"),
+    ("ZSCORE k m101000", "$6~101000~"),
+    ("ZRANGEBYSCORE k 999 101000", "*2~$4~m999~$7~m101000~"),
+    ("ZADD k 50000 x", ":1~"),
+    ("ZREMRANGEBYSCORE k -inf +inf", ":20001~"),
+    ("ZCOUNT k -inf +inf", ":0~"),
+];
+
+#[test]
 fn a_great_range_is_removed(rt: HostRuntime) -> Result<(), Fail> {
-    let alloc = rt.alloc();
-    let mut owner = OneOwner::new(alloc, RandomState::new(&rt)?);
-    fill(alloc, &mut owner, 240)?;
-    let talk = [
-        ("ZREMRANGEBYSCORE k 1000 (101000", ":100000~"),
-        ("ZCARD k", ":20000~"),
-        ("ZSCORE k m1000", "$-1~"),
-        ("ZSCORE k m101000", "$6~101000~"),
-        ("ZRANGEBYSCORE k 999 101000", "*2~$4~m999~$7~m101000~"),
-        ("ZADD k 50000 x", ":1~"),
-        ("ZREMRANGEBYSCORE k -inf +inf", ":20001~"),
-        ("ZCOUNT k -inf +inf", ":0~"),
-    ];
-    expect(alloc, &mut owner, &talk)
+    let mut owner = new_owner(&rt)?;
+    expect_of_members(rt.alloc(), &mut owner, 240, &GREAT_RANGES)
 }

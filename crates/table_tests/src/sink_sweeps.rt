@@ -230,7 +230,7 @@ fn failing_calls<R: Wait + AllocGlobal>(
 // The bytes of seven records, by one, three and seven at once, and seven syncs.
 #[test]
 fn each_failing_call_leaves_the_accepted_commands(rt: HostRuntime) -> Result<(), Fail> {
-    for (chunk, calls) in [(1usize, 296u64), (3, 106), (7, 51)] {
+    for (chunk, calls) in [(1usize, 270u64), (3, 97), (7, 47)] {
         assert_eq!(rt; failing_calls(&rt, &rt, chunk)?, calls);
     }
     Ok(())

@@ -1,6 +1,6 @@
 //! Commands over a log, and records.
 
-ghost use Rattle.std.specs.Prelude.{◌≡◌, IsTrue, IfOk};
+ghost use Rattle.std.specs.Prelude.{◌≡◌, ◌≢◌, IsTrue, IfOk, IfSome};
 ghost use Rattle.zset_core.specs.AbstractCommand.{is_writing};
 ghost use Rattle.zset_core.specs.SetAndOwnerViews.{IsPreparedFor};
 
@@ -132,19 +132,22 @@ fn a_log_may_keep_nothing(rt: HostRuntime) -> Result<(), Fail> {
     Ok(())
 }
 
-/// An empty set that has prepared a command.
+/// An empty set that has prepared a command that changes it.
 fn prepared(rt: &HostRuntime, command: &Command<Global>) -> Result<ZSet<RandomState, Global>, Fail>
     requires { IsTrue (is_writing command.now.meaning) }
-    ensures { IfOk result (λ set. IsPreparedFor set.members command.now.meaning set.next) }
+    ensures prepared { IfOk result (λ set. IsPreparedFor set.members command.now.meaning set.next) }
+    ensures changes { IfOk result
+        (λ set. IfSome set.next (λ next. next.members ≢ set.members)) }
 {
     let mut set = ZSet::with_hasher(rt.alloc(), RandomState::new(rt)?);
-    match set.prepare(command) {
-        Ok(_) => Ok(set),
-        Err(_) => Err(Fail::from("refused")),
+    let outline = set.prepare(command).map_err(|_| Fail::from("refused"))?;
+    if !outline.changed {
+        Err("no change")?;
     }
+    Ok(set)
 }
 
-/// The bytes of the record of a command that a set has prepared.
+/// The bytes of the record of a command that a set has prepared and that changes it.
 fn record_text(
     alloc: Global,
     command: &Command<Global>,
@@ -152,6 +155,7 @@ fn record_text(
 ) -> Result<Vec<u8>, Fail>
     requires writing { IsTrue (is_writing command.now.meaning) }
     requires prepared { IsPreparedFor set.now.members command.now.meaning set.now.next }
+    requires changes { IfSome set.now.next (λ next. next.members ≢ set.now.members) }
 {
     let record = Record::of(alloc, command, set)?;
     Ok(Vec::from_slice(alloc, record.text())?)

@@ -1,17 +1,12 @@
--- A session leaves a worker that ran requests.
-use Rattle.std.proofs.Common.{◌≡◌, ℕ, List, [], ◌∷◌, Option, Result, Ok, Err, inl, inr, ◌∙◌}
+-- Connections leave a worker that ran requests.
+use Rattle.std.proofs.Common.{◌≡◌, ℕ, List, [], ◌∷◌, Result, Ok, Err, inl, inr, ◌∙◌}
 use Rattle.resp_wire.specs.Response.{Response}
-use Rattle.resp_wire.specs.Stream.{requests, fault}
-use Rattle.resp_wire.specs.declared.fault.ProtocolFault.{ProtocolFault}
 use Rattle.zset_core.specs.AbstractCommand.{Meaning}
 use Rattle.zset_core.specs.CommandGrammar.{asked}
 use Rattle.zset_core.specs.declared.refusal.Refusal.{Refusal}
 use Rattle.session_core.specs.Exchange.{ExchangeOf, Exchanges}
-use Rattle.session_core.specs.SessionEnd.{Served, Ends}
+use Rattle.session_core.specs.Interleaved.{Moves}
 use Rattle.session_core.specs.WorkerAnswers.{WorkerView, WorkerAnswers}
-use Rattle.session_core.specs.declared.fault.Ended.{Ended}
-use Rattle.session_core.specs.declared.fault.SessionFault.{SessionFault}
-use Rattle.session_core.specs.declared.fault.SessionFault.TheVariants.{NoMemory, ReadFault, WriteFault, Wire, TooManyReads}
 use Rattle.zcrackd.specs.WorkerTurns.{Keeps}
 
 abbrev Stays : WorkerView → WorkerView → Type 0
@@ -40,15 +35,6 @@ ran old new requests replies exchanges =
     let stay = stays requests replies old new exchanges in
     record { table = stay.0; number = stay.1; ran = record { requests = requests; replies = replies; exchanges = exchanges } }
 
-ran_to_fault : (old new : WorkerView) (end : SessionFault) (came : List (List (List ℕ))) (behind : Option ProtocolFault) (before : ℕ) (written : List ℕ) → Ends WorkerAnswers old came behind before end written new → Keeps old new
-ran_to_fault old new NoMemory came behind before written e = ran old new e.run e.replies e.exchanges
-ran_to_fault old new ReadFault came behind before written e = ran old new came e.0.replies e.0.exchanges
-ran_to_fault old new (WriteFault out) came behind before written (out_is, inl broken) = ran old new broken.run broken.replies broken.exchanges
-ran_to_fault old new (WriteFault out) came behind before written (out_is, inr cut) = ran old new came cut.replies cut.exchanges
-ran_to_fault old new (Wire told) came behind before written e = ran old new came e.replies e.exchanges
-ran_to_fault old new TooManyReads came behind before written e = ran old new came e.0.replies e.0.exchanges
-
--- a session leaves a worker that ran requests
-pub keeps_by_session : (old new : WorkerView) (source₀ source₁ drain₀ drain₁ : Option (List ℕ)) (result : Result Ended SessionFault) → Served WorkerAnswers old source₀ source₁ drain₀ drain₁ result new → Keeps old new
-keeps_by_session old new source₀ source₁ drain₀ drain₁ (Ok ended) s = let r = s.line.replied in ran old new (requests s.read) r.replies r.exchanges
-keeps_by_session old new source₀ source₁ drain₀ drain₁ (Err end) s = ran_to_fault old new end (requests s.read) (fault s.read) 0 s.written s.line
+-- requests, whichever connection's, leave a worker that ran them
+pub keeps_by_moves : (old new : WorkerView) → Moves WorkerAnswers old new → Keeps old new
+keeps_by_moves old new moves = ran old new moves.requests moves.replies moves.exchanges

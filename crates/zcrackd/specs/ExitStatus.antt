@@ -9,6 +9,7 @@ use Rattle.resp_wire.specs.Response.{Response}
 use Rattle.session_core.specs.declared.fault.Ended.{Ended}
 use Rattle.session_core.specs.declared.fault.SessionFault.{SessionFault}
 use Rattle.session_core.specs.declared.fault.SessionFault.TheVariants as ends
+use Rattle.session_core.specs.Exchange.{Exchanges}
 use Rattle.session_core.specs.SessionEnd.{Served}
 use Rattle.session_core.specs.SendOutcome.{SourceFailed, DrainFailed, SentOn}
 use Rattle.zcrackd.specs.DeviceStates.{SourceState, DrainState}
@@ -23,6 +24,7 @@ status_of lines.BadCommandLine = 2
 status_of (lines.CannotUseFile cause) = 3
 status_of (lines.FileDamaged at) = 3
 status_of (lines.NoCommandInFile at) = 3
+status_of lines.UnknownVersion = 3
 status_of lines.FileReadFault = 3
 status_of lines.FileReadTooOften = 3
 status_of lines.MoreKeysThanPlaces = 3
@@ -77,7 +79,7 @@ most_reads = 2 ^ 40
 pub record Finishes {S : Type 0} (allows : S → Asked → Result Response Refusal → S → Type 0) (start : S)
     (source₀ source₁ : SourceState) (drain₀ drain₁ : DrainState) (finish : Finish) (here : S) : Type 0 where
   pub result : Result Ended SessionFault
-  pub served : Served allows start source₀.told source₁.told drain₀.told drain₁.told result here
+  pub served : Served (Exchanges allows) start source₀.told source₁.told drain₀.told drain₁.told result here
   pub source_failures : MatchResult result (λ ended. source₁.failures ≡ source₀.failures) (λ end. SourceFailed end source₀.failures source₁.failures)
   pub drain_failures : MatchResult result (λ ended. drain₁.failures ≡ drain₀.failures) (λ end. DrainFailed end drain₀.failures drain₁.failures)
   pub reads : source₁.calls ≤ source₀.calls + most_reads

@@ -11,7 +11,9 @@ AreSettings workers places connections =
 
 -- each number lies in its range
 abbrev pub IsInRange : ServeTask → Type 0
-IsInRange task = AreSettings task.workers task.places task.connections × ((1 ≤ task.max_records) × (task.max_records ≤ 2 ^ 40))
+IsInRange task =
+    AreSettings task.workers task.places task.connections × ((1 ≤ task.max_records) × (task.max_records ≤ 2 ^ 40))
+    × ((1 ≤ task.max_clients) × (task.max_clients ≤ 64000))
 
 -- a timeout of so many seconds; 0 is none
 abbrev pub IsTimeout : ℕ → Option Duration → Type 0

@@ -33,6 +33,25 @@ fn why_unusable(
     }
 }
 
+/// Why no file of version 2 took an old one's place: by the path of the new one, which stands beside
+/// the old one, where a link leads to that.
+fn why_not_renewed(files: &WatchedFiles<'_>, old: &str, fault: FileFault) -> Option<String> {
+    let alloc = files.alloc();
+    let renewed = match fs::symlink_metadata(files, old) {
+        Ok(found) if found.is_symlink() => {
+            let place = fs::canonicalize(files, old).ok()?;
+            format!(in alloc; "{}.new", place.as_str())
+        }
+        _ => format!(in alloc; "{old}.new"),
+    };
+    why_unusable(alloc, renewed.ok()?.as_str(), fault, files.refusal())
+}
+
+/// What to do with a file of an unknown version.
+fn what_is_unknown(alloc: Global, path: &str) -> Option<String> {
+    format!(in alloc; "{path}: a later zcrackd wrote it, which can read it\n").ok()
+}
+
 /// How much of a file stands from the byte on that is no record's, and how to do without it.
 fn what_is_damaged(files: &WatchedFiles<'_>, path: &str, at: u64) -> Option<String> {
     let size = fs::metadata(files, path).ok()?.len();
@@ -66,6 +85,12 @@ impl Ending {
                 }
                 Line::CannotUseFile(Unusable::New(fault)) => {
                     explanation = why_unusable(alloc, new, *fault, files.refusal());
+                }
+                Line::CannotUseFile(Unusable::Renewed(fault)) => {
+                    explanation = why_not_renewed(files, old, *fault);
+                }
+                Line::UnknownVersion => {
+                    explanation = what_is_unknown(alloc, old);
                 }
                 Line::FileDamaged(at) | Line::NoCommandInFile(at) => {
                     explanation = what_is_damaged(files, old, *at);

@@ -4,8 +4,9 @@
 use append_log::{FileFault, LockFile};
 use std::alloc::{Alloc, Allocator, Global};
 use std::cell::Cell;
-use std::fs::{File, Files, Metadata, OpenFile, OpenOptions};
+use std::fs::{File, Files, Metadata, OpenFile, OpenOptions, Permissions};
 use std::io::{self, ErrorKind, IsTerminal, Read, Seek, SeekFrom, Write};
+use std::path::PathBuf;
 use std::time::Instant;
 
 /// What standard error is told beside the lines that it always gets.
@@ -73,15 +74,18 @@ pub struct WatchedFile<'p> {
     file: File,
     /// Whether it is told that the file failed.
     tells_failure: bool,
-    written: bool,
+    /// Whether it was synced. The first sync is the last call of the opening on this file.
+    is_ready: Cell<bool>,
     progress: Option<Progress<'p>>,
 }
 
 impl<'p> WatchedFile<'p> {
     /// Tells why a call that keeps a change failed. The log makes no further call then, so that this
-    /// is told once. A call that a signal interrupted is made again.
+    /// is told once. A call that a signal interrupted is made again, and one of the opening that fails
+    /// ends the program.
     fn tell_failure(&self, cause: &io::Error) {
-        if self.tells_failure && cause.kind() != ErrorKind::Interrupted {
+        let is_told = self.tells_failure && self.is_ready.get();
+        if is_told && cause.kind() != ErrorKind::Interrupted {
             let _ = eprintln!(self.rt;
                 "zcrackd: append file failed: {cause}; changes are refused from now on. Make room, rewrite the file, and restart"
             );
@@ -101,7 +105,6 @@ impl<'p> Read for WatchedFile<'p> {
 
 impl<'p> Write for WatchedFile<'p> {
     fn write(&mut self, bytes: &[u8]) -> io::Result<usize> {
-        self.written = true;
         let answer = self.file.write(bytes);
         match &answer {
             Ok(0) if !bytes.is_empty() => self.tell_failure(&io::Error::from(ErrorKind::WriteZero)),
@@ -137,13 +140,15 @@ impl<'p> OpenFile for WatchedFile<'p> {
 
     fn sync_data(&self) -> io::Result<()> {
         let answer = self.file.sync_data();
-        // A sync before the first write is one of the opening, whose fault ends the program.
-        if let Err(cause) = &answer
-            && self.written
-        {
-            self.tell_failure(cause);
+        match &answer {
+            Ok(()) => self.is_ready.set(true),
+            Err(cause) => self.tell_failure(cause),
         }
         answer
+    }
+
+    fn set_permissions(&self, permissions: Permissions) -> io::Result<()> {
+        self.file.set_permissions(permissions)
     }
 }
 
@@ -193,6 +198,11 @@ impl<'p> WatchedFiles<'p> {
         }
     }
 
+    /// What standard error is told.
+    pub fn telling(&self) -> Telling {
+        self.telling
+    }
+
     /// Why the last file that was asked for was not opened.
     pub fn refusal(&self) -> Option<io::Error> {
         self.refusal.get().map(io::Error::from_raw_os_error)
@@ -234,7 +244,7 @@ impl<'p> Files for WatchedFiles<'p> {
                     rt: self.rt,
                     file,
                     tells_failure: self.telling.causes && self.keeps,
-                    written: false,
+                    is_ready: Cell::new(false),
                     progress,
                 })
             }
@@ -279,6 +289,10 @@ impl<'p> Files for WatchedFiles<'p> {
 
     fn remove_dir_all<B: Allocator>(&self, alloc: B, path: &str) -> io::Result<()> {
         self.rt.remove_dir_all(alloc, path)
+    }
+
+    fn canonicalize<B: Allocator>(&self, alloc: B, path: &str) -> io::Result<PathBuf<B>> {
+        self.rt.canonicalize(alloc, path)
     }
 
     fn hard_link(&self, original: &str, link: &str) -> io::Result<()> {

@@ -119,6 +119,10 @@ module _ {A : Type 0} where
   pub Notes-more : (most more : ℕ) (old new : Members) (e f : Edits A) → most ≤ more → Notes most old new e f → Notes more old new e f
   Notes-more most more old new e f up n = record { bags = n.bags; coming = omega (arith, n.coming); leaving = omega (arith, n.leaving) }
 
+  -- the same of equal edits
+  pub Notes-same : (most : ℕ) (old new : Members) (e f g : Edits A) → g ≡ f → Notes most old new e f → Notes most old new e g
+  Notes-same most old new e f g same n = subst (Notes most old new e) (sym same) n
+
   pub Notes-then : (a b : ℕ) (l m n : Members) (e f g : Edits A) → Notes a l m e f → Notes b m n f g → Notes (a + b) l n e g
   Notes-then a b l m n e f g x y = record { bags = λ p. omega (arith, x.bags p, y.bags p); coming = omega (arith, x.coming, y.coming); leaving = omega (arith, x.leaving, y.leaving) }
 

@@ -150,11 +150,11 @@ some_is : {X : Type 0} (a b : X) → Some a ≡ Some b → a ≡ b
 some_is a b e = cc
 
 -- ---- what a request is read as
-each_by_recursion : (ws : List (List ℕ)) → All IsArgument ws → AllByRecursion IsArgument ws
+pub each_by_recursion : (ws : List (List ℕ)) → All IsArgument ws → AllByRecursion IsArgument ws
 each_by_recursion [] h = tt
 each_by_recursion (w ∷ ws) h = (h 0 w (omega arith), each_by_recursion ws (λ k d lt. h (suc k) d (omega arith)))
 
-each_drop : (n : ℕ) (ws : List (List ℕ)) → AllByRecursion IsArgument ws → AllByRecursion IsArgument (drop n ws)
+pub each_drop : (n : ℕ) (ws : List (List ℕ)) → AllByRecursion IsArgument ws → AllByRecursion IsArgument (drop n ws)
 each_drop zero ws h = h
 each_drop (suc n) [] h = tt
 each_drop (suc n) (w ∷ ws) h = each_drop n ws h.1

@@ -106,12 +106,12 @@ abbrev pub slot_of : Entry → List ℕ × ScoreSlot
 slot_of e = (e.0, e.1)
 
 -- entries at two places have different members
-none_there : (x : List ℕ) (es : List Entry) (j : ℕ) (q : List ℕ) (t : ScoreSlot) → AllByRecursion (λ y. same_bytes x y ≡ false) (keys_of es) → slice_get (slots es) j ≡ Some (q, t) → bytes_eq x q ≡ false
+pub none_there : (x : List ℕ) (es : List Entry) (j : ℕ) (q : List ℕ) (t : ScoreSlot) → AllByRecursion (λ y. same_bytes x y ≡ false) (keys_of es) → slice_get (slots es) j ≡ Some (q, t) → bytes_eq x q ≡ false
 none_there x [] j q t h at = cc
 none_there x (e ∷ es) zero q t h at = let is : slot_of e ≡ (q, t) = cc in ap (bytes_eq x) (sym (ap (λ (p : List ℕ × ScoreSlot). p.0) is)) ∙ h.0
 none_there x (e ∷ es) (suc j) q t h at = none_there x es j q t h.1 at
 
-one_place : (es : List Entry) (i j : ℕ) (q : List ℕ) (s t : ScoreSlot) → IsDistinct same_bytes (keys_of es) → slice_get (slots es) i ≡ Some (q, s) → slice_get (slots es) j ≡ Some (q, t) → i ≡ j
+pub one_place : (es : List Entry) (i j : ℕ) (q : List ℕ) (s t : ScoreSlot) → IsDistinct same_bytes (keys_of es) → slice_get (slots es) i ≡ Some (q, s) → slice_get (slots es) j ≡ Some (q, t) → i ≡ j
 unfolding IsDistinct
 one_place [] i j q s t d a b = cc
 one_place (e ∷ es) zero zero q s t d a b = refl
@@ -123,7 +123,7 @@ one_place (e ∷ es) (suc i) zero q s t d a b =
     absurd (true≢false (sym (nat_list_eq_equiv.refl q) ∙ ap (λ k. bytes_eq k q) (sym (ap (λ (p : List ℕ × ScoreSlot). p.0) is)) ∙ none_there e.0 es i q s d.0 a))
 one_place (e ∷ es) (suc i) (suc j) q s t d a b = ap suc (one_place es i j q s t d.1 a b)
 
-slot_here : (es : List Entry) (p : ℕ) (q : List ℕ) (s : ScoreSlot) → IsDistinct same_bytes (keys_of es) → slice_get (slots es) p ≡ Some (q, s) → slot_at es q ≡ Some s
+pub slot_here : (es : List Entry) (p : ℕ) (q : List ℕ) (s : ScoreSlot) → IsDistinct same_bytes (keys_of es) → slice_get (slots es) p ≡ Some (q, s) → slot_at es q ≡ Some s
 slot_here es p q s apart at = by (slice_get es p) refl (sym (slice_get-map slot_of es p) ∙ at)
   where
     by : (o : Option Entry) → slice_get es p ≡ o → option_map slot_of o ≡ Some (q, s) → slot_at es q ≡ Some s
@@ -141,7 +141,7 @@ name_here es p q s at = by (slice_get es p) (sym (slice_get-map slot_of es p) �
     by (Some e) h = let is : slot_of e ≡ (q, s) = cc in ap (λ (x : List ℕ × ScoreSlot). x.0) is
 
 -- a place more among those found is a name more
-any_put : (es : List Entry) (t : List ℕ → Bool) (ks : List ℕ) (p : ℕ) → list_any t (names_at es (insert_key nat_cmp ks p)) ≡ (list_any t (names_at es ks) || t (name_at es p))
+pub any_put : (es : List Entry) (t : List ℕ → Bool) (ks : List ℕ) (p : ℕ) → list_any t (names_at es (insert_key nat_cmp ks p)) ≡ (list_any t (names_at es ks) || t (name_at es p))
 any_put es t [] p = by (t (name_at es p))
   where
     by : (b : Bool) → (b || false) ≡ b

@@ -16,6 +16,11 @@ pub mod PieceEnds
 pub mod Windows
 pub mod Worlds
 pub mod Outlines
+pub mod Effects
+pub mod Naming
+pub mod Gathered
+pub mod PlaceMarks
+pub mod EffectShown
 mod Options
 mod Pairs
 mod Adding
@@ -25,6 +30,7 @@ mod ListingLaws
 pub mod RangeRemoval
 pub mod OwnerViews
 pub mod Bounds
+pub mod NamedArguments
 pub mod OwnerBounds
 pub mod FirstSets
 pub mod CallerLemmas

@@ -6,7 +6,8 @@ use Rattle.ripple_column.specs.Content.{ColumnState, Holds, SameContent, IsUncha
 use Rattle.zset_core.specs.SortedSet.{Members, pairs}
 use Rattle.zset_core.specs.MembersWithStagedScores.{Entry, current_score, staged_score, rows_by, members_by, names_at, IsSettled}
 use Rattle.zset_core.specs.RowEdits.{most_edits}
-use Rattle.zset_core.specs.Plan.{NeedsAtMost, Plans, Prepares, edited_by, left_by, rows_coming, rows_leaving}
+use Rattle.zset_core.specs.ChangeEffect.{moved_names, names_in}
+use Rattle.zset_core.specs.Plan.{Moves, MovesTo, NeedsAtMost, Plans, Prepares, edited_by, left_by, rows_coming, rows_leaving}
 use Rattle.zset_core.specs.ChangeOutline.{IsOutline}
 use Rattle.zset_core.specs.CommandEffectsOnColumn.{edit_count}
 use Rattle.zset_core.specs.AbstractCommand.{Meaning, range_to_remove}
@@ -78,12 +79,18 @@ module _ {A : Type 0} where
   pub IsSound-none : (es : List Entry) (c : ColumnState) (p : Option (Prepared A)) → p ≡ None → IsIdle es c → IsSound es c p
   IsSound-none es c p is s = subst (IsSound es c) (sym is) s
 
+  -- the members that a plan moves, by the set that its commit leaves
+  MovesTo-left : (old new : List Entry) (plan : Plan A) (names : List (List ℕ)) (o : Option (Members × Response)) → Plans old new plan o → Moves old new plan names o → MovesTo old new plan.draft names (left_by new plan)
+  MovesTo-left old new plan names None h m = absurd h
+  MovesTo-left old new plan names (Some done) h m = subst (MovesTo old new plan.draft names) (sym h.members_are) m
+
   pub IsPlanned-made : (old new : List Entry) (c c' : ColumnState) (meaning : Meaning) (plan : Plan A) (o : Option (Members × Response)) → IsIdle old c → Plans old new plan o → SameContent c c'
-      → IsReadyForPlan c' plan → plan.range ≡ range_to_remove meaning → IsPlanned new c' meaning plan
-  IsPlanned-made old new c c' meaning plan o idle h content ready range =
+      → IsReadyForPlan c' plan → plan.range ≡ range_to_remove meaning → Moves old new plan (names_in meaning) o → IsPlanned new c' meaning plan
+  IsPlanned-made old new c c' meaning plan o idle h content ready range moves =
       let done = (Prepares-some old new plan o h).0 in
       let p = (Prepares-some old new plan o h).1 in
       let front : take plan.draft.kept (rows_by current_score new) ≡ rows_by current_score old = ap (λ (n : ℕ). take n (rows_by current_score new)) p.kept ∙ p.grows.front in
+      let to = MovesTo-left old new plan (names_in meaning) o h moves in
       record {
         kept = omega (arith, p.kept, p.grows.longer);
         waiting = p.waiting;
@@ -92,6 +99,8 @@ module _ {A : Type 0} where
         removed = p.removed_are;
         ready = ready;
         range = range;
+        counted = to.counted;
+        moved = to.names_are ∙ ap (λ (rows : List (List ℕ × ℤ)). moved_names (fin.from_entries rows) (left_by new plan) (names_in meaning)) (sym front);
       }
 
   -- once the plan is let go
@@ -107,7 +116,7 @@ still_shown a b new m n meaning room columns sets still =
     subst (λ (c : ColumnState). most_pending c + edit_count n meaning ≤ room → IsUnchanged c new) columns
     (subst (λ (k : Members). most_pending a + edit_count k meaning ≤ room → IsUnchanged a new) sets still)
 
-empty_list : {X : Type 0} (xs : List X) → length xs ≡ 0 → xs ≡ []
+pub empty_list : {X : Type 0} (xs : List X) → length xs ≡ 0 → xs ≡ []
 empty_list [] h = refl
 empty_list (x ∷ xs) h = absurd (omega arith)
 

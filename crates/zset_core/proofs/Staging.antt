@@ -88,7 +88,7 @@ rows_written f [] i w h = refl
 rows_written f (e ∷ es) zero w h = ap (λ s. (e.0, s) ∷ rows_by f es) h
 rows_written f (e ∷ es) (suc i) w h = ap (λ l. (e.0, f e.1) ∷ l) (rows_written f es i w h)
 
-length_written : (es : List Entry) (i : ℕ) (w : ScoreSlot) → length (set_value_at es i w) ≡ length es
+pub length_written : (es : List Entry) (i : ℕ) (w : ScoreSlot) → length (set_value_at es i w) ≡ length es
 length_written [] i w = refl
 length_written (e ∷ es) zero w = refl
 length_written (e ∷ es) (suc i) w = ap suc (length_written es i w)
@@ -119,6 +119,13 @@ pub IsWaiting-written : (ps : List ℕ) (es : List Entry) (i : ℕ) (w : ScoreSl
 IsWaiting-written ps es i w lt old = record {
   within = subst (λ n. IsWithin n (ps ++ i ∷ [])) (sym (length_written es i w)) (IsWithin-push (length es) i ps lt old.within);
   settled = λ j h. subst (λ o. IfSome o Stays) (sym (elsewhere es i j w (not_last (λ p. nat_eq p j) ps i h))) (old.settled j (not_front (λ p. nat_eq p j) ps i h));
+}
+
+-- one place more, whose score need not wait
+pub IsWaiting-more : (ps : List ℕ) (es : List Entry) (i : ℕ) → i < length es → IsWaiting ps es → IsWaiting (ps ++ i ∷ []) es
+IsWaiting-more ps es i lt old = record {
+  within = IsWithin-push (length es) i ps lt old.within;
+  settled = λ j h. old.settled j (not_front (λ p. nat_eq p j) ps i h);
 }
 
 -- and one place fewer, where the score that waited is settled
@@ -225,3 +232,7 @@ members_gone f bs m n h = one_gone f m.entries n.entries bs (updates_bytes bs m 
 
 pub IsWaiting-none : (es : List Entry) → IsSettled es → IsWaiting [] es
 IsWaiting-none es h = record { within = tt; settled = λ i none. h i }
+
+-- none of these places waits where no entry does
+pub IsWaiting-any : (ps : List ℕ) (es : List Entry) → IsSettled es → IsWithin (length es) ps → IsWaiting ps es
+IsWaiting-any ps es h within = record { within = within; settled = λ i none. h i }

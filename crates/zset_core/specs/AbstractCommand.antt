@@ -1,6 +1,6 @@
 -- What a command asks for, whatever words it came in (Redis command pages of PING, ZADD, ZREM, ZREMRANGEBYSCORE, ZSCORE, ZCARD, ZCOUNT,
 -- ZRANGEBYSCORE).
-use Rattle.std.specs.Prelude.{ℕ, Bool, true, false, not, ℤ, List, Option, None, Some}
+use Rattle.std.specs.Prelude.{ℕ, Bool, true, false, not, ◌||◌, ℤ, List, Option, None, Some}
 use Rattle.score_bounds.specs.declared.bounds.Range.{Range}
 use Rattle.zset_core.specs.declared.set.pair_outcome.Flags.{Flags}
 use Rattle.zset_core.specs.declared.command.limit.Limit.{Limit}
@@ -50,6 +50,12 @@ abbrev pub is_creating : Meaning → Bool
 is_creating (Add key flags changed pairs) = not flags.xx
 is_creating (Increase key flags given member) = not flags.xx
 is_creating _ = false
+
+-- whether a command is a ZADD with options, CH and INCR among them
+abbrev pub has_options : Meaning → Bool
+has_options (Add key flags changed pairs) = flags.nx || flags.xx || flags.gt || flags.lt || changed
+has_options (Increase key flags given member) = true
+has_options _ = false
 
 -- whether a command takes members out and adds none: ZREM and ZREMRANGEBYSCORE
 abbrev pub is_removing : Meaning → Bool

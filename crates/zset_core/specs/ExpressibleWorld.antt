@@ -1,13 +1,14 @@
 -- What requests can carry: keys and members of at most 65,536 bytes, and scores of 64 bits. No owner has other sets, so that
 -- requests can be replayed to each of its worlds.
-use Rattle.std.specs.Prelude.{◌≡◌, ℕ, false, List, IfSome}
+use Rattle.std.specs.Prelude.{◌≡◌, ◌≤◌, ◌+◌, ◌*◌, ℕ, false, List, length, IfSome}
 use Rattle.std.specs.List.{AllByRecursion}
 use Rattle.std.specs.FinMap as fin
-use Rattle.resp_wire.specs.RequestEncoding.{IsArgument}
+use Rattle.resp_wire.specs.RequestEncoding.{IsArgument, most_arguments}
 use Rattle.score_bounds.specs.Scores.{IsScore}
 use Rattle.zset_core.specs.SortedSet.{Members, Pair}
 use Rattle.zset_core.specs.AbstractCommand.{Meaning, key_of}
 use Rattle.zset_core.specs.AbstractCommand as meanings
+use Rattle.zset_core.specs.ChangeEffect.{names_in}
 use Rattle.zset_core.specs.SetAndOwnerViews.{OwnerView}
 use Rattle.zset_core.specs.World.{World, is_empty}
 
@@ -44,6 +45,23 @@ PutsSpelled (meanings.ListRange key range with_scores limit) = Unit {0}
 pub record IsBoundedMeaning (meaning : Meaning) : Type 0 where
   pub key : IfSome (key_of meaning) IsArgument
   pub puts : PutsSpelled meaning
+
+-- how many arguments a request needs to change the members that a command names: of ZADD also a score for each
+abbrev pub naming_arguments : Meaning → ℕ
+naming_arguments (meanings.Ping text) = 0
+naming_arguments (meanings.Add key flags changed pairs) = 2 * length pairs
+naming_arguments (meanings.Increase key flags given member) = 2
+naming_arguments (meanings.Remove key members) = length members
+naming_arguments (meanings.RemoveRange key range) = 0
+naming_arguments (meanings.Score key member) = 0
+naming_arguments (meanings.Card key) = 0
+naming_arguments (meanings.Count key range) = 0
+naming_arguments (meanings.ListRange key range with_scores limit) = 0
+
+-- a request of the same name and key, without options, can change the members that a command names
+pub record FitsRequest (meaning : Meaning) : Type 0 where
+  pub each : AllByRecursion IsArgument (names_in meaning)
+  pub few : 2 + naming_arguments meaning ≤ most_arguments
 
 -- an owner of such sets, and one of them is prepared at most
 pub record IsBoundedOwner (owner : OwnerView) : Type 0 where

@@ -15,6 +15,9 @@ pub mod RowEdits
 pub mod AnswerableAsItStands
 pub mod CommandEffectsOnColumn
 pub mod ChangeOutline
+pub mod ChangeEffect
+pub mod NotedNames
+pub mod PlaceMarks
 pub mod CommandGrammar
 pub mod ReadingMatchesGrammar
 pub mod Refusal

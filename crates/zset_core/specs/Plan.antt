@@ -1,12 +1,15 @@
 -- What a set has prepared, and what callers see of it.
-use Rattle.std.specs.Prelude.{◌≡◌, ◌≤◌, ◌+◌, ℕ, List, length, Option, None, Some}
+use Rattle.std.specs.Prelude.{◌≡◌, ◌≤◌, ◌+◌, ◌++◌, ℕ, List, length, take, Option, None, Some}
+use Rattle.std.specs.List.{range_with_len}
 use Rattle.resp_wire.specs.Response.{Response, response_of}
+use Rattle.zset_core.specs.ChangeEffect.{moved_names}
 use Rattle.zset_core.specs.SortedSet.{Members}
 use Rattle.score_bounds.specs.declared.bounds.Range.{Range}
 use Rattle.zset_core.specs.Semantics.{remove_all, without_range}
 use Rattle.zset_core.specs.MembersWithStagedScores.{Entry, current_score, staged_score, members_by, names_at, IsWaiting, IsWithin, Grows}
 use Rattle.zset_core.specs.ChangeOutline.{IsOutline}
 use Rattle.zset_core.specs.RowEdits.{Turns, most_edits}
+use Rattle.zset_core.specs.declared.set.draft.Draft.{Draft}
 use Rattle.zset_core.specs.declared.set.plan.Plan.{Plan}
 
 -- the set without the members of a range, if one is given
@@ -50,3 +53,22 @@ pub record Prepares {A : Type 0} (old new : List Entry) (plan : Plan A) (members
 abbrev pub Plans : {A : Type 0} → List Entry → List Entry → Plan A → Option (Members × Response) → Type 0
 Plans old new plan None = ⊥
 Plans old new plan (Some done) = Prepares old new plan done.0 done.1
+
+-- the places of the members that a draft moves, in order: those of the leading new members, and the first of those that it noted
+abbrev pub moved_places : {A : Type 0} → Draft A → List ℕ
+moved_places draft = range_with_len draft.kept draft.leading ++ take draft.moved draft.touched.items
+
+-- of those places, the ones that are counted and those that are noted are there
+pub record IsCounted {A : Type 0} (draft : Draft A) (entries : List Entry) : Type 0 where
+  pub leading : draft.kept + draft.leading ≤ length entries
+  pub moved : draft.moved ≤ length draft.touched.items
+
+-- a draft's members that move are those of some names that differ in a set from what they were among the old entries
+pub record MovesTo {A : Type 0} (old new : List Entry) (draft : Draft A) (names : List (List ℕ)) (members : Members) : Type 0 where
+  pub counted : IsCounted draft new
+  pub names_are : names_at new (moved_places draft) ≡ moved_names (members_by current_score old) members names
+
+-- the same of what a command makes of a set
+abbrev pub Moves : {A : Type 0} → List Entry → List Entry → Plan A → List (List ℕ) → Option (Members × Response) → Type 0
+Moves old new plan names None = ⊥
+Moves old new plan names (Some done) = MovesTo old new plan.draft names done.0

@@ -2,12 +2,13 @@
 use Rattle.std.specs.Prelude.{◌≡◌, ℕ, ◌≤◌, List, length, take, Option, None, Some, IfSome, OnSome}
 use Rattle.std.specs.FinMap as fin
 use Rattle.resp_wire.specs.Response.{response_of}
-use Rattle.zset_core.specs.MembersWithStagedScores.{Entry, current_score, rows_by, staged_score, members_by, IsSettled, IsWaiting, IsWithin}
+use Rattle.zset_core.specs.MembersWithStagedScores.{Entry, current_score, names_at, rows_by, staged_score, members_by, IsSettled, IsWaiting, IsWithin}
 use Rattle.ripple_column.specs.Content.{ColumnState, Holds}
 use Rattle.ripple_column.specs.RangeAnswer.{HasAnswer}
 use Rattle.zset_core.specs.AbstractCommand.{Meaning, range_to_remove}
 use Rattle.zset_core.specs.RowEdits.{TurnsInto}
-use Rattle.zset_core.specs.Plan.{NeedsAtMost, left_by, rows_coming, rows_leaving}
+use Rattle.zset_core.specs.ChangeEffect.{moved_names, names_in}
+use Rattle.zset_core.specs.Plan.{IsCounted, NeedsAtMost, left_by, moved_places, rows_coming, rows_leaving}
 use Rattle.zset_core.specs.SortedSet.{pairs}
 use Rattle.zset_core.specs.declared.set.plan.Plan.{Plan}
 use Rattle.zset_core.specs.SetAndOwnerViews.{SetView, Next}
@@ -37,7 +38,8 @@ pub record IsReadyForPlan {A : Type 0} (column : ColumnState) (plan : Plan A) : 
   pub alone : OnSome plan.range (NeedsAtMost 0 plan)
 
 -- a set with a plan for a command: the content is the bag of the pairs from before, and the edits turn it into the bag of those
--- with the staged scores; the members that leave are taken out of these
+-- with the staged scores; the members that leave are taken out of these. The members at the places that move are those that the
+-- command names and moves
 pub record IsPlanned {A : Type 0} (entries : List Entry) (column : ColumnState) (meaning : Meaning) (plan : Plan A) : Type 0 where
   pub kept : plan.draft.kept ≤ length entries
   pub waiting : IsWaiting plan.draft.touched.items entries
@@ -46,6 +48,9 @@ pub record IsPlanned {A : Type 0} (entries : List Entry) (column : ColumnState) 
   pub removed : IsWithin (length entries) plan.removed.keys
   pub ready : IsReadyForPlan column plan
   pub range : plan.range ≡ range_to_remove meaning
+  pub counted : IsCounted plan.draft entries
+  pub moved : names_at entries (moved_places plan.draft)
+      ≡ moved_names (fin.from_entries (take plan.draft.kept (rows_by current_score entries))) (left_by entries plan) (names_in meaning)
 
 -- what holds of every set
 abbrev pub IsSound : {A : Type 0} → List Entry → ColumnState → Option (Prepared A) → Type 0

@@ -3,9 +3,9 @@
 ghost use Rattle.std.specs.Prelude.{◌≡◌, ◌≢◌, IfOk, IfErr, Ok, Err};
 ghost use Rattle.std.specs.Option.{option_copied};
 ghost use Rattle.zset_core.specs.CommandGrammar.{asked};
-ghost use Rattle.zset_core.specs.ExpressibleWorld.{IsBoundedMeaning};
+ghost use Rattle.zset_core.specs.ExpressibleWorld.{FitsRequest, IsBoundedMeaning};
 ghost use Rattle.zset_core.specs.ParsedArguments.{meaning_of, IsWhole};
-ghost use Rattle.zset_core.specs.AbstractCommand.{key_of, is_writing, is_creating, is_removing};
+ghost use Rattle.zset_core.specs.AbstractCommand.{key_of, has_options, is_writing, is_creating, is_removing};
 ghost use Rattle.zset_core.specs.declared.refusal.Refusal.TheVariants as refusals;
 
 pub mod add;
@@ -84,6 +84,7 @@ impl<A: Allocator> Command<A> {
     pub fn key(&self) -> Option<&[u8]>
         ensures key { option_copied result ≡ key_of self.now.meaning }
         ensures bounded { IsBoundedMeaning self.now.meaning }
+        ensures fits { FitsRequest self.now.meaning }
     {
         let words = self.request.words();
         match &self.form {
@@ -109,6 +110,19 @@ impl<A: Allocator> Command<A> {
         ensures { result ≡ is_removing self.now.meaning }
     {
         matches!(self.form, Form::Remove | Form::RemoveRange { .. })
+    }
+
+    /// Whether the command is a ZADD with options, CH and INCR among them.
+    pub fn has_options(&self) -> bool
+        ensures { result ≡ has_options self.now.meaning }
+    {
+        match &self.form {
+            Form::Add { flags, changed, .. } => {
+                flags.nx || flags.xx || flags.gt || flags.lt || *changed
+            }
+            Form::Increase { .. } => true,
+            _ => false,
+        }
     }
 
     /// Whether the command makes a set where its key has none: ZADD without XX.

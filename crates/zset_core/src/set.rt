@@ -1,10 +1,11 @@
 //! One sorted set.
-ghost use Rattle.std.specs.Prelude.{◌≡◌, ◌+◌, ◌<◌, ◌≤◌, ◌^◌, ◌⊎◌, ◌↔◌, length, true, false, Some, None, IsSome, IfSome, IfOk, IfErr, OnOk, OnErr, IsTrue, take, option_map};
+ghost use Rattle.std.specs.Prelude.{◌≡◌, ◌+◌, ◌<◌, ◌≤◌, ◌^◌, ◌⊎◌, ◌↔◌, length, slice_get, true, false, Some, None, IsSome, IfSome, IfOk, IfErr, OnOk, OnErr, IsTrue, take, option_map};
 ghost use Rattle.std.specs.FinMap as map;
 ghost use Rattle.indexmap.specs.IndexMap.{IsUnique};
 ghost use Rattle.zset_core.specs.MembersWithStagedScores.{current_score, slot_at, same_bytes};
 ghost use Rattle.zset_core.specs.SetViewAndInvariant.{kept_of};
 ghost use Rattle.zset_core.specs.AbstractCommand.{is_writing, key_of, range_to_remove};
+ghost use Rattle.zset_core.specs.ChangeEffect.{prepared_effect};
 ghost use Rattle.zset_core.specs.ChangeOutline.{IsOutline};
 ghost use Rattle.zset_core.specs.Refusal.{IsRefused};
 ghost use Rattle.ripple_column.specs.Content.{Holds, IsUnchanged, most_pending};
@@ -17,12 +18,14 @@ ghost use Rattle.zset_core.specs.Semantics.{step};
 ghost use Rattle.zset_core.specs.SetAndOwnerViews.{IsPreparedFor};
 ghost use Rattle.resp_wire.specs.Response.{response_of};
 
+pub mod change_effect;
 pub mod change_outline;
 pub mod commit;
 pub mod draft;
 pub mod member_removal;
 pub mod members_with_staged_scores;
 pub mod pair_outcome;
+pub mod place_marks;
 pub mod plan;
 pub mod range_removal;
 pub mod row_edits;
@@ -31,6 +34,7 @@ use crate::command::Command;
 use crate::query::answer::{answer_from, is_wide_for, narrow_for, ready_from};
 use crate::query::listing::all_rows;
 use crate::refusal::Refusal;
+use crate::set::change_effect::effect_entry;
 use crate::set::change_outline::Outline;
 use crate::set::commit::{apply_plan, discard};
 use crate::set::members_with_staged_scores::MemberMap;
@@ -235,6 +239,30 @@ impl<H: BuildHasher, A: Allocator + Copy> ZSet<H, A> {
         let asked = Snapshot::of(command);
         self.prepared = Some(Prepared { asked, plan });
         Ok(outline)
+    }
+
+    /// How many members the prepared command moves: those that it names and that get another score,
+    /// come in or leave. ZREMRANGEBYSCORE names none, and 0 is told too where nothing is prepared. It
+    /// takes no memory.
+    pub fn effect_len(&self) -> usize
+        ensures { result ≡ length (prepared_effect self.now) }
+    {
+        match &self.prepared {
+            None => 0,
+            Some(prepared) => prepared.plan.draft.moved_len(&self.members),
+        }
+    }
+
+    /// One of the members that the prepared command moves, in the order in which it first names them: its
+    /// name, and the score that it will have, None where it will be gone. It takes no memory.
+    pub fn effect_at(&self, index: usize) -> (&[u8], Option<i64>)
+        requires { index < length (prepared_effect self.now) }
+        ensures { slice_get (prepared_effect self.now) index ≡ Some (result.0.now, result.1) }
+    {
+        match &self.prepared {
+            None => unreachable!(),
+            Some(prepared) => effect_entry(&self.members, &prepared.plan, index),
+        }
     }
 
     /// Makes the prepared change, and gives its reply. It takes no memory.

@@ -11,12 +11,13 @@ use std::alloc::Allocator;
 use std::hash::BuildHasher;
 use std::sync::ledger::Ledger;
 
-/// A cell's numbers: its members now and at opening, what all passes were answered, and the records
-/// that were appended for it.
+/// A cell's numbers: its members now and at opening, the runs that it may answer, what all passes were
+/// answered, and the records that were appended for it.
 #[derive(Clone, Copy)]
 pub(crate) struct CellNumbers {
     pub(crate) members: u64,
     pub(crate) opened: u64,
+    pub(crate) max_runs: u64,
     pub(crate) total: Tally,
     pub(crate) records: u64,
 }
@@ -27,6 +28,7 @@ impl<H: BuildHasher, L: Ledger, A: Allocator + Copy> Cell<H, L, A> {
         ensures numbers { result ≡ record {
           members = map.len self.now.sorted_set.members;
           opened = self.now.opened;
+          max_runs = self.now.max_runs;
           total = total_of self.now.tallies;
           records = self.now.appended;
         } }
@@ -35,6 +37,7 @@ impl<H: BuildHasher, L: Ledger, A: Allocator + Copy> Cell<H, L, A> {
         CellNumbers {
             members: self.sorted_set.card() as u64,
             opened: self.opened,
+            max_runs: self.max_runs,
             total: self.total,
             records: self.share.count(),
         }

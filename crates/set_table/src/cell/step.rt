@@ -1,6 +1,6 @@
 //! One command on a cell's set, its record appended before the set becomes another.
 
-ghost use Rattle.std.specs.Prelude.{◌≡◌, None, false, IfOk, IfErr, OnOk, OnErr, IsSome, IsTrue};
+ghost use Rattle.std.specs.Prelude.{◌≡◌, ◌≢◌, None, false, IfSome, IfOk, IfErr, OnOk, OnErr, IsSome, IsTrue};
 ghost use Rattle.resp_wire.specs.Response.{response_of};
 ghost use Rattle.zset_core.specs.AbstractCommand.{key_of, is_writing};
 ghost use Rattle.zset_core.specs.SetAndOwnerViews.{IsPreparedFor};
@@ -78,7 +78,7 @@ fn change<R: Wait, H: BuildHasher, S: LogSink, L: Ledger, A: Allocator + Copy>(
     ))
 }
 
-/// Appends the record of the command that a set has prepared, under the log's lock.
+/// Appends the record of the change that a set has prepared, under the log's lock.
 fn append<R: Wait, H: BuildHasher, S: LogSink, L: Ledger, A: Allocator + Copy>(
     rt: &R,
     alloc: A,
@@ -89,6 +89,7 @@ fn append<R: Wait, H: BuildHasher, S: LogSink, L: Ledger, A: Allocator + Copy>(
 ) -> Result<(), Refusal>
     requires writing { IsTrue (is_writing command.now.meaning) }
     requires prepared { IsPreparedFor set.now.members command.now.meaning set.now.next }
+    requires changes { IfSome set.now.next (λ next. next.members ≢ set.now.members) }
     ensures share { share.new ≡ share_after share.old result }
     ensures err { IfErr result IsAppendRefusal }
 {

@@ -46,8 +46,8 @@ impl<H: BuildHasher + Drop, S: LogSink + Drop, L: Ledger, A: Allocator + Copy> T
     ///
     /// Table and passes are dropped. [`CloseFault::MissingPass`] exactly where the numbers of the
     /// passes are not 0 to the last, each once; [`CloseFault::OutOfStep`] where a cell and a pass
-    /// are not in step, or the cells' records are not those that the log took since the table was
-    /// opened. With the table's own passes that would be a fault of this crate. No contract sees what
+    /// are not in step, a cell may answer another number of runs than the table says, or the cells'
+    /// records are not those that the log took since the table was opened. With the table's own passes that would be a fault of this crate. No contract sees what
     /// stands behind the locks, so the numbers are compared here, and that they agree is not proved:
     /// promised is that there is such a cell, or log, where that is answered.
     pub fn close(self, passes: Vec<Pass<A>, A>) -> Result<(Totals, Log<S, L>), CloseFault>
@@ -55,7 +55,7 @@ impl<H: BuildHasher + Drop, S: LogSink + Drop, L: Ledger, A: Allocator + Copy> T
         ensures totals { IfOk result (λ closed. AddsUp passes.items self.opened closed.0) }
         ensures records { IfOk result
             (λ closed. closed.0.records + self.records_before ≡ closed.1.appended) }
-        ensures cells { IfOk result (λ closed. AreOfCells passes.items (length self.opened)
+        ensures cells { IfOk result (λ closed. AreOfCells passes.items self.max_runs (length self.opened)
             closed.0.members closed.0.records) }
         ensures agree { OnOk result ((place : ℕ) → place < length self.names
             → AgreeAt passes.items place) }
@@ -64,7 +64,7 @@ impl<H: BuildHasher + Drop, S: LogSink + Drop, L: Ledger, A: Allocator + Copy> T
         ensures missing { IfErr result (λ fault. (fault ≡ CloseFault.MissingPass)
             ↔ (AreNumbered passes.items self.passes → ⊥)) }
         ensures out_of_step { IfErr result (λ fault. fault ≡ CloseFault.OutOfStep
-            → IsOutOfStep passes.items self.opened self.records_before) }
+            → IsOutOfStep passes.items self.max_runs self.opened self.records_before) }
     {
         let mut passes = passes;
         compare_names(&self.names, &mut passes);
@@ -84,10 +84,10 @@ impl<H: BuildHasher + Drop, S: LogSink + Drop, L: Ledger, A: Allocator + Copy> T
         ensures totals { IfSome result (λ closed. AddsUp passes.now.items self.opened closed.0) }
         ensures records { IfSome result
             (λ closed. closed.0.records + self.records_before ≡ closed.1.appended) }
-        ensures cells { IfSome result (λ closed. AreOfCells passes.now.items (length self.opened)
+        ensures cells { IfSome result (λ closed. AreOfCells passes.now.items self.max_runs (length self.opened)
             closed.0.members closed.0.records) }
         ensures none { IfNone result
-            (IsOutOfStep passes.now.items self.opened self.records_before) }
+            (IsOutOfStep passes.now.items self.max_runs self.opened self.records_before) }
     {
         let Table {
             names: _names,
@@ -95,11 +95,11 @@ impl<H: BuildHasher + Drop, S: LogSink + Drop, L: Ledger, A: Allocator + Copy> T
             opened,
             log,
             passes: _,
-            max_runs: _,
+            max_runs,
             records_before,
             alloc: _,
         } = self;
-        let totals = add_places(&mut cells, passes, &opened)?;
+        let totals = add_places(&mut cells, passes, &opened, max_runs)?;
         let log = log.into_inner();
         if !are_appended(totals.records, records_before, log.appended()) {
             return None;
@@ -122,20 +122,21 @@ fn add_places<H: BuildHasher, L: Ledger, A: Allocator + Copy>(
     cells: &mut [RwLock<Cell<H, L, A>>],
     passes: &Vec<Pass<A>, A>,
     opened: &[u64],
+    max_runs: u64,
 ) -> Option<Totals>
     requires own { HaveShares passes.now.items (length opened.now) }
     requires count { length cells.old ≡ length opened.now }
     requires few { length opened.now ≤ 4096 }
     ensures sums { IfSome result (λ totals. AddsUp passes.now.items opened.now totals) }
     ensures bound { IfSome result (λ totals. totals.records ≤ 4096 * 2 ^ 64) }
-    ensures cells { IfSome result (λ totals. AreOfCells passes.now.items (length opened.now)
+    ensures cells { IfSome result (λ totals. AreOfCells passes.now.items max_runs (length opened.now)
         totals.members totals.records) }
-    ensures none { IfNone result (HasOtherCell passes.now.items opened.now) }
+    ensures none { IfNone result (HasOtherCell passes.now.items max_runs opened.now) }
 {
     let mut totals = Totals::none();
     for place in 0..opened.len() {
         let cell = cells[place].get_mut();
-        totals = add_place(cell, passes, place, opened[place], totals)?;
+        totals = add_place(cell, passes, place, opened[place], max_runs, totals)?;
     }
     Some(totals)
 }
@@ -146,6 +147,7 @@ fn add_place<H: BuildHasher, L: Ledger, A: Allocator + Copy>(
     passes: &Vec<Pass<A>, A>,
     place: usize,
     opened: u64,
+    max_runs: u64,
     totals: Totals,
 ) -> Option<Totals>
     requires own { HaveShares passes.now.items (place + 1) }
@@ -153,13 +155,14 @@ fn add_place<H: BuildHasher, L: Ledger, A: Allocator + Copy>(
     requires bound { IsBounded place totals }
     ensures sums { IfSome result (λ more. AddsPlace passes.now.items place opened totals more) }
     ensures bound { IfSome result (λ more. IsBounded (place + 1) more) }
-    ensures cell { IfSome result (λ more. AddsCell passes.now.items place cell.now totals more) }
+    ensures cell { IfSome result (λ more. AddsCell passes.now.items max_runs place cell.now totals more) }
     ensures none { IfNone result
-        (cell.now.opened ≡ opened → Agrees passes.now.items place cell.now → ⊥) }
+        (cell.now.opened ≡ opened → Agrees passes.now.items max_runs place cell.now → ⊥) }
     ensures whole { IsWhole cell.now }
 {
     let numbers = cell.numbers();
     if numbers.opened != opened
+        || numbers.max_runs != max_runs
         || !cell.has_tallies(passes.len())
         || !all_in_step(cell, passes, place)
     {

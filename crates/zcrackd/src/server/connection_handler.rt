@@ -1,34 +1,47 @@
 //! What a worker thread does with its connections.
 
-ghost use Rattle.std.specs.Prelude.{◌≡◌, ◌+◌, ◌-◌, ◌<◌, ◌≤◌, ◌^◌, min};
-ghost use Rattle.session_core.specs.SessionEnd.{Served};
-ghost use Rattle.session_core.specs.WorkerAnswers.{WorkerAnswers};
-ghost use Rattle.session_core.specs.declared.fault.SessionFault.TheVariants as ends;
+ghost use Rattle.std.specs.Prelude.{◌≡◌, ◌+◌, ◌<◌, ◌^◌, IfOk};
 ghost use Rattle.set_table.specs.WorkerPasses.{IsPassOf};
-ghost use Rattle.zcrackd.specs.ExitStatus.{most_reads};
 ghost use Rattle.zcrackd.specs.WorkerTurns.{Keeps};
 ghost use Rattle.zcrackd.specs.WorkerTurnLaws.{keeps_itself, keeps_on};
 
 use append_log::LogSink;
-use hand_over::Handler;
-use resp_wire::{ByteDrain, ByteSource, MAX_READS, READ_BUFFER};
-use session_core::{Ended, SessionFault, Worker, serve};
+use connections::{Connections, Ringer, Watched};
+use hand_over::{Bell, Handler};
+use resp_wire::{PolledDrain, PolledSource};
+use session_core::Worker;
 use set_table::{NoGate, Pass, Table};
 use std::alloc::Global;
 use std::hash::RandomState;
+use std::io;
 use std::marker::Model;
+use std::net::Net;
 use std::sync::Wait;
 use std::sync::ledger::Ledger;
+use std::time::Clock;
 
-/// Serves connections one after the other, all by one worker on the server's table.
+/// Wakes a worker that waits for its connections.
 #[derive(Drop)]
-pub struct ConnectionHandler<'t, K: LogSink, L: Ledger> {
-    alloc: Global,
+pub struct WorkerBell {
+    ringer: Ringer<Global>,
+}
+
+impl Bell for WorkerBell {
+    fn ring(&self) {
+        self.ringer.ring();
+    }
+}
+
+/// Serves connections, turn by turn, all by one worker on the server's table.
+#[derive(Drop)]
+pub struct ConnectionHandler<'t, K: LogSink, L: Ledger, S, D, C> {
+    clock: &'t C,
     worker: Worker<'t, RandomState, K, L, Global, NoGate>,
+    connections: Connections<S, D, Global>,
     handled: u64,
 }
 
-impl<'t, K: LogSink, L: Ledger> Model for ConnectionHandler<'t, K, L> {
+impl<'t, K: LogSink, L: Ledger, S, D, C> Model for ConnectionHandler<'t, K, L, S, D, C> {
     ghost use Rattle.zcrackd.specs.WorkerTurns.{HandlerView};
 
     ghost Value = { HandlerView };
@@ -36,60 +49,63 @@ impl<'t, K: LogSink, L: Ledger> Model for ConnectionHandler<'t, K, L> {
     ghost view = { λ h. record { worker = h.worker; handled = h.handled } };
 }
 
-impl<'t, K: LogSink, L: Ledger> ConnectionHandler<'t, K, L> {
+impl<'t, K: LogSink, L: Ledger, S, D, C> ConnectionHandler<'t, K, L, S, D, C> {
     /// A handler that has served no connection, with one of the table's passes.
     pub fn new(
+        rt: &'t C,
         alloc: Global,
         table: &'t Table<RandomState, K, L, Global>,
         pass: Pass<Global>,
-    ) -> Self
+    ) -> io::Result<Self>
+    where
+        S: PolledSource + Watched + Drop,
+        D: PolledDrain + Drop,
+        C: Net + Clock,
         requires own { IsPassOf table.now pass }
-        ensures worker { result.worker ≡ record { table = table.entry.now; pass = pass } }
-        ensures handled { result.handled ≡ 0 }
+        ensures worker { IfOk result (λ handler. handler.worker
+            ≡ record { table = table.entry.now; pass = pass }) }
+        ensures handled { IfOk result (λ handler. handler.handled ≡ 0) }
     {
-        ConnectionHandler {
-            alloc,
+        let connections = Connections::new(rt, alloc)?;
+        Ok(ConnectionHandler {
+            clock: rt,
             worker: Worker::new(table, pass, NoGate),
+            connections,
             handled: 0,
-        }
+        })
     }
 
     /// The worker's pass, for the table's end.
     pub fn into_pass(self) -> Pass<Global>
+    where
+        S: Drop,
+        D: Drop,
         ensures pass { result ≡ self.entry.worker.pass }
         ensures own { IsPassOf self.entry.worker.table result }
     {
         let ConnectionHandler {
-            alloc: _,
+            clock: _,
             worker,
+            connections: _,
             handled: _,
         } = self;
         worker.into_pass()
     }
 }
 
-/// Serves one connection to its end, as [`serve`] does, by the program's own numbers.
-fn serve_one<K: LogSink, L: Ledger, S: ByteSource, D: ByteDrain, R: Wait>(
-    rt: &R,
-    alloc: Global,
-    source: &mut S,
-    drain: &mut D,
-    worker: &mut Worker<'_, RandomState, K, L, Global, NoGate>,
-) -> Result<Ended, SessionFault>
-    ensures served { Served WorkerAnswers worker.old (S.told source.old) (S.told source.new)
-        (D.told drain.old) (D.told drain.new) result worker.new }
-    ensures reads { S.calls source.new ≤ S.calls source.old + most_reads }
-    ensures many { result ≡ Err ends.TooManyReads
-        → min (S.calls source.old + most_reads) (2 ^ 64 - 1) ≤ S.calls source.new }
+/// Connections are served turn by turn, each to its end, whatever ends it: the end of its input, a
+/// fault of its devices, bytes that begin no request. The worker's table and pass stay its own, and
+/// its pass is moved by the requests that it ran, as a worker's answers move it.
+impl<'t, K, L, S, D, C> Handler<(S, D)> for ConnectionHandler<'t, K, L, S, D, C>
+where
+    K: LogSink,
+    L: Ledger,
+    S: PolledSource + Watched + Drop,
+    D: PolledDrain + Drop,
+    C: Clock,
 {
-    serve(rt, alloc, source, drain, worker, READ_BUFFER, MAX_READS)
-}
+    type Bell = WorkerBell;
 
-/// A connection is served to its end, whatever ends it: the end of its input, a fault of its devices,
-/// bytes that begin no request. The worker's table and pass stay its own, and its pass is moved by the
-/// requests that it ran, as a worker's answers move it.
-impl<'t, K: LogSink, L: Ledger, S: ByteSource + Drop, D: ByteDrain + Drop> Handler<(S, D)>
-    for ConnectionHandler<'t, K, L> {
     ghost keeps = { λ before after. Keeps before.worker after.worker };
 
     ghost handled = { λ handler. handler.handled };
@@ -98,9 +114,22 @@ impl<'t, K: LogSink, L: Ledger, S: ByteSource + Drop, D: ByteDrain + Drop> Handl
 
     ghost transitive = { λ a b c. keeps_on a.worker b.worker c.worker };
 
-    fn handle<R: Wait>(&mut self, rt: &R, connection: (S, D)) {
-        let (mut source, mut drain) = connection;
+    fn bell(&self) -> Option<WorkerBell> {
+        let ringer = self.connections.ringer()?;
+        Some(WorkerBell { ringer })
+    }
+
+    fn live(&self) -> usize {
+        self.connections.count()
+    }
+
+    fn handle<R: Wait>(&mut self, _rt: &R, connection: (S, D)) {
+        let (source, drain) = connection;
         self.handled += 1;
-        let _ = serve_one(rt, self.alloc, &mut source, &mut drain, &mut self.worker);
+        self.connections.add(self.clock, source, drain);
+    }
+
+    fn turn<R: Wait>(&mut self, rt: &R) {
+        self.connections.turn(rt, self.clock, &mut self.worker);
     }
 }

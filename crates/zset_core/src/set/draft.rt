@@ -1,12 +1,13 @@
 //! A change of a set in the making: new members go last among the entries, and new scores wait in
 //! their slots.
-ghost use Rattle.std.specs.Prelude.{◌≡◌, ℕ, ◌<◌, ◌≤◌, true, None, Some, [], length, slice_get, take, List, OnOk, IfOk};
+ghost use Rattle.std.specs.Prelude.{◌≡◌, ℕ, ◌<◌, ◌≤◌, ◌+◌, ◌^◌, ◌++◌, ◌∷◌, true, None, Some, [], length, slice_get, take, List, OnOk, IfOk};
+ghost use Rattle.zset_core.specs.NotedNames.{IsLed, mention, mentions, noted_places};
 ghost use Rattle.std.specs.FinMap as map;
 ghost use Rattle.zset_core.specs.declared.set.members_with_staged_scores.ScoreSlot.{ScoreSlot as SlotType};
 ghost use Rattle.zset_core.specs.Semantics.{outcome_of, counted, put_one, put_all, count_all, increase_reply};
 ghost use Rattle.zset_core.specs.ParsedArguments.{given_pairs};
 ghost use Rattle.zset_core.specs.RowEdits.{Notes};
-ghost use Rattle.zset_core.specs.MembersWithStagedScores.{current_score, staged_score, rows_by, members_by, slot_at, slots, IsSettled, IsWaiting, Grows};
+ghost use Rattle.zset_core.specs.MembersWithStagedScores.{Entry, current_score, staged_score, rows_by, members_by, name_at, names_at, slot_at, slots, IsSettled, IsWaiting, Grows};
 ghost use Rattle.resp_wire.specs.Response.{response_of};
 
 use crate::command::given_pairs::GivenPairs;
@@ -27,8 +28,12 @@ pub struct Draft<A: Allocator + Copy> {
     alloc: A,
     /// How many entries stand whatever becomes of the draft. New members stand behind them.
     pub kept: usize,
-    /// The places whose members get another score.
+    /// How many of the new members were named before any that was there. Their places are known by it.
+    pub leading: usize,
+    /// The places of the members that were named from then on, which alone may get another score.
     pub touched: Vec<usize, A>,
+    /// How many of `touched`, from its start, are places of members that move and do not lead, each once.
+    pub moved: usize,
     /// The rows that come into the column and that leave it.
     pub edits: Edits<A>,
 }
@@ -37,16 +42,39 @@ impl<A: Allocator + Copy> Draft<A> {
     /// Nothing is staged behind the entries that stand.
     pub fn new(alloc: A, kept: usize) -> Self
         ensures kept { result.kept ≡ kept }
+        ensures leading { result.leading ≡ 0 }
         ensures touched { result.touched.items ≡ [] }
+        ensures moved { result.moved ≡ 0 }
         ensures coming { result.edits.coming.items ≡ [] }
         ensures leaving { result.edits.leaving.items ≡ [] }
     {
         Draft {
             alloc,
             kept,
+            leading: 0,
             touched: Vec::new(alloc),
+            moved: 0,
             edits: Edits::none(alloc),
         }
+    }
+
+    /// Notes the place of a new member, the last there is. While no other place was noted it leads.
+    fn note_new(&mut self, place: usize) -> Result<(), AllocError>
+        requires led { IsLed self.old place }
+        requires small { place < 2 ^ 63 }
+        ensures noted { OnOk result (noted_places self.new ≡ noted_places self.old ++ place ∷ []) }
+        ensures led { OnOk result (IsLed self.new (place + 1)) }
+        ensures waiting { (entries : List Entry) → place < length entries
+            → IsWaiting self.old.touched.items entries → IsWaiting self.new.touched.items entries }
+        ensures kept { self.new.kept ≡ self.old.kept }
+        ensures edits { self.new.edits ≡ self.old.edits }
+    {
+        if self.touched.is_empty() {
+            self.leading += 1;
+        } else {
+            self.touched.push(place)?;
+        }
+        Ok(())
     }
 
     /// Stages one pair, with the rows by which it changes the column.
@@ -57,7 +85,8 @@ impl<A: Allocator + Copy> Draft<A> {
         score: i64,
         member: &[u8],
     ) -> Result<Outcome, AllocError>
-        requires { IsWaiting self.old.touched.items members.old.entries }
+        requires waiting { IsWaiting self.old.touched.items members.old.entries }
+        requires led { IsLed self.old (length members.old.entries) }
         ensures outcome { IfOk result
             (λ what. what ≡ outcome_of flags
             (map.get (members_by staged_score members.old.entries) member.now) score) }
@@ -69,13 +98,19 @@ impl<A: Allocator + Copy> Draft<A> {
         ensures grows { Grows members.old.entries members.new.entries }
         ensures waiting { IsWaiting self.new.touched.items members.new.entries }
         ensures kept { self.new.kept ≡ self.old.kept }
+        ensures led { OnOk result (IsLed self.new (length members.new.entries)) }
+        ensures named { OnOk result (names_at members.new.entries (noted_places self.new)
+            ≡ names_at members.old.entries (noted_places self.old)
+            ++ mention flags (members_by staged_score members.old.entries) member.now) }
     {
         match find_slot(members, member) {
             None => {
                 let what = Outcome::of(flags, None, score);
                 if what == Outcome::Added {
+                    let place = members.len();
                     let name = put_new(self.alloc, members, member, score)?;
                     self.edits.add(score, name)?;
+                    self.note_new(place)?;
                 }
                 Ok(what)
             }
@@ -87,6 +122,8 @@ impl<A: Allocator + Copy> Draft<A> {
                     put_staged(members, &mut self.touched, place, score)?;
                     self.edits.take(slot.staged, before)?;
                     self.edits.add(score, after)?;
+                } else {
+                    self.touched.push(place)?;
                 }
                 Ok(what)
             }
@@ -102,7 +139,8 @@ impl<A: Allocator + Copy> Draft<A> {
         changed: bool,
         pairs: &GivenPairs<A>,
     ) -> Result<u64, AllocError>
-        requires { IsWaiting self.old.touched.items members.old.entries }
+        requires waiting { IsWaiting self.old.touched.items members.old.entries }
+        requires led { IsLed self.old (length members.old.entries) }
         ensures count { IfOk result (λ n. n
             ≡ count_all flags changed (members_by staged_score members.old.entries)
             (given_pairs pairs.now)) }
@@ -117,6 +155,10 @@ impl<A: Allocator + Copy> Draft<A> {
         ensures grows { Grows members.old.entries members.new.entries }
         ensures waiting { IsWaiting self.new.touched.items members.new.entries }
         ensures kept { self.new.kept ≡ self.old.kept }
+        ensures led { OnOk result (IsLed self.new (length members.new.entries)) }
+        ensures named { OnOk result (names_at members.new.entries (noted_places self.new)
+            ≡ names_at members.old.entries (noted_places self.old)
+            ++ mentions flags (members_by staged_score members.old.entries) (given_pairs pairs.now)) }
     {
         let mut count: u64 = 0;
         for (index, score) in pairs.scores.iter().enumerate() {
@@ -135,7 +177,8 @@ impl<A: Allocator + Copy> Draft<A> {
         score: i64,
         member: &[u8],
     ) -> Result<Reply<A>, AllocError>
-        requires { IsWaiting self.old.touched.items members.old.entries }
+        requires waiting { IsWaiting self.old.touched.items members.old.entries }
+        requires led { IsLed self.old (length members.old.entries) }
         ensures reply { IfOk result (λ reply. response_of reply
             ≡ increase_reply (outcome_of flags
             (map.get (members_by staged_score members.old.entries) member.now) score) score) }
@@ -149,6 +192,10 @@ impl<A: Allocator + Copy> Draft<A> {
         ensures grows { Grows members.old.entries members.new.entries }
         ensures waiting { IsWaiting self.new.touched.items members.new.entries }
         ensures kept { self.new.kept ≡ self.old.kept }
+        ensures led { OnOk result (IsLed self.new (length members.new.entries)) }
+        ensures named { OnOk result (names_at members.new.entries (noted_places self.new)
+            ≡ names_at members.old.entries (noted_places self.old)
+            ++ mention flags (members_by staged_score members.old.entries) member.now) }
     {
         let what = self.stage_one(members, flags, score, member)?;
         increase_reply(self.alloc, what, score)
@@ -180,6 +227,10 @@ fn put_new<H: BuildHasher, A: Allocator + Copy>(
     ensures grows { Grows members.old.entries members.new.entries }
     ensures waiting { (places : List ℕ) → IsWaiting places members.old.entries
         → IsWaiting places members.new.entries }
+    ensures longer { OnOk result (length members.new.entries ≡ length members.old.entries + 1) }
+    ensures place { OnOk result (name_at members.new.entries (length members.old.entries) ≡ member.now) }
+    ensures names { OnOk result ((p : ℕ) → p < length members.old.entries
+        → name_at members.new.entries p ≡ name_at members.old.entries p) }
 {
     let key = ShortBytes::from_slice(alloc, member)?;
     let name = key.share()?;
@@ -206,6 +257,9 @@ fn put_staged<H: BuildHasher, A: Allocator + Copy>(
         ≡ map.insert (members_by staged_score members.old.entries) q score) }
     ensures grows { Grows members.old.entries members.new.entries }
     ensures waiting { IsWaiting touched.new.items members.new.entries }
+    ensures noted { OnOk result (touched.new.items ≡ touched.old.items ++ place ∷ []) }
+    ensures names { (places : List ℕ) → names_at members.new.entries places ≡ names_at members.old.entries places }
+    ensures len { length members.new.entries ≡ length members.old.entries }
 {
     let _count = members.len();
     let current = members[place].current;

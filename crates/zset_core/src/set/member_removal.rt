@@ -1,13 +1,17 @@
 //! The removal of members that a ZREM names: planned by their places, and made once it is committed. No
 //! member is copied on the way: its name goes from the entries into the row that leaves the column.
-ghost use Rattle.std.specs.Prelude.{◌≡◌, ◌+◌, ◌-◌, ◌<◌, ◌≤◌, ℕ, pos, length, IfOk, OnOk, None};
+ghost use Rattle.std.specs.Prelude.{◌≡◌, ◌+◌, ◌-◌, ◌<◌, ◌≤◌, ◌++◌, ◌∷◌, ℕ, pos, length, List, [], IfOk, OnOk, None};
 ghost use Rattle.std.specs.FinMap as map;
+ghost use Rattle.std.specs.List.{list_any};
+ghost use Rattle.std.specs.Str.{bytes_eq};
 ghost use Rattle.resp_wire.specs.Response.{Integer};
 ghost use Rattle.ripple_column.specs.Content.{Holds};
 ghost use Rattle.zset_core.specs.Semantics.{remove_all};
 ghost use Rattle.zset_core.specs.MembersWithStagedScores.{current_score, members_by, name_at, names_at, IsSettled, IsWithin};
+ghost use Rattle.zset_core.specs.ChangeEffect.{moved_names};
 ghost use Rattle.zset_core.specs.FoundPlaces.{AreFound};
-ghost use Rattle.zset_core.specs.Plan.{NeedsAtMost, Prepares};
+ghost use Rattle.zset_core.specs.NotedNames.{noted};
+ghost use Rattle.zset_core.specs.Plan.{MovesTo, NeedsAtMost, Prepares};
 ghost use Rattle.zset_core.specs.RowEdits.{most_edits};
 ghost use Rattle.zset_core.specs.SortedSet.{pairs};
 
@@ -23,13 +27,39 @@ use std::alloc::{AllocError, Allocator};
 use std::collections::BTreeSet;
 use std::hash::BuildHasher;
 
-/// One name: if it is a member, its place is among those found.
+/// Puts a place behind those that were found. With the first, room is made for so many.
+fn note_found<A: Allocator>(
+    order: &mut Vec<usize, A>,
+    most: usize,
+    place: usize,
+) -> Result<(), AllocError>
+    ensures { OnOk result (order.new.items ≡ order.old.items ++ place ∷ []) }
+{
+    if order.is_empty() {
+        order.reserve(most)?;
+    }
+    order.push(place)?;
+    Ok(())
+}
+
+/// One name, of so many: if it is a member, its place is among those found, and in the order in which they
+/// were.
 fn find_one<H: BuildHasher, A: Allocator + Copy>(
     members: &MemberMap<H, A>,
     places: &mut BTreeSet<usize, A>,
+    order: &mut Vec<usize, A>,
+    most: usize,
     name: &[u8],
 ) -> Result<(), AllocError>
-    requires { AreFound members.now.entries places.old }
+    requires found { AreFound members.now.entries places.old }
+    requires within { IsWithin (length members.now.entries) order.old.items }
+    requires seen { (q : List ℕ) → list_any (bytes_eq q) (names_at members.now.entries order.old.items)
+        ≡ list_any (bytes_eq q) (names_at members.now.entries places.old.keys) }
+    ensures within { OnOk result (IsWithin (length members.now.entries) order.new.items) }
+    ensures seen { OnOk result ((q : List ℕ) → list_any (bytes_eq q) (names_at members.now.entries order.new.items)
+        ≡ list_any (bytes_eq q) (names_at members.now.entries places.new.keys)) }
+    ensures order { OnOk result (names_at members.now.entries order.new.items
+        ≡ noted (members_by current_score members.now.entries) (names_at members.now.entries order.old.items) name.now) }
     ensures found { OnOk result (AreFound members.now.entries places.new) }
     ensures gone { OnOk result (remove_all (members_by current_score members.now.entries)
         (names_at members.now.entries places.new.keys)
@@ -38,17 +68,25 @@ fn find_one<H: BuildHasher, A: Allocator + Copy>(
     ensures few { OnOk result (length places.new.keys ≤ length places.old.keys + 1) }
 {
     if let Some((place, _)) = find_slot(members, name) {
-        places.insert(place)?;
+        if places.insert(place)? {
+            note_found(order, most, place)?;
+        }
     }
     Ok(())
 }
 
-/// The places of the members among some names.
+/// The places of the members among some names, and the order in which they are named.
 fn find_places<H: BuildHasher, A: Allocator + Copy>(
     alloc: A,
     members: &MemberMap<H, A>,
     names: &[Bytes<A>],
+    order: &mut Vec<usize, A>,
 ) -> Result<BTreeSet<usize, A>, AllocError>
+    requires { order.old.items ≡ [] }
+    ensures order { OnOk result (names_at members.now.entries order.new.items
+        ≡ moved_names (members_by current_score members.now.entries)
+        (remove_all (members_by current_score members.now.entries) names.now) names.now) }
+    ensures noted { OnOk result (IsWithin (length members.now.entries) order.new.items) }
     ensures gone { IfOk result (λ places. remove_all (members_by current_score members.now.entries)
         (names_at members.now.entries places.keys)
         ≡ remove_all (members_by current_score members.now.entries) names.now) }
@@ -60,7 +98,7 @@ fn find_places<H: BuildHasher, A: Allocator + Copy>(
 {
     let mut places = BTreeSet::new(alloc);
     for name in names {
-        find_one(members, &mut places, name.as_slice())?;
+        find_one(members, &mut places, order, names.len(), name.as_slice())?;
     }
     Ok(places)
 }
@@ -80,11 +118,15 @@ pub fn plan_remove<H: BuildHasher, A: Allocator + Copy>(
     ensures rows { IfOk result (λ plan. NeedsAtMost (map.len (members_by current_score members.now.entries)
         - map.len (remove_all (members_by current_score members.now.entries) names.now)) plan) }
     ensures named { IfOk result (λ plan. plan.range ≡ None) }
+    ensures moved { IfOk result (λ plan. MovesTo members.now.entries members.now.entries plan.draft names.now
+        (remove_all (members_by current_score members.now.entries) names.now)) }
 {
-    let removed = find_places(alloc, members, names)?;
+    let mut draft = Draft::new(alloc, members.len());
+    let removed = find_places(alloc, members, names, &mut draft.touched)?;
     let count = removed.len();
+    draft.moved = draft.touched.len();
     Ok(Plan {
-        draft: Draft::new(alloc, members.len()),
+        draft,
         removed,
         range: None,
         reply: count_reply(count),

@@ -1,5 +1,5 @@
 //! What is prepared in a set, and how the plan for it is made.
-ghost use Rattle.std.specs.Prelude.{◌≡◌, ◌+◌, ◌-◌, ◌<◌, ◌≤◌, true, max, length, take, pos, IfOk, IfErr, IfSome, None, OnOk, OnErr, IsTrue};
+ghost use Rattle.std.specs.Prelude.{◌≡◌, ◌+◌, ◌-◌, ◌<◌, ◌≤◌, ◌∷◌, [], true, max, length, take, pos, IfOk, IfErr, IfSome, None, OnOk, OnErr, IsTrue};
 ghost use Rattle.std.specs.FinMap as map;
 ghost use Rattle.resp_wire.specs.Response.{Integer, response_of};
 ghost use Rattle.zset_core.specs.CommandEffectsOnColumn.{Selects, changes_named, edit_count, increase_edits};
@@ -10,8 +10,9 @@ ghost use Rattle.ripple_column.specs.Content.{Holds, IsUnchanged, SameContent, m
 ghost use Rattle.ripple_column.specs.CutPivots.{values};
 ghost use Rattle.zset_core.specs.RowEdits.{most_edits};
 ghost use Rattle.zset_core.specs.MembersWithStagedScores.{current_score, staged_score, rows_by, members_by, IsSettled, IsBack, IsWaiting, Grows};
-ghost use Rattle.zset_core.specs.SortedSet.{pairs};
-ghost use Rattle.zset_core.specs.Plan.{NeedsAtMost, Prepares, Plans, rows_coming, rows_leaving};
+ghost use Rattle.zset_core.specs.SortedSet.{names_of, pairs};
+ghost use Rattle.zset_core.specs.ChangeEffect.{names_in};
+ghost use Rattle.zset_core.specs.Plan.{NeedsAtMost, Prepares, Plans, Moves, MovesTo, IsCounted, moved_places, rows_coming, rows_leaving};
 ghost use Rattle.zset_core.specs.SetViewAndInvariant.{HasRoom, IsReadyForPlan};
 ghost use Rattle.zset_core.specs.Refusal.{IsRefused};
 
@@ -73,11 +74,15 @@ pub fn plan_add<H: BuildHasher, A: Allocator + Copy>(
         (λ plan. NeedsAtMost (count_all flags true (members_by current_score members.old.entries)
         (given_pairs pairs.now)) plan) }
     ensures named { IfOk result (λ plan. plan.range ≡ None) }
+    ensures moved { IfOk result (λ plan. MovesTo members.old.entries members.new.entries plan.draft
+        (names_of (given_pairs pairs.now))
+        (put_all flags (members_by current_score members.old.entries) (given_pairs pairs.now))) }
     ensures err { OnErr result (IsBack members.old.entries members.new.entries) }
 {
     let mut draft = Draft::new(alloc, members.len());
     match draft.stage_all(members, flags, changed, pairs) {
         Ok(count) => {
+            draft.settle_moved(members);
             let outline = outline_staged(members, &draft);
             Ok(Plan {
                 draft,
@@ -111,11 +116,15 @@ fn plan_score<H: BuildHasher, A: Allocator + Copy>(
         (λ plan. NeedsAtMost (counted true (outcome_of flags
         (map.get (members_by current_score members.old.entries) member.now) score)) plan) }
     ensures named { IfOk result (λ plan. plan.range ≡ None) }
+    ensures moved { IfOk result (λ plan. MovesTo members.old.entries members.new.entries plan.draft
+        (member.now ∷ [])
+        (put_one flags (members_by current_score members.old.entries) member.now score)) }
     ensures err { OnErr result (IsBack members.old.entries members.new.entries) }
 {
     let mut draft = Draft::new(alloc, members.len());
     match draft.stage_increase(members, flags, score, member) {
         Ok(reply) => {
+            draft.settle_moved(members);
             let outline = outline_staged(members, &draft);
             Ok(Plan {
                 draft,
@@ -143,6 +152,8 @@ fn plan_nothing<H: BuildHasher, A: Allocator + Copy>(
         (members_by current_score members.now.entries) (response_of reply) }
     ensures rows { NeedsAtMost 0 result }
     ensures named { result.range ≡ None }
+    ensures counted { IsCounted result.draft members.now.entries }
+    ensures moved { moved_places result.draft ≡ [] }
 {
     Plan {
         draft: Draft::new(alloc, members.len()),
@@ -172,6 +183,8 @@ pub fn plan_increase<H: BuildHasher, A: Allocator + Copy>(
         (λ plan. NeedsAtMost (increase_edits flags (members_by current_score members.old.entries) member.now
         given) plan) }
     ensures named { IfOk result (λ plan. plan.range ≡ None) }
+    ensures moved { IfOk result (λ plan. Moves members.old.entries members.new.entries plan (member.now ∷ [])
+        (increase flags (members_by current_score members.old.entries) member.now given)) }
     ensures err { OnErr result (IsBack members.old.entries members.new.entries) }
     ensures refused { IfErr result
         (λ refusal. IsRefused refusal
@@ -201,6 +214,9 @@ fn plan_for<H: BuildHasher, A: Allocator + Copy>(
         (λ plan. NeedsAtMost (edit_count (members_by current_score members.old.entries) command.now.meaning)
         plan) }
     ensures named { IfOk result (λ plan. plan.range ≡ None) }
+    ensures moved { IfOk result (λ plan. Moves members.old.entries members.new.entries plan
+        (names_in command.now.meaning)
+        (step (members_by current_score members.old.entries) command.now.meaning)) }
     ensures err { OnErr result (IsBack members.old.entries members.new.entries) }
     ensures refused { IfErr result
         (λ refusal. IsRefused refusal
@@ -273,6 +289,9 @@ fn plan_named<H: BuildHasher, A: Allocator + Copy>(
         (step (members_by current_score members.old.entries) command.now.meaning)) }
     ensures room { IfOk result (λ plan. HasRoom column.new plan) }
     ensures named { IfOk result (λ plan. plan.range ≡ None) }
+    ensures moved { IfOk result (λ plan. Moves members.old.entries members.new.entries plan
+        (names_in command.now.meaning)
+        (step (members_by current_score members.old.entries) command.now.meaning)) }
     ensures content { SameContent column.old column.new }
     ensures values { values column.new.pivots ≡ values column.old.pivots }
     ensures still { most_pending column.old
@@ -302,6 +321,9 @@ pub fn make_plan<H: BuildHasher, A: Allocator + Copy>(
         (step (members_by current_score members.old.entries) command.now.meaning)) }
     ensures ready { IfOk result (λ plan. IsReadyForPlan column.new plan) }
     ensures range { IfOk result (λ plan. plan.range ≡ range_to_remove command.now.meaning) }
+    ensures moved { IfOk result (λ plan. Moves members.old.entries members.new.entries plan
+        (names_in command.now.meaning)
+        (step (members_by current_score members.old.entries) command.now.meaning)) }
     ensures content { SameContent column.old column.new }
     ensures values { changes_named command.now.meaning ≡ true
         → values column.new.pivots ≡ values column.old.pivots }

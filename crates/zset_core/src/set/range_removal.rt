@@ -1,13 +1,13 @@
 //! The removal of a range: planned, and made once it is committed. No member is named or copied on the
 //! way: the column's rows in the range tell which leave.
-ghost use Rattle.std.specs.Prelude.{◌≡◌, Some, pos, length, IfOk, OnOk, OnErr};
+ghost use Rattle.std.specs.Prelude.{◌≡◌, [], Some, pos, length, IfOk, OnOk, OnErr};
 ghost use Rattle.resp_wire.specs.Response.{Integer};
 ghost use Rattle.score_bounds.specs.Bounds.{is_in};
 ghost use Rattle.ripple_column.specs.Content.{Holds, IsUnchanged, SameContent};
 ghost use Rattle.ripple_column.specs.RangeAnswer.{HasAnswer};
 ghost use Rattle.zset_core.specs.CommandEffectsOnColumn.{Selects, TakesOut};
 ghost use Rattle.zset_core.specs.MembersWithStagedScores.{current_score, members_by, IsSettled};
-ghost use Rattle.zset_core.specs.Plan.{NeedsAtMost, Prepares};
+ghost use Rattle.zset_core.specs.Plan.{IsCounted, NeedsAtMost, Prepares, moved_places};
 ghost use Rattle.zset_core.specs.Semantics.{without_range};
 ghost use Rattle.zset_core.specs.SortedSet.{listing, pairs};
 
@@ -36,6 +36,8 @@ pub fn plan_range<H: BuildHasher, A: Allocator + Copy>(
         (without_range range.now (members_by current_score members.now.entries))
         (Integer (pos (length (listing (is_in range.now) (members_by current_score members.now.entries)))))) }
     ensures range { IfOk result (λ plan. plan.range ≡ Some range.now) }
+    ensures counted { IfOk result (λ plan. IsCounted plan.draft members.now.entries) }
+    ensures moved { IfOk result (λ plan. moved_places plan.draft ≡ []) }
     ensures alone { IfOk result (λ plan. NeedsAtMost 0 plan) }
     ensures answer { OnOk result (HasAnswer column.new range.now) }
     ensures content { SameContent column.old column.new }

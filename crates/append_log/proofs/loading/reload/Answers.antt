@@ -10,7 +10,7 @@ returns-in_err-piece-clause-read g c = unread _ _ _ (err_is _ _ c.from_residual.
 
 pub reads-init : goal.reads-init
 reads-init g c = record {
-  way = rw (c.new-reloader.ensures.decoder, c.new-reloader.ensures.records) (begins _ _);
+  way = rw (c.new-reloader.ensures.decoder, c.new-reloader.ensures.records, c.new-reloader.ensures.version) (begins _ _);
   slice = sym c.in_ok-piece.piece.ok.0 ∙ c.in_ok-piece.ensures.len;
   idle = c.requires.idle;
   bytes_so_far = rw c.new-reloader.ensures.decoder (omega arith);
@@ -22,7 +22,7 @@ reads-init g c = record {
 
 pub returns-in_err-loaded-clause-read : goal.returns-in_err-loaded-clause-read
 returns-in_err-loaded-clause-read g c =
-    fails _ _ _ _ _ _ c.reads.invariant.way _ _ _ _ c.in_err-loaded.field-0.0 _ (err_is _ _ c.from_residual-in_err-loaded.ensures.1) c.in_err-loaded.ensures.round
+    fails _ _ _ _ _ _ _ c.reads.invariant.way _ _ _ _ _ c.in_err-loaded.field-0.0 _ (err_is _ _ c.from_residual-in_err-loaded.ensures.1) c.in_err-loaded.ensures.round
 
 pub returns-in_err-loaded-clause-many : goal.returns-in_err-loaded-clause-many
 returns-in_err-loaded-clause-many g c = λ is.
@@ -30,7 +30,7 @@ returns-in_err-loaded-clause-many g c = λ is.
 
 pub returns-in-Some-clause-read : goal.returns-in-Some-clause-read
 returns-in-Some-clause-read g c =
-    loads _ _ _ _ _ _ c.reads.invariant.way _ _ _ _ c.in-Some.loaded (rw c.in-Some.is at c.in_ok-loaded.ensures.round)
+    loads _ _ _ _ _ _ _ c.reads.invariant.way _ _ _ _ _ c.in-Some.loaded (rw c.in-Some.is at c.in_ok-loaded.ensures.round)
 
 pub reads-preserved : goal.reads-preserved
 reads-preserved g c =
@@ -38,7 +38,7 @@ reads-preserved g c =
     let e = c.in_ok-loaded.ensures in
     let kept : length c.read_on.new.buffer ≡ c.args.buffer = c.read_on.auto.buffer ∙ ap length c.deref_mut.ensures.value ∙ i.slice in
     record {
-      way = reads_on _ _ _ _ _ _ i.way _ _ _ _ (rw c.in_default.is at e.round);
+      way = reads_on _ _ _ _ _ _ _ i.way _ _ _ _ _ (rw c.in_default.is at e.round);
       slice = length-take-le c.reads.piece.len (c.read_on.new.buffer ++ drop (length c.read_on.new.buffer) c.reads.piece.items) (omega (arith, kept, i.slice, c.reads.piece.ok.0, length-append c.read_on.new.buffer (drop (length c.read_on.new.buffer) c.reads.piece.items))) ∙ c.reads.piece.ok.0 ∙ i.slice;
       idle = e.idle;
       bytes_so_far = omega (arith, e.bytes, i.bytes_so_far, ap length c.deref_mut.ensures.value, i.slice, c.requires.buffer);

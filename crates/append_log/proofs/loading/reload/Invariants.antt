@@ -5,7 +5,7 @@ use Rattle.append_log.proofs.loading.reload.Given as goal
 
 abbrev pub invariant-reads : goal.invariant-reads
 invariant-reads g l = record {
-  way : Underway (g.R.ByteSource.told l.fn.source) (g.R.ByteSource.told l.source) l.fn.owner.world l.reloader.decoder l.owner.world l.reloader.records;
+  way : Underway (g.R.ByteSource.told l.fn.source) (g.R.ByteSource.told l.source) l.fn.owner.world l.reloader.decoder l.owner.world l.reloader.records l.reloader.version;
   slice : length l.piece.items ≡ l.buffer;
   idle : l.owner.next ≡ None;
   bytes_so_far : l.reloader.decoder.taken + length l.reloader.decoder.held ≤ l.counter * 65536;

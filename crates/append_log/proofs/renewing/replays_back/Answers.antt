@@ -1,19 +1,19 @@
 use Rattle.std.proofs.Common.{ap, sym, ◌∙◌, []}
 use Rattle.std.specs.FinMap as fin
 use Rattle.std.proofs.lemmas.List.{append-nil}
-use Rattle.append_log.specs.Dump.{dump}
+use Rattle.append_log.specs.Dump.{dump, image}
 use Rattle.append_log.specs.Records.{text_of}
 use Rattle.append_log.specs.Replay.{replay}
 use Rattle.append_log.proofs.DumpReplay.{image_leads}
-use Rattle.append_log.proofs.DumpRequests.{image_requests}
+use Rattle.append_log.proofs.DumpRequests.{header_is, image_requests}
 use Rattle.append_log.proofs.RecordTexts.{reads_text, nothing_short}
 use Rattle.append_log.proofs.renewing.replays_back.Goals as goal
 
 pub returns : goal.returns
 returns g c =
     let world = c.args.owner.now.world in
-    let records = dump world in
-    let read = reads_text c.longest.ensures.whole c.longest.ensures.most (text_of records) records [] (image_requests world (fin.keys world) c.bounds.ensures) nothing_short (sym (append-nil (text_of records))) in
+    let records = image world in
+    let read = reads_text c.longest.ensures.whole c.longest.ensures.most (text_of records) records [] (header_is, image_requests world (fin.keys world) c.bounds.ensures) nothing_short (sym (append-nil (text_of records))) in
     record {
       all = record { unfaulted = read.1; replayed = ap (replay fin.empty) read.0 ∙ image_leads c.printed_scores.ensures.read_back c.printed_scores.ensures.plain world c.bounds.ensures };
       whole = read.2;

@@ -1,77 +1,20 @@
-use Rattle.std.proofs.Common.{◌≡◌, [], ◌∷◌, ◌++◌, drop, length, refl, arith, sym, ◌∙◌, ap, length-append, rules}
-use Rattle.std.specs.Option.{option_copied}
-use Rattle.std.specs.FinMap as fin
-use Rattle.zset_core.specs.World.{set_at}
-use Rattle.append_log.specs.Dump.{set_records, records_at}
-use Rattle.append_log.proofs.RecordPieces.{on_err}
-use Rattle.append_log.proofs.DumpPrefix.{front_of_image, front_in_set, cut_behind, told_set, records_more, all_keys}
-use Rattle.append_log.proofs.KeyWalk.{left_from, left_is, next_key, there_is, headed, ended, shorter}
+use Rattle.std.proofs.Common.{◌∙◌, Result, Ok, Err}
+use Rattle.std.specs.Prelude.{OnErr}
+use Rattle.resp_wire.specs.RequestEncoding.{request}
+use Rattle.append_log.specs.Dump.{dump}
+use Rattle.append_log.specs.Records.{text_of}
+use Rattle.append_log.specs.Replay.{header}
+use Rattle.append_log.proofs.RecordPieces.{front_first, front_behind, on_err}
 use Rattle.append_log.proofs.renewing.rewrite.Goals as goal
 
-pub keys-init : goal.keys-init
-keys-init g c = record { done = []; rest = fin.keys c.args.owner.now.world; cut = refl; next_is = c.key_after-next.ensures; count_is = refl; told = search rules; good = refl }
+err_map : {T E P Q : Type 0} (result : Result T E) → (P → Q) → OnErr result P → OnErr result Q
+err_map (Ok value) f p = tt
+err_map (Err e) f p = f p
 
-pub returns-in_err-rows-clause-refused : goal.returns-in_err-rows-clause-refused
-returns-in_err-rows-clause-refused g c =
-    let i = c.keys.invariant in
-    on_err c.from_residual.result (front_of_image c.args.owner.now.world i.done i.rest _ _ i.cut i.told)
+pub returns-in_err-put_header-clause-refused : goal.returns-in_err-put_header-clause-refused
+returns-in_err-put_header-clause-refused g c =
+    on_err c.from_residual.result (front_first _ _ (request header) (text_of (dump c.args.owner.now.world)) c.in_err-put_header.ensures.err)
 
-pub returns-in_err-put_set-clause-refused : goal.returns-in_err-put_set-clause-refused
-returns-in_err-put_set-clause-refused g c =
-    let i = c.keys.invariant in
-    let key = c.in-Some.key.now in
-    let cut = i.cut ∙ ap (λ l. i.done ++ l) (headed i.rest key (sym (ap option_copied c.in-Some.is) ∙ i.next_is)) in
-    let rows = c.deref.ensures.value ∙ c.in_ok-rows.ensures in
-    on_err c.from_residual-in_err-put_set.result (front_in_set c.args.owner.now.world i.done key (drop 1 i.rest) cut _ _ _ i.told (rw rows at c.in_err-put_set.ensures.err))
-
-pub key_after-next-requires-in-Some-clause-present : goal.key_after-next-requires-in-Some-clause-present
-key_after-next-requires-in-Some-clause-present g c =
-    let i = c.keys.invariant in
-    let key = c.in-Some.key.now in
-    let cut = i.cut ∙ ap (λ l. i.done ++ l) (headed i.rest key (sym (ap option_copied c.in-Some.is) ∙ i.next_is)) in
-    there_is c.args.owner.now.world i.done key (drop 1 i.rest) cut
-
-pub keys-smaller : goal.keys-smaller
-keys-smaller g c =
-    let i = c.keys.invariant in
-    let world = c.args.owner.now.world in
-    let key = c.in-Some.key.now in
-    let head = headed i.rest key (sym (ap option_copied c.in-Some.is) ∙ i.next_is) in
-    let cut = i.cut ∙ ap (λ l. i.done ++ l) head in
-    let behind : left_from (fin.keys world) (option_copied c.key_after-next-in-Some.result) ≡ drop 1 i.rest =
-    ap (left_from (fin.keys world)) (c.key_after-next-in-Some.ensures ∙ next_key world i.done key (drop 1 i.rest) cut) ∙ left_is world (i.done ++ key ∷ []) (drop 1 i.rest) (cut_behind world i.done key (drop 1 i.rest) cut) in
-    let now : left_from (fin.keys world) (option_copied c.keys.next) ≡ i.rest = ap (left_from (fin.keys world)) i.next_is ∙ left_is world i.done i.rest i.cut in
-    omega (arith, shorter i.rest key head, ap length behind, ap length now)
-
-pub keys-preserved : goal.keys-preserved
-keys-preserved g c =
-    let i = c.keys.invariant in
-    let world = c.args.owner.now.world in
-    let key = c.in-Some.key.now in
-    let cut = i.cut ∙ ap (λ l. i.done ++ l) (headed i.rest key (sym (ap option_copied c.in-Some.is) ∙ i.next_is)) in
-    let rows = c.deref.ensures.value ∙ c.in_ok-rows.ensures in
-    let wrote = rw rows at c.in_ok-put_set.ensures in
-    record {
-      done = i.done ++ key ∷ [];
-      rest = drop 1 i.rest;
-      cut = cut_behind world i.done key (drop 1 i.rest) cut;
-      next_is = c.key_after-next-in-Some.ensures ∙ next_key world i.done key (drop 1 i.rest) cut;
-      count_is = omega (arith, c.saturating_add-count.ensures, i.count_is, wrote.count, ap length (records_more world i.done key (drop 1 i.rest) cut), length-append (records_at world i.done) (set_records key (set_at world key)));
-      told = told_set world i.done key (drop 1 i.rest) cut _ _ _ i.told wrote.ok;
-      good = c.in_ok-put_set.ensures.failures ∙ i.good;
-    }
-
-pub returns-in-Ok-clause-count : goal.returns-in-Ok-clause-count
-returns-in-Ok-clause-count g c =
-    let i = c.keys.invariant in
-    rw (all_keys c.args.owner.now.world i.done i.rest i.cut (ended i.rest (sym (ap option_copied c.in_default.is) ∙ i.next_is))) at i.count_is
-
-pub returns-in-Ok-clause-told : goal.returns-in-Ok-clause-told
-returns-in-Ok-clause-told g c =
-    let i = c.keys.invariant in
-    c.in-Ok.ensures.told ∙ (rw (all_keys c.args.owner.now.world i.done i.rest i.cut (ended i.rest (sym (ap option_copied c.in_default.is) ∙ i.next_is))) at i.told)
-
-pub returns-in-Err-clause-refused : goal.returns-in-Err-clause-refused
-returns-in-Err-clause-refused g c =
-    let i = c.keys.invariant in
-    front_of_image c.args.owner.now.world i.done i.rest _ _ i.cut (c.in-Err.ensures.told ∙ i.told)
+pub returns-clause-refused : goal.returns-clause-refused
+returns-clause-refused g c =
+    err_map c.put_sets.result (front_behind _ _ _ (request header) (text_of (dump c.args.owner.now.world)) c.in_ok-put_header.ensures.ok) c.put_sets.ensures.refused

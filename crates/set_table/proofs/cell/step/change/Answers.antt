@@ -1,6 +1,6 @@
 use Rattle.std.proofs.Common.{◌≡◌, ◌∙◌}
 use Rattle.resp_wire.specs.Response.{response_of}
-use Rattle.set_table.proofs.StepLemmas.{hinders, moved, stayed}
+use Rattle.set_table.proofs.StepLemmas.{becomes_other, hinders, moved, stayed}
 use Rattle.set_table.proofs.cell.step.change.Goals as goal
 use Rattle.set_table.proofs.cell.step.change.Goals.{then-outline+in_default, else-outline}
 
@@ -18,3 +18,7 @@ returns-clause-logged g c =
       | then-outline+in_default w ↦ moved m new c.args.command.now.meaning (λ n. response_of c.commit-reply.result ≡ n.reply) o next c.args.share.now _ c.in_ok-outline.ensures.ok c.in_ok-outline.ensures.outline c.commit-reply.ensures.made w.if-outline.true (w.share-is ∙ w.in_default.ensures.share)
       | else-outline w ↦ stayed m new c.args.command.now.meaning (λ n. response_of c.commit-reply.result ≡ n.reply) o next c.args.share.now _ c.in_ok-outline.ensures.ok c.in_ok-outline.ensures.outline c.commit-reply.ensures.made w.if-outline.false w.share-is
     ]
+
+pub append-requires-clause-changes : goal.append-requires-clause-changes
+append-requires-clause-changes g c =
+    becomes_other c.in_ok-outline.outline c.args.set.now.members c.prepare.new.self.members c.prepare.new.self.next c.in_ok-outline.ensures.outline c.in_ok-outline.ensures.members c.if-outline.true

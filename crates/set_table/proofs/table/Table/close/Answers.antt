@@ -58,8 +58,8 @@ returns-clause-missing g c = (
 
 pub returns-in-Some-clause-cells : goal.returns-in-Some-clause-cells
 returns-in-Some-clause-cells g c =
-    cells_permuted c.args.passes.items c.put_in_order.new.passes.items (permuted _ _ _ c.compare_names.ensures.same c.put_in_order.ensures.same) (length c.args.self.opened) c.in-Some.closed.0.members c.in-Some.closed.0.records c.in-Some.ensures.cells
+    cells_permuted c.args.passes.items c.put_in_order.new.passes.items (permuted _ _ _ c.compare_names.ensures.same c.put_in_order.ensures.same) c.args.self.max_runs (length c.args.self.opened) c.in-Some.closed.0.members c.in-Some.closed.0.records c.in-Some.ensures.cells
 
 pub returns-clause-out_of_step : goal.returns-clause-out_of_step
 returns-clause-out_of_step g c = λ e.
-    out_of_step_permuted c.args.passes.items c.put_in_order.new.passes.items c.args.self.opened c.args.self.records_before (permuted _ _ _ c.compare_names.ensures.same c.put_in_order.ensures.same) c.in-None.ensures.none
+    out_of_step_permuted c.args.passes.items c.put_in_order.new.passes.items c.args.self.max_runs c.args.self.opened c.args.self.records_before (permuted _ _ _ c.compare_names.ensures.same c.put_in_order.ensures.same) c.in-None.ensures.none

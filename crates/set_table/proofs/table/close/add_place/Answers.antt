@@ -37,6 +37,7 @@ returns-clause-cell g c =
     record {
       agrees = record {
         whole = c.numbers-numbers.ensures.whole;
+        runs = omega (arith, ap (λ (r : CellNumbers). r.max_runs) n, c.if-numbers-max_runs.false);
         as_many = omega (arith, has, c.len.ensures, c.args.passes.now.ok);
         in_step = c.all_in_step.ensures.0 (search (rules, c.if-not-all_in_step.false));
       };

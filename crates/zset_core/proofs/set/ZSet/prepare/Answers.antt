@@ -1,5 +1,7 @@
-use Rattle.std.proofs.Common.{◌∙◌, sym, ap}
+use Rattle.std.proofs.Common.{◌∙◌, sym, ap, subst}
 use Rattle.zset_core.specs.AbstractCommand.{Asked, range_to_remove}
+use Rattle.zset_core.specs.ChangeEffect.{names_in}
+use Rattle.zset_core.specs.Plan.{Moves}
 use Rattle.zset_core.specs.MembersWithStagedScores.{current_score, members_by}
 use Rattle.zset_core.specs.Semantics.{step}
 use Rattle.zset_core.proofs.Planning.{IsIdle-of, IsPlanned-made, members_idle, outline_left, few_added, column_shown, still_shown}
@@ -12,6 +14,7 @@ invariant_of-self-2 g c =
     (IsIdle-of old c.self.inside.column c.self.inside.prepared c.args.self.now c.self.view_is c.requires.idle c.self.invariant)
     c.in_ok-plan.ensures.ok c.in_ok-plan.ensures.content c.in_ok-plan.ensures.ready
     (c.in_ok-plan.ensures.range ∙ ap (λ (asked : Asked). range_to_remove asked.meaning) (sym c.of-asked.ensures))
+    (subst (λ (asked : Asked). Moves old c.make_plan.new.members.entries c.in_ok-plan.plan (names_in asked.meaning) (step (members_by current_score old) c.args.command.now.meaning)) (sym c.of-asked.ensures) c.in_ok-plan.ensures.moved)
 
 pub returns-clause-outline : goal.returns-clause-outline
 returns-clause-outline g c =

@@ -1,10 +1,11 @@
-use Rattle.std.proofs.Common.{◌∙◌, sym, ap, subst, refl, Some, ℤ, w64, to_z, of_z, to_z-of_z}
+use Rattle.std.proofs.Common.{◌∙◌, ◌∷◌, [], List, length, length-append, sym, ap, subst, refl, Some, ℤ, w64, to_z, of_z, to_z-of_z}
 use Rattle.std.specs.FinMap as map
 use Rattle.indexmap.proofs.CallerLemmas.{insert_entry-new}
-use Rattle.zset_core.specs.MembersWithStagedScores.{staged_score, members_by, slot_at, same_bytes, Grows, IsWaiting}
+use Rattle.zset_core.specs.MembersWithStagedScores.{Entry, staged_score, members_by, name_at, slot_at, same_bytes, Grows, IsWaiting}
 use Rattle.zset_core.specs.declared.set.members_with_staged_scores.ScoreSlot.{ScoreSlot}
 use Rattle.zset_core.proofs.Bridge.{updates_bytes, one_put}
 use Rattle.zset_core.proofs.Staging.{Grows-push, IsWaiting-push}
+use Rattle.zset_core.proofs.Naming.{name_push, name_last}
 use Rattle.zset_core.proofs.set.draft.put_new.Goals as goal
 
 pub returns-clause-staged : goal.returns-clause-staged
@@ -33,3 +34,33 @@ returns-clause-waiting g c places w =
     let slot : ScoreSlot = record { current = z; staged = z } in
     let absent = ap (slot_at old) c.in_ok-key.ensures.bytes ∙ c.requires.absent in
     subst (IsWaiting places) (sym (c.in_ok-insert.ensures.entries ∙ insert_entry-new same_bytes c.args.members.now key slot absent)) (IsWaiting-push places old (key, slot) refl w)
+
+pub returns-clause-longer : goal.returns-clause-longer
+returns-clause-longer g c =
+    let old = c.args.members.now.entries in
+    let key = c.in_ok-key.key in
+    let z : ℤ = to_z w64 (of_z w64 c.args.score) in
+    let slot : ScoreSlot = record { current = z; staged = z } in
+    let absent = ap (slot_at old) c.in_ok-key.ensures.bytes ∙ c.requires.absent in
+    let is = c.in_ok-insert.ensures.entries ∙ insert_entry-new same_bytes c.args.members.now key slot absent in
+    ap (λ (es : List Entry). length es) is ∙ length-append old ((key, slot) ∷ [])
+
+pub returns-clause-place : goal.returns-clause-place
+returns-clause-place g c =
+    let old = c.args.members.now.entries in
+    let key = c.in_ok-key.key in
+    let z : ℤ = to_z w64 (of_z w64 c.args.score) in
+    let slot : ScoreSlot = record { current = z; staged = z } in
+    let absent = ap (slot_at old) c.in_ok-key.ensures.bytes ∙ c.requires.absent in
+    let is = c.in_ok-insert.ensures.entries ∙ insert_entry-new same_bytes c.args.members.now key slot absent in
+    ap (λ (es : List Entry). name_at es (length old)) is ∙ name_last old (key, slot) ∙ c.in_ok-key.ensures.bytes
+
+pub returns-clause-names : goal.returns-clause-names
+returns-clause-names g c p lt =
+    let old = c.args.members.now.entries in
+    let key = c.in_ok-key.key in
+    let z : ℤ = to_z w64 (of_z w64 c.args.score) in
+    let slot : ScoreSlot = record { current = z; staged = z } in
+    let absent = ap (slot_at old) c.in_ok-key.ensures.bytes ∙ c.requires.absent in
+    let is = c.in_ok-insert.ensures.entries ∙ insert_entry-new same_bytes c.args.members.now key slot absent in
+    ap (λ (es : List Entry). name_at es p) is ∙ name_push old (key, slot) p lt

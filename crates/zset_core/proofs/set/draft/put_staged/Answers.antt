@@ -3,7 +3,8 @@ use Rattle.std.specs.FinMap as map
 use Rattle.indexmap.specs.IndexMap.{set_value_at}
 use Rattle.zset_core.specs.MembersWithStagedScores.{staged_score, current_score, members_by, IsWaiting}
 use Rattle.zset_core.specs.declared.set.members_with_staged_scores.ScoreSlot.{ScoreSlot}
-use Rattle.zset_core.proofs.Staging.{members_written, Grows-written, IsWaiting-written, score_at_place}
+use Rattle.zset_core.proofs.Staging.{members_written, length_written, Grows-written, IsWaiting-written, score_at_place}
+use Rattle.zset_core.proofs.Naming.{names_written}
 use Rattle.zset_core.proofs.set.draft.put_staged.Goals as goal
 
 pub returns-clause-staged : goal.returns-clause-staged
@@ -24,3 +25,11 @@ returns-clause-waiting g c =
     let w : ScoreSlot = record { current = to_z w64 (of_z w64 c.index.result.now.current); staged = to_z w64 (of_z w64 c.args.score) } in
     let es = c.args.members.now.entries in
     subst (λ (ps : List ℕ). IsWaiting ps (set_value_at es c.args.place w)) (sym c.in_ok-push.ensures.items) (IsWaiting-written c.args.touched.now.items es c.args.place w c.requires.within c.requires.waiting)
+
+pub returns-clause-names : goal.returns-clause-names
+returns-clause-names g c places =
+    names_written c.args.members.now.entries c.args.place (record { current = to_z w64 (of_z w64 c.index.result.now.current); staged = to_z w64 (of_z w64 c.args.score) }) places
+
+pub returns-clause-len : goal.returns-clause-len
+returns-clause-len g c =
+    length_written c.args.members.now.entries c.args.place (record { current = to_z w64 (of_z w64 c.index.result.now.current); staged = to_z w64 (of_z w64 c.args.score) })

@@ -6,6 +6,7 @@ use Rattle.zset_core.specs.MembersWithStagedScores.{current_score, staged_score,
 use Rattle.zset_core.proofs.Outlines.{nothing_outline}
 use Rattle.zset_core.proofs.Staging.{members_same, Grows-self, IsWaiting-none}
 use Rattle.zset_core.proofs.Bags.{NeedsAtMost-removed, Turns-none}
+use Rattle.zset_core.proofs.Gathered.{IsCounted-none, moved_none}
 use Rattle.zset_core.proofs.set.plan.plan_nothing.Goals as goal
 
 pub returns-clause-plan : goal.returns-clause-plan
@@ -27,3 +28,9 @@ returns-clause-plan g c =
 
 pub returns-clause-rows : goal.returns-clause-rows
 returns-clause-rows g c = NeedsAtMost-removed 0 _ c.new.ensures.coming c.new.ensures.leaving (omega (arith, ap length c.new-2.ensures.empty))
+
+pub returns-clause-counted : goal.returns-clause-counted
+returns-clause-counted g c = IsCounted-none c.new.result c.args.members.now.entries (c.new.ensures.kept ∙ c.len.ensures.len) c.new.ensures.leading c.new.ensures.moved
+
+pub returns-clause-moved : goal.returns-clause-moved
+returns-clause-moved g c = moved_none c.new.result c.new.ensures.leading c.new.ensures.moved

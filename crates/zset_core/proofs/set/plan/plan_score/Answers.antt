@@ -1,4 +1,4 @@
-use Rattle.std.proofs.Common.{◌≡◌, ◌∙◌, List, length, refl, sym, ap, arith, true, ℕ, ℤ, subst, w64, to_z, of_z, to_z-of_z}
+use Rattle.std.proofs.Common.{◌++◌, ◌≡◌, ◌∙◌, List, length, refl, sym, ap, arith, true, ℕ, ℤ, subst, w64, to_z, of_z, to_z-of_z}
 use Rattle.std.specs.FinMap as map
 use Rattle.zset_core.specs.SortedSet.{Members}
 use Rattle.zset_core.specs.RowEdits.{most_edits}
@@ -6,8 +6,11 @@ use Rattle.zset_core.specs.Semantics.{counted, put_one, remove_all, increase_rep
 use Rattle.zset_core.specs.MembersWithStagedScores.{current_score, staged_score, members_by, names_at, IsWithin}
 use Rattle.zset_core.proofs.Outlines.{outline_same, before, before_grown}
 use Rattle.zset_core.proofs.Staging.{members_same}
-use Rattle.zset_core.proofs.Bags.{NeedsAtMost-noted, Turns-between}
+use Rattle.zset_core.proofs.Bags.{NeedsAtMost-noted, Notes-same, Turns-between}
 use Rattle.zset_core.proofs.PairSteps.{counted_one}
+use Rattle.zset_core.specs.NotedNames.{mention}
+use Rattle.zset_core.proofs.Gathered.{IsLed-none, moved_between, noted_none}
+use Rattle.zset_core.proofs.Naming.{moved_mention}
 use Rattle.zset_core.proofs.set.plan.plan_score.Goals as goal
 
 pub returns-in-Ok-clause-ok : goal.returns-in-Ok-clause-ok
@@ -19,18 +22,19 @@ returns-in-Ok-clause-ok g c =
     ∙ ap (put_one c.args.flags (members_by current_score old) c.args.member.now) (to_z-of_z c.ranges.score) in
     let new = c.stage_increase.new.members.entries in
     let written = counted true (outcome_of c.args.flags (map.get (members_by staged_score old) c.args.member.now) z) in
+    let noted = Notes-same written (members_by staged_score old) (members_by staged_score new) c.new-draft.result.edits c.stage_increase.new.self.edits c.settle_moved.new.self.edits c.settle_moved.ensures.edits c.in-Ok.ensures.edits in
     let is = ap (λ (gone : List ℕ). remove_all (members_by staged_score new) (names_at new gone)) c.new.ensures.empty ∙ left in
     record {
-      kept = c.stage_increase.ensures.kept ∙ c.new-draft.ensures.kept ∙ c.len.ensures.len;
+      kept = c.settle_moved.ensures.kept ∙ c.stage_increase.ensures.kept ∙ c.new-draft.ensures.kept ∙ c.len.ensures.len;
       grows = c.stage_increase.ensures.grows;
-      waiting = c.stage_increase.ensures.waiting;
+      waiting = c.settle_moved.ensures.waiting;
       members_are = is;
-      edits_are = Turns-between written (members_by staged_score old) (members_by current_score old) (members_by staged_score new) (members_by staged_score new) c.new-draft.result.edits c.stage_increase.new.self.edits same refl c.new-draft.ensures.coming c.new-draft.ensures.leaving c.in-Ok.ensures.edits;
+      edits_are = Turns-between written (members_by staged_score old) (members_by current_score old) (members_by staged_score new) (members_by staged_score new) c.new-draft.result.edits c.settle_moved.new.self.edits same refl c.new-draft.ensures.coming c.new-draft.ensures.leaving noted;
       removed_are = subst (IsWithin (length new)) (sym c.new.ensures.empty) tt;
       few_rows = NeedsAtMost-noted written most_edits (members_by staged_score old) (members_by staged_score new) c.new-draft.result.edits _ c.new-draft.ensures.coming c.new-draft.ensures.leaving c.new.ensures.empty
-          (omega (arith, counted_one true (outcome_of c.args.flags (map.get (members_by staged_score old) c.args.member.now) z))) c.in-Ok.ensures.edits;
-      outline_is = outline_same c.outline_staged-outline.result (before new c.stage_increase.new.self.kept) (members_by current_score old) (members_by staged_score new) (put_one c.args.flags (members_by current_score old) c.args.member.now c.args.score)
-          (before_grown old new c.stage_increase.new.self.kept (c.stage_increase.ensures.kept ∙ c.new-draft.ensures.kept ∙ c.len.ensures.len) c.stage_increase.ensures.grows) left c.outline_staged-outline.ensures;
+          (omega (arith, counted_one true (outcome_of c.args.flags (map.get (members_by staged_score old) c.args.member.now) z))) noted;
+      outline_is = outline_same c.outline_staged-outline.result (before new c.settle_moved.new.self.kept) (members_by current_score old) (members_by staged_score new) (put_one c.args.flags (members_by current_score old) c.args.member.now c.args.score)
+          (before_grown old new c.settle_moved.new.self.kept (c.settle_moved.ensures.kept ∙ c.stage_increase.ensures.kept ∙ c.new-draft.ensures.kept ∙ c.len.ensures.len) c.stage_increase.ensures.grows) left c.outline_staged-outline.ensures;
       reply_is = c.in-Ok.ensures.reply ∙ ap (λ (m : Members). increase_reply (outcome_of c.args.flags (map.get m c.args.member.now) z) z) same
           ∙ ap (λ s. increase_reply (outcome_of c.args.flags (map.get (members_by current_score old) c.args.member.now) s) s) (to_z-of_z c.ranges.score);
     }
@@ -45,4 +49,26 @@ returns-in-Ok-clause-rows g c =
     ap (λ (m : Members). counted true (outcome_of c.args.flags (map.get m c.args.member.now) z)) (members_same old c.requires)
     ∙ ap (λ s. counted true (outcome_of c.args.flags (map.get (members_by current_score old) c.args.member.now) s)) (to_z-of_z c.ranges.score) in
     NeedsAtMost-noted written _ (members_by staged_score old) (members_by staged_score new) c.new-draft.result.edits _ c.new-draft.ensures.coming c.new-draft.ensures.leaving c.new.ensures.empty
-    (omega (arith, same)) c.in-Ok.ensures.edits
+    (omega (arith, same))
+    (Notes-same written (members_by staged_score old) (members_by staged_score new) c.new-draft.result.edits c.stage_increase.new.self.edits c.settle_moved.new.self.edits c.settle_moved.ensures.edits c.in-Ok.ensures.edits)
+
+pub returns-in-Ok-clause-moved : goal.returns-in-Ok-clause-moved
+returns-in-Ok-clause-moved g c =
+    let old = c.args.members.now.entries in
+    let new = c.stage_increase.new.members.entries in
+    let f = c.args.flags in
+    let q = c.args.member.now in
+    let same = members_same old c.requires in
+    let z : ℤ = to_z w64 (of_z w64 c.args.score) in
+    let was : Members = members_by current_score old in
+    let is : Members = put_one f was q c.args.score in
+    let left = c.in-Ok.ensures.staged ∙ ap (λ (m : Members). put_one f m q z) same ∙ ap (put_one f was q) (to_z-of_z c.ranges.score) in
+    let first = before_grown old new c.stage_increase.new.self.kept (c.stage_increase.ensures.kept ∙ c.new-draft.ensures.kept ∙ c.len.ensures.len) c.stage_increase.ensures.grows in
+    let named = c.in-Ok.ensures.named ∙ ap (λ (l : List ℕ). names_at old l ++ mention f (members_by staged_score old) q) (noted_none c.new-draft.result c.new-draft.ensures.leading c.new-draft.ensures.touched) ∙ ap (λ (m : Members). mention f m q) same in
+    record {
+      counted = c.settle_moved.ensures.counted;
+      names_are = c.settle_moved.ensures.names ∙ moved_between (before new c.stage_increase.new.self.kept) was (members_by staged_score new) is _ (mention f was q) first left named ∙ moved_mention f was q c.args.score;
+    }
+
+pub stage_increase-requires-clause-led : goal.stage_increase-requires-clause-led
+stage_increase-requires-clause-led g c = IsLed-none c.new-draft.result (length c.args.members.now.entries) (c.new-draft.ensures.kept ∙ c.len.ensures.len) c.new-draft.ensures.leading

@@ -10,6 +10,7 @@ use Rattle.zset_core.proofs.Staging.{members_same, Grows-self, IsWaiting-none}
 use Rattle.zset_core.proofs.Bags.{NeedsAtMost-removed, Turns-none}
 use Rattle.zset_core.proofs.RangeRows.{Holds-same, SameBag-range, length_listing}
 use Rattle.zset_core.proofs.RangeRemoval.{range_outline}
+use Rattle.zset_core.proofs.Gathered.{IsCounted-none, moved_none}
 use Rattle.zset_core.proofs.set.range_removal.plan_range.Goals as goal
 
 pub returns-clause-ok : goal.returns-clause-ok
@@ -53,3 +54,9 @@ returns-clause-selected g c =
       empty = λ none. (selected.empty none).0;
       still = selected.still;
     }
+
+pub returns-clause-counted : goal.returns-clause-counted
+returns-clause-counted g c = IsCounted-none c.new.result c.args.members.now.entries (c.new.ensures.kept ∙ c.len.ensures.len) c.new.ensures.leading c.new.ensures.moved
+
+pub returns-clause-moved : goal.returns-clause-moved
+returns-clause-moved g c = moved_none c.new.result c.new.ensures.leading c.new.ensures.moved

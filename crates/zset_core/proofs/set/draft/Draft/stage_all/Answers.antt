@@ -1,11 +1,26 @@
-use Rattle.std.proofs.Common.{◌∙◌, ◌+◌, ◌*◌, sym, ap, rules, arith, ℤ, pos, drop, get_or, SFits, w64, to_z, of_z, to_z-of_z, true}
+use Rattle.std.proofs.Common.{◌∙◌, ◌+◌, ◌*◌, refl, sym, ap, rules, arith, ℤ, pos, drop, get_or, SFits, w64, to_z, of_z, to_z-of_z, true}
 use Rattle.zset_core.specs.ParsedArguments.{scored}
+use Rattle.zset_core.specs.NotedNames.{noted_places}
 use Rattle.zset_core.specs.Semantics.{counted, count_all}
-use Rattle.zset_core.specs.MembersWithStagedScores.{staged_score, members_by}
+use Rattle.zset_core.specs.MembersWithStagedScores.{staged_score, members_by, names_at}
 use Rattle.zset_core.proofs.PairSteps.{pairs_step, put_step, count_step, counted_one}
-use Rattle.zset_core.proofs.Staging.{Grows-then}
+use Rattle.zset_core.proofs.Staging.{Grows-self, Grows-then}
 use Rattle.zset_core.proofs.Bags.{Notes-then, Notes-more}
+use Rattle.zset_core.proofs.Naming.{mentions_step}
 use Rattle.zset_core.proofs.set.draft.Draft.stage_all.Goals as goal
+
+pub loop-index-init : goal.loop-index-init
+loop-index-init g c = record {
+  few = omega arith;
+  edits = (0, record { bags = λ p. omega arith; coming = omega arith; leaving = omega arith }, omega arith);
+  count = omega arith;
+  staged = refl;
+  led = c.requires.led;
+  named = refl;
+  waiting = c.requires.waiting;
+  kept = refl;
+  grows = Grows-self c.args.members.now.entries;
+}
 
 pub loop-index-preserved : goal.loop-index-preserved
 loop-index-preserved g c =
@@ -33,6 +48,8 @@ loop-index-preserved g c =
         Notes-then written (counted true c.in_ok-what.what) (members_by staged_score c.args.members.now.entries) old new c.args.self.now.edits c.loop-index.self.edits c.stage_one.new.self.edits noted.1 c.in_ok-what.ensures.edits,
         count_step c.args.flags true old new z m ps rest written (counted true c.in_ok-what.what) _ is c.in_ok-what.ensures.staged (ap (counted true) c.in_ok-what.ensures.outcome) noted.2,
       );
+      led = c.in_ok-what.ensures.led;
+      named = mentions_step c.args.flags old new z m ps rest (names_at c.loop-index.members.entries (noted_places c.loop-index.self)) (names_at c.stage_one.new.members.entries (noted_places c.stage_one.new.self)) _ is c.in_ok-what.ensures.staged c.in_ok-what.ensures.named c.loop-index.invariant.named;
       kept = c.stage_one.ensures.kept ∙ c.loop-index.invariant.kept;
       waiting = c.stage_one.ensures.waiting;
       grows = Grows-then c.args.members.now.entries c.loop-index.members.entries c.stage_one.new.members.entries c.loop-index.invariant.grows c.stage_one.ensures.grows;

@@ -1,0 +1,8 @@
+use Rattle.session_core.specs.Interleaved.{Moves}
+use Rattle.connections.proofs.many.Connections.serve_ready.Given as goal
+
+abbrev pub invariant-loop-place : goal.invariant-loop-place
+invariant-loop-place g l = record {
+  settled : g.E.Exec.settled l.exec;
+  moves : Moves g.E.Exec.allows l.fn.exec l.exec;
+}

@@ -1,0 +1,61 @@
+-- What is known of a connection that is served turn by turn, among others.
+use Rattle.std.specs.Prelude.{◌≡◌, ℕ, ◌+◌, ◌*◌, ◌≤◌, ◌⊎◌, ◌^◌, List, [], length, Option, None, Result, Err}
+use Rattle.resp_wire.specs.DecoderView.{DecoderView}
+use Rattle.resp_wire.specs.Response.{Response}
+use Rattle.zset_core.specs.AbstractCommand.{Asked}
+use Rattle.zset_core.specs.declared.refusal.Refusal.{Refusal}
+use Rattle.session_core.specs.declared.fault.SessionFault.TheVariants.{NoMemory, TooManyReads}
+use Rattle.session_core.specs.declared.session.Progress.{Progress}
+use Rattle.session_core.specs.SessionEnd.{Served}
+use Rattle.session_core.specs.ServeSteps.{IsBetweenReads, Underway, fed}
+use Rattle.session_core.specs.Interleaved.{PartWay, Talk}
+use Rattle.connections.specs.declared.visit.Stage.{Stage}
+use Rattle.connections.specs.declared.visit.Stage.TheVariants.{Reads, Runs, Ended}
+
+-- a session can go on, and its numbers are small: so many pieces came, of 65,536 bytes at most
+pub record IsOpen (wire : DecoderView) (progress : Progress) (pieces : ℕ) : Type 0 where
+  pub ready : IsBetweenReads wire progress
+  pub bytes : wire.taken + length wire.held ≤ pieces * 65536
+
+-- a visit that has not ended can go on
+pub record IsSound (stage : Stage) (wire : DecoderView) (progress : Progress) (pieces : ℕ) : Type 0 where
+  pub reads : stage ≡ Reads → IsOpen wire progress pieces
+  pub runs : stage ≡ Runs → IsOpen wire progress pieces
+  pub few : pieces ≤ 2 ^ 40
+  -- a source is told to be read too often only after the most reads of it
+  pub many : stage ≡ Ended (Err TooManyReads) → 2 ^ 40 ≤ pieces
+
+-- a piece was fed, or there was no memory for it
+abbrev pub IsTaken : List ℕ → Stage → DecoderView → DecoderView → Type 0
+IsTaken piece stage old new = ((stage ≡ Runs) × (new ≡ fed old piece)) ⊎ (stage ≡ Ended (Err NoMemory))
+
+-- what a visit shows of itself: how far it is, the bytes of its devices as far as they are known, and its session
+pub record VisitState : Type 0 where
+  pub stage : Stage
+  pub source : Option (List ℕ)
+  pub drain : Option (List ℕ)
+  pub wire : DecoderView
+  pub progress : Progress
+
+module _ {S : Type 0} (allows : S → Asked → Result Response Refusal → S → Type 0) (start : S) (source₀ drain₀ : Option (List ℕ)) where
+  -- how a visit stands that began with these devices and this state of what it shares with others: all that was read is
+  -- answered, or a part, or it has ended as a session ends that is served alone, its exchanges standing among theirs
+  abbrev StandsAt : Stage → Option (List ℕ) → Option (List ℕ) → S → DecoderView → Progress → Type 0
+  StandsAt Reads source drain here wire progress = Underway (Talk allows) start source₀ source drain₀ drain here wire progress
+  StandsAt Runs source drain here wire progress = PartWay (Talk allows) start source₀ source drain₀ drain here wire progress
+  StandsAt (Ended result) source drain here wire progress = Served (Talk allows) start source₀ source drain₀ drain result here
+
+  abbrev pub Stands : VisitState → S → Type 0
+  Stands visit here = StandsAt visit.stage visit.source visit.drain here visit.wire visit.progress
+
+abbrev pub state : Stage → Option (List ℕ) → Option (List ℕ) → DecoderView → Progress → VisitState
+state stage source drain wire progress = record { stage = stage; source = source; drain = drain; wire = wire; progress = progress }
+
+-- a visit that has not begun
+abbrev pub new_state : Option (List ℕ) → Option (List ℕ) → VisitState
+new_state source drain = state Reads source drain (record { held = []; taken = 0; fault = None }) (record { requests = 0; out = 0 })
+
+module _ {S : Type 0} (allows : S → Asked → Result Response Refusal → S → Type 0) where
+  -- whatever is known of a visit holds on, with what was done in between
+  abbrev pub GoesOn : VisitState → S → VisitState → S → Type 0
+  GoesOn old here new there = (start : S) (source₀ drain₀ : Option (List ℕ)) → Stands allows start source₀ drain₀ old here → Stands allows start source₀ drain₀ new there

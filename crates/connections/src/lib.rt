@@ -1,0 +1,20 @@
+//! The connections of one worker: many of them, each of which is served while it is ready.
+//!
+//! A worker goes from one ready connection to the next. The turn of each is bounded, so that none
+//! holds up the others: one read, [`MOST_REQUESTS`] requests, [`MOST_HELD`] bytes of replies and
+//! [`MOST_MILLIS`] milliseconds. What a peer does not take is held, and meanwhile nothing is read from it nor run
+//! for it.
+#![tactic(auto)]
+
+mod buffers;
+mod many;
+mod slots;
+mod sockets;
+mod visit;
+mod watch;
+
+pub use buffers::Buffers;
+pub use many::Connections;
+pub use sockets::{descriptor_limit, keep_alive};
+pub use visit::{MOST_HELD, MOST_MILLIS, MOST_REQUESTS, Next, Stage, Visit};
+pub use watch::{Ringer, Watched};

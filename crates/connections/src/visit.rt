@@ -1,0 +1,293 @@
+//! One connection of many.
+
+ghost use Rattle.std.specs.Prelude.{◌≡◌, ◌≤◌, ◌<◌, ◌^◌, length};
+ghost use Rattle.session_core.specs.Interleaved.{Moves};
+ghost use Rattle.connections.specs.declared.visit.Stage.TheVariants.{Reads, Runs};
+ghost use Rattle.connections.specs.VisitSteps.{IsSound, IsTaken, GoesOn, state, new_state};
+
+use crate::buffers::Buffers;
+use resp_wire::{ByteDrain, ByteSource, MAX_READS, Outbox, PolledDrain, PolledSource};
+use session_core::{Ended, Exec, Session, SessionFault, takes_turns};
+use std::alloc::Allocator;
+use std::time::{Clock, Instant};
+
+/// How many requests of one connection are run before the others have their turn.
+pub const MOST_REQUESTS: u32 = 128;
+
+/// With so many bytes of replies that are on their way a connection's turn ends.
+pub const MOST_HELD: usize = 65_536;
+
+/// After so many milliseconds a connection's turn ends, with the request that is being run.
+pub const MOST_MILLIS: u128 = 1;
+
+/// How far a visit is.
+#[derive(Clone, Copy, Debug, PartialEq, Eq)]
+pub enum Stage {
+    /// All requests that were read whole are answered.
+    Reads,
+    /// Requests that were read may be left to run.
+    Runs,
+    /// The session has ended. Replies may be left to send.
+    Ended(Result<Ended, SessionFault>),
+}
+
+/// What follows a turn.
+#[derive(Clone, Copy, Debug, PartialEq, Eq)]
+pub enum Next {
+    /// Nothing can be done before the device is ready again.
+    Waits,
+    /// More can be done at once.
+    Again,
+    /// The connection has ended.
+    Ends,
+}
+
+/// A connection: its session, where its bytes come from, and its replies on their way.
+#[derive(Drop)]
+pub struct Visit<S, D, A: Allocator> {
+    session: Session<A>,
+    source: S,
+    outbox: Outbox<D, A>,
+    stage: Stage,
+    /// How many pieces were read.
+    pieces: u64,
+    /// It is noted when the device becomes ready.
+    is_watched: bool,
+    /// The last read left nothing to read, and nothing was noted since.
+    is_drained: bool,
+    /// The peer sends no more.
+    is_closed: bool,
+    /// Bytes came or went since that was last asked.
+    has_moved: bool,
+    ghost sound: { IsSound stage session.decoder session.progress pieces },
+}
+
+impl<S: PolledSource, D: PolledDrain, A: Allocator + Copy> Visit<S, D, A> {
+    /// A connection that was just accepted. It takes no memory. One that is not watched, so that
+    /// nobody notes when its device becomes ready, is always ready.
+    pub fn new(alloc: A, source: S, drain: D, is_watched: bool) -> Self
+        ensures { (state result.stage (S.told result.source)
+            (⟦<Outbox<D, A> as ByteDrain>⟧.told result.outbox) result.session.decoder result.session.progress)
+            ≡ new_state (S.told source) (D.told drain) }
+    {
+        Visit {
+            session: Session::new(alloc),
+            source,
+            outbox: Outbox::new(alloc, drain),
+            stage: Stage::Reads,
+            pieces: 0,
+            is_watched,
+            is_drained: false,
+            is_closed: false,
+            has_moved: false,
+        }
+    }
+
+    /// Notes that the device became ready, and whether the peer sends no more.
+    pub fn note(&mut self, is_closed: bool) {
+        self.is_closed = self.is_closed || is_closed;
+        self.is_drained = false;
+    }
+
+    /// Whether bytes came or went since this was last asked.
+    pub fn take_moved(&mut self) -> bool {
+        let moved = self.has_moved;
+        self.has_moved = false;
+        moved
+    }
+
+    /// Sends what is held. None where the drain failed.
+    fn send(&mut self) -> Option<bool>
+        ensures same { (state self.new.stage (S.told self.new.source)
+            (⟦<Outbox<D, A> as ByteDrain>⟧.told self.new.outbox) self.new.session.decoder self.new.session.progress)
+            ≡ (state self.old.stage (S.told self.old.source)
+            (⟦<Outbox<D, A> as ByteDrain>⟧.told self.old.outbox) self.old.session.decoder self.old.session.progress) }
+    {
+        let before = self.outbox.len();
+        let sent = self.outbox.pump();
+        if self.outbox.len() < before {
+            self.has_moved = true;
+        }
+        sent.ok()
+    }
+
+    /// Takes a piece that was read. Its requests are to be run, or the session has ended.
+    fn take_piece(&mut self, piece: &[u8])
+        requires stage { self.old.stage ≡ Reads }
+        requires pieces { self.old.pieces < 2 ^ 40 }
+        requires short { length piece.now ≤ 65536 }
+        ensures source { S.told self.new.source ≡ S.told self.old.source }
+        ensures drain { ⟦<Outbox<D, A> as ByteDrain>⟧.told self.new.outbox ≡ ⟦<Outbox<D, A> as ByteDrain>⟧.told self.old.outbox }
+        ensures taken { IsTaken piece.now self.new.stage self.old.session.decoder
+            self.new.session.decoder }
+        ensures progress { self.new.session.progress ≡ self.old.session.progress }
+    {
+        self.pieces += 1;
+        self.has_moved = true;
+        match self.session.feed(piece) {
+            Ok(()) => self.stage = Stage::Runs,
+            Err(end) => self.stage = Stage::Ended(Err(end)),
+        }
+    }
+
+    /// Reads once. What is read is to be run, or the session has ended.
+    fn read<R, E: Exec<R, A>>(&mut self, buffer: &mut [u8], exec: &E)
+        requires reads { self.old.stage ≡ Reads }
+        requires buffer { (1 ≤ length buffer.old) × (length buffer.old ≤ 65536) }
+        ensures goes_on { GoesOn E.allows (state self.old.stage (S.told self.old.source)
+            (⟦<Outbox<D, A> as ByteDrain>⟧.told self.old.outbox) self.old.session.decoder self.old.session.progress) exec.now (state self.new.stage (S.told self.new.source)
+            (⟦<Outbox<D, A> as ByteDrain>⟧.told self.new.outbox) self.new.session.decoder self.new.session.progress) exec.now }
+        ensures buffer { length buffer.new ≡ length buffer.old }
+    {
+        takes_turns::<R, A, E>();
+        let _exec = exec;
+        if self.pieces >= MAX_READS {
+            self.stage = Stage::Ended(Err(SessionFault::TooManyReads));
+            return;
+        }
+        match self.source.read_now(buffer) {
+            Err(_) => self.stage = Stage::Ended(Err(SessionFault::ReadFault)),
+            Ok(read) => match read {
+                None => self.is_drained = true,
+                Some(0) => self.stage = Stage::Ended(Ok(self.session.ended())),
+                Some(n) => {
+                    self.is_drained = n < buffer.len() && self.is_watched && !self.is_closed;
+                    self.take_piece(&buffer[..n]);
+                }
+            },
+        }
+    }
+
+    /// Runs requests, as many as a turn may have.
+    fn run<R, C: Clock, E: Exec<R, A>>(&mut self, rt: &R, clock: &C, exec: &mut E)
+        requires settled { E.settled exec.old }
+        requires runs { self.old.stage ≡ Runs }
+        ensures settled { E.settled exec.new }
+        ensures moves { Moves E.allows exec.old exec.new }
+        ensures goes_on { GoesOn E.allows (state self.old.stage (S.told self.old.source)
+            (⟦<Outbox<D, A> as ByteDrain>⟧.told self.old.outbox) self.old.session.decoder self.old.session.progress) exec.old (state self.new.stage (S.told self.new.source)
+            (⟦<Outbox<D, A> as ByteDrain>⟧.told self.new.outbox) self.new.session.decoder self.new.session.progress) exec.new }
+    {
+        takes_turns::<R, A, E>();
+        let mut begun = None;
+        for _ in 0..MOST_REQUESTS {
+            match self.session.turn(rt, 1, &mut self.outbox, exec) {
+                Err(end) => {
+                    self.stage = Stage::Ended(Err(end));
+                    return;
+                }
+                Ok(is_all) => {
+                    if is_all {
+                        self.stage = Stage::Reads;
+                        return;
+                    }
+                }
+            }
+            if self.outbox.len() >= MOST_HELD || is_over(clock, &mut begun) {
+                return;
+            }
+        }
+    }
+
+    /// Reads where all that was read is answered.
+    fn read_due<R, E: Exec<R, A>>(&mut self, buffers: &mut Buffers<A>, exec: &E)
+        ensures goes_on { GoesOn E.allows (state self.old.stage (S.told self.old.source)
+            (⟦<Outbox<D, A> as ByteDrain>⟧.told self.old.outbox) self.old.session.decoder self.old.session.progress) exec.now (state self.new.stage (S.told self.new.source)
+            (⟦<Outbox<D, A> as ByteDrain>⟧.told self.new.outbox) self.new.session.decoder self.new.session.progress) exec.now }
+    {
+        if self.stage == Stage::Reads {
+            self.read::<R, E>(&mut buffers.input, exec);
+        }
+    }
+
+    /// Runs requests where some are held.
+    fn run_held<R, C: Clock, E: Exec<R, A>>(&mut self, rt: &R, clock: &C, exec: &mut E)
+        requires settled { E.settled exec.old }
+        ensures settled { E.settled exec.new }
+        ensures moves { Moves E.allows exec.old exec.new }
+        ensures goes_on { GoesOn E.allows (state self.old.stage (S.told self.old.source)
+            (⟦<Outbox<D, A> as ByteDrain>⟧.told self.old.outbox) self.old.session.decoder self.old.session.progress) exec.old (state self.new.stage (S.told self.new.source)
+            (⟦<Outbox<D, A> as ByteDrain>⟧.told self.new.outbox) self.new.session.decoder self.new.session.progress) exec.new }
+    {
+        if self.stage == Stage::Runs {
+            self.run(rt, clock, exec);
+        }
+    }
+
+    /// Takes the memory for replies that is shared.
+    fn lend(&mut self, buffers: &mut Buffers<A>)
+        ensures same { (state self.new.stage (S.told self.new.source)
+            (⟦<Outbox<D, A> as ByteDrain>⟧.told self.new.outbox) self.new.session.decoder self.new.session.progress)
+            ≡ (state self.old.stage (S.told self.old.source)
+            (⟦<Outbox<D, A> as ByteDrain>⟧.told self.old.outbox) self.old.session.decoder self.old.session.progress) }
+    {
+        let (text, replies) = buffers.lend();
+        self.session.lend(text);
+        self.outbox.lend(replies);
+    }
+
+    /// Gives the memory for replies back, but for what holds some.
+    fn give_back(&mut self, buffers: &mut Buffers<A>)
+        ensures same { (state self.new.stage (S.told self.new.source)
+            (⟦<Outbox<D, A> as ByteDrain>⟧.told self.new.outbox) self.new.session.decoder self.new.session.progress)
+            ≡ (state self.old.stage (S.told self.old.source)
+            (⟦<Outbox<D, A> as ByteDrain>⟧.told self.old.outbox) self.old.session.decoder self.old.session.progress) }
+    {
+        buffers.take_back(self.session.take_memory(), self.outbox.take_memory());
+    }
+
+    /// What follows, where this is what the drain took.
+    fn next(&self, sent: Option<bool>) -> Next {
+        match (sent, self.stage) {
+            (None, _) => Next::Ends,
+            (Some(false), _) => Next::Waits,
+            (Some(true), Stage::Ended(_)) => Next::Ends,
+            (Some(true), Stage::Reads) if self.is_drained => Next::Waits,
+            (Some(true), _) => Next::Again,
+        }
+    }
+
+    /// One turn: what was held is sent; then one piece is read, or requests that are left from the
+    /// last one are run, and their replies sent.
+    pub fn turn<R, C: Clock, E: Exec<R, A>>(
+        &mut self,
+        rt: &R,
+        clock: &C,
+        buffers: &mut Buffers<A>,
+        exec: &mut E,
+    ) -> Next
+        requires settled { E.settled exec.old }
+        ensures settled { E.settled exec.new }
+        // Requests were run, and no more was done to what the connections share;
+        ensures moves { Moves E.allows exec.old exec.new }
+        // they are the connection's own, in turn, and their replies stand behind those before.
+        ensures goes_on { GoesOn E.allows (state self.old.stage (S.told self.old.source)
+            (⟦<Outbox<D, A> as ByteDrain>⟧.told self.old.outbox) self.old.session.decoder self.old.session.progress) exec.old (state self.new.stage (S.told self.new.source)
+            (⟦<Outbox<D, A> as ByteDrain>⟧.told self.new.outbox) self.new.session.decoder self.new.session.progress) exec.new }
+    {
+        let cleared = self.send();
+        if cleared != Some(true) || matches!(self.stage, Stage::Ended(_)) {
+            return self.next(cleared);
+        }
+        self.lend(buffers);
+        self.read_due::<R, E>(buffers, exec);
+        self.run_held(rt, clock, exec);
+        let sent = self.send();
+        self.give_back(buffers);
+        self.next(sent)
+    }
+}
+
+/// Whether a turn's time is over. It begins with the first request that was run.
+fn is_over<C: Clock>(clock: &C, begun: &mut Option<Instant>) -> bool {
+    let Ok(now) = Instant::now(clock) else {
+        return true;
+    };
+    match begun {
+        Some(begun) => now.duration_since(*begun).as_millis() >= MOST_MILLIS,
+        None => {
+            *begun = Some(now);
+            false
+        }
+    }
+}

@@ -1,0 +1,37 @@
+-- What a command names fits into a request.
+use Rattle.std.proofs.Common.{ℕ, ◌≤◌, ℤ, List, [], ◌∷◌, length, drop, length-drop, arith}
+use Rattle.std.specs.List.{AllByRecursion}
+use Rattle.resp_wire.specs.RequestEncoding.{IsArgument, IsRequest}
+use Rattle.zset_core.specs.SortedSet.{Pair, names_of}
+use Rattle.zset_core.specs.ParsedArguments.{meaning_of, scored, IsWhole}
+use Rattle.zset_core.specs.ExpressibleWorld.{FitsRequest, IsSpelled, PutsSpelled}
+use Rattle.zset_core.specs.declared.command.parsed_arguments.Form.{Form}
+use Rattle.zset_core.specs.declared.command.parsed_arguments.Form.TheVariants.{Ping, Add, Increase, Remove, RemoveRange, Score, Card, Count, ListRange}
+use Rattle.zset_core.proofs.Bounds.{each_by_recursion, each_drop}
+
+names_spelled : (ps : List Pair) → AllByRecursion IsSpelled ps → AllByRecursion IsArgument (names_of ps)
+names_spelled [] h = tt
+names_spelled (p ∷ ps) h = (h.0.1, names_spelled ps h.1)
+
+few_scored : (scores : List ℤ) (words : List (List ℕ)) → length (scored scores words) ≤ length scores
+few_scored [] words = omega arith
+few_scored (s ∷ scores) [] = omega arith
+few_scored (s ∷ scores) (w ∷ []) = omega arith
+few_scored (s ∷ scores) (w ∷ m ∷ words) = omega (arith, few_scored scores words)
+
+pub form_fits : {A : Type 0} (words : List (List ℕ)) (form : Form A) → IsRequest words → IsWhole words form → PutsSpelled (meaning_of words form) → FitsRequest (meaning_of words form)
+form_fits words Ping request whole puts = record { each = tt; few = omega arith }
+form_fits words (Add flags changed first scores) request whole puts = record {
+  each = names_spelled (scored scores.items (drop first words)) puts;
+  few = omega (arith, request.few, whole.0, whole.2, few_scored scores.items (drop first words));
+}
+form_fits words (Increase flags given member) request whole puts = record { each = (puts.1, tt); few = omega arith }
+form_fits words Remove request whole puts = record {
+  each = each_drop 2 words (each_by_recursion words request.each);
+  few = omega (arith, request.few, whole, length-drop 2 words);
+}
+form_fits words (RemoveRange range) request whole puts = record { each = tt; few = omega arith }
+form_fits words Score request whole puts = record { each = tt; few = omega arith }
+form_fits words Card request whole puts = record { each = tt; few = omega arith }
+form_fits words (Count range) request whole puts = record { each = tt; few = omega arith }
+form_fits words (ListRange range with_scores limit) request whole puts = record { each = tt; few = omega arith }
