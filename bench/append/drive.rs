@@ -1,5 +1,5 @@
 //! Drives the bench of append files. `drive changes COUNT` writes COUNT requests, each of which changes a set, to
-//! standard output. `drive run IN_TURN PIPELINED stdio|tcp ..` sends the first IN_TURN changes one by one and
+//! standard output, `drive counters COUNT` such as counters and best scores are kept by. `drive run IN_TURN PIPELINED stdio|tcp ..` sends the first IN_TURN changes one by one and
 //! PIPELINED more at once, and prints `in_turn` and `pipelined` with the changes a second of each. `drive loaded
 //! BEGIN tcp PORT PID` waits until a Redis that was started at BEGIN (nanoseconds since 1970) answers, and
 //! `drive reload PROGRAM ARGUMENTS..` starts a server on pipes and waits until it answers: each prints the
@@ -25,6 +25,21 @@ fn change(random: &mut Random, number: u64, text: &mut Vec<u8>) {
 fn changes(random: &mut Random, from: u64, count: u64) -> Vec<u8> {
     let mut text = Vec::new();
     (from..from + count).for_each(|number| change(random, number, &mut text));
+    text
+}
+
+/// Changes by INCR, GT and XX in turn, of few members: whatever they ask for, each leaves one member with another score.
+fn counters(count: u64) -> Vec<u8> {
+    let mut text = Vec::new();
+    for number in 0..count {
+        let member = format!("player:{}", number / 3 % 1000);
+        let score = (number + 1).to_string();
+        match number % 3 {
+            0 => request(&["ZADD", "board", "INCR", "1", &member], &mut text),
+            1 => request(&["ZADD", "board", "GT", "CH", &score, &member], &mut text),
+            _ => request(&["ZADD", "board", "XX", "CH", &score, &member], &mut text),
+        }
+    }
     text
 }
 
@@ -70,6 +85,7 @@ fn main() -> io::Result<()> {
     let number = |index: usize| given[index].parse::<u64>().unwrap();
     match given[1].as_str() {
         "changes" => io::stdout().write_all(&changes(&mut Random(7), 0, number(2))),
+        "counters" => io::stdout().write_all(&counters(number(2))),
         "run" => run(number(2), number(3), &given[4..]),
         "reload" => {
             let begin = Instant::now();

@@ -1,9 +1,9 @@
 #!/bin/bash
 # The append file beside Redis's on one disk, in turns, with the same changes: changes a second that are on the
-# device before they are answered, one under way at a time and pipelined, and the reload of 1,000,000 changes in
-# milliseconds. Pipelined, Redis syncs once for all changes that it read at once, `zcrackd stdio` once for each.
-# Prints medians and their ratio (zcrackd to Redis). Redis is Debian's: apt-get install redis-server. ROUNDS is 5
-# if not given.
+# device before they are answered, one under way at a time and pipelined, the reload of 1,000,000 changes in
+# milliseconds, and the bytes of a file of counters and best scores. Pipelined, Redis syncs once for all changes that it
+# read at once, `zcrackd stdio` once for each. Prints medians and their ratio (zcrackd to Redis), and how long a file of
+# version 1 takes, which is renewed. Redis is Debian's: apt-get install redis-server. ROUNDS is 5 if not given.
 set -eu
 source "$(dirname "$0")/../common.sh"
 compile drive
@@ -26,11 +26,24 @@ start_logging no
 await_redis "$port"
 redis-cli -p "$port" --pipe < "$work/changes.append" > /dev/null
 stop_redis
+printf '*2\r\n$7\r\nZCRACKD\r\n$1\r\n2\r\n' | cat - "$work/changes.append" > "$work/effects.append"
 for round in $(seq "${ROUNDS:-5}"); do
-    "$work/drive" reload "$server" stdio --file "$work/changes.append" >> "$work/ours"
+    "$work/drive" reload "$server" stdio --file "$work/effects.append" >> "$work/ours"
+    cp "$work/changes.append" "$work/old.append"
+    "$work/drive" reload "$server" stdio --file "$work/old.append" | sed 's/^reload/renewed/' >> "$work/renewed"
     begin=$(date +%s%N)
     start_logging no
     "$work/drive" loaded "$begin" tcp "$port" "$redis" >> "$work/theirs"
     stop_redis
 done
-ratios in_turn pipelined reload members
+"$work/drive" counters "${COUNTERS:-30000}" > "$work/counters"
+rm -rf "$work/redis" && mkdir "$work/redis"
+start_logging no
+await_redis "$port"
+redis-cli -p "$port" --pipe < "$work/counters" > /dev/null
+stop_redis
+"$server" stdio --file "$work/counted.append" < "$work/counters" > /dev/null
+echo "file_of_counters $(stat -c %s "$work/counted.append")" >> "$work/ours"
+echo "file_of_counters $(cat "$work/redis"/appendonlydir/*incr* | wc -c)" >> "$work/theirs"
+ratios in_turn pipelined reload members file_of_counters
+echo "renewed: $(awk '$1 == "renewed" { print $2 }' "$work/renewed" | median) ms"

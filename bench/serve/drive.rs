@@ -1,6 +1,7 @@
-//! Clients of a server of sorted sets on loopback, each on a connection and a thread of its own:
-//! `drive WORK CONNECTIONS PIPELINED KEYS REQUESTS PORT PID`. All send PIPELINED requests, read their replies, and so on,
-//! until REQUESTS have been answered; before that, KEYS sets of 100,000 members together are loaded.
+//! Clients of a server of sorted sets on loopback, each on a connection of its own:
+//! `drive WORK CONNECTIONS PIPELINED KEYS REQUESTS PORT PID`. Up to four threads share the connections. Each thread sends
+//! PIPELINED requests on each of its connections, reads the replies of all, and so on, until REQUESTS have been answered;
+//! before that, KEYS sets of 100,000 members together are loaded.
 //!
 //! Prints the requests a second, and the processor time of the server a request in nanoseconds.
 #[path = "../client.rs"]
@@ -19,6 +20,15 @@ const MEMBERS: u64 = 100_000;
 /// Scores lie below this.
 const SCORES: u64 = 10_000_000;
 
+/// The most threads of the clients.
+const THREADS: u64 = 4;
+
+/// A connection, and what came on it.
+struct Connection {
+    stream: TcpStream,
+    replies: BufReader<TcpStream>,
+}
+
 #[derive(Clone)]
 struct Plan {
     work: String,
@@ -28,10 +38,11 @@ struct Plan {
 }
 
 impl Plan {
-    fn connect(&self) -> io::Result<TcpStream> {
+    fn connect(&self) -> io::Result<Connection> {
         let stream = TcpStream::connect(("127.0.0.1", self.port))?;
         stream.set_nodelay(true)?;
-        Ok(stream)
+        let replies = BufReader::with_capacity(1 << 16, stream.try_clone()?);
+        Ok(Connection { stream, replies })
     }
 
     fn key(&self, random: &mut Random) -> String {
@@ -57,8 +68,7 @@ impl Plan {
 
     fn load(&self) -> io::Result<()> {
         let mut random = Random(7);
-        let stream = self.connect()?;
-        let mut replies = BufReader::new(stream.try_clone()?);
+        let mut connection = self.connect()?;
         for first in (0..MEMBERS).step_by(100) {
             let mut words = vec![String::from("ZADD"), format!("board:{}", first / 100 % self.keys)];
             for member in first..first + 100 {
@@ -66,29 +76,43 @@ impl Plan {
             }
             let mut out = Vec::new();
             request(&words, &mut out);
-            (&stream).write_all(&out)?;
-            read_reply(&mut replies)?;
+            connection.stream.write_all(&out)?;
+            read_reply(&mut connection.replies)?;
         }
         Ok(())
     }
 
-    /// Sends requests and reads their replies; the number of error replies must be 0.
-    fn drive(&self, seed: u64, requests: u64, start: &Barrier) -> io::Result<()> {
+    /// Sends requests on one connection.
+    fn send(&self, connection: &mut Connection, random: &mut Random, out: &mut Vec<u8>) -> io::Result<()> {
+        out.clear();
+        for _ in 0..self.pipelined {
+            self.ask(random, out);
+        }
+        connection.stream.write_all(out)
+    }
+
+    /// Reads their replies; none may be an error.
+    fn receive(&self, connection: &mut Connection) -> io::Result<()> {
+        for _ in 0..self.pipelined {
+            if let Reply::Line(line) = read_reply(&mut connection.replies)? {
+                assert!(!line.starts_with('-'), "{line}");
+            }
+        }
+        Ok(())
+    }
+
+    /// So many rounds of requests and replies on so many connections.
+    fn drive(&self, seed: u64, connections: u64, rounds: u64, start: &Barrier) -> io::Result<()> {
         let mut random = Random(seed);
-        let stream = self.connect()?;
-        let mut replies = BufReader::with_capacity(1 << 16, stream.try_clone()?);
+        let mut connections = (0..connections).map(|_| self.connect()).collect::<io::Result<Vec<_>>>()?;
         start.wait();
         let mut out = Vec::new();
-        for _ in 0..requests / self.pipelined {
-            out.clear();
-            for _ in 0..self.pipelined {
-                self.ask(&mut random, &mut out);
+        for _ in 0..rounds {
+            for connection in &mut connections {
+                self.send(connection, &mut random, &mut out)?;
             }
-            (&stream).write_all(&out)?;
-            for _ in 0..self.pipelined {
-                if let Reply::Line(line) = read_reply(&mut replies)? {
-                    assert!(!line.starts_with('-'), "{line}");
-                }
+            for connection in &mut connections {
+                self.receive(connection)?;
             }
         }
         Ok(())
@@ -109,21 +133,23 @@ fn main() -> io::Result<()> {
     let (connections, requests, pid) = (number(1), number(4), number(6) as u32);
     let plan = Plan { work: words[0].clone(), pipelined: number(2), keys: number(3), port: number(5) as u16 };
     plan.load()?;
-    let start = Arc::new(Barrier::new(connections as usize + 1));
-    let each = requests / connections;
-    let threads: Vec<_> = (0..connections)
-        .map(|seed| {
+    let threads = connections.min(THREADS);
+    let start = Arc::new(Barrier::new(threads as usize + 1));
+    let rounds = requests / connections / plan.pipelined;
+    let clients: Vec<_> = (0..threads)
+        .map(|thread| {
             let (plan, start) = (plan.clone(), start.clone());
-            std::thread::spawn(move || plan.drive(seed + 1, each, &start))
+            let own = (connections + thread) / threads;
+            std::thread::spawn(move || plan.drive(thread + 1, own, rounds, &start))
         })
         .collect();
     start.wait();
     let (began, before) = (Instant::now(), processor_time(pid)?);
-    for thread in threads {
-        thread.join().expect("a client ends")?;
+    for client in clients {
+        client.join().expect("a client ends")?;
     }
     let seconds = began.elapsed().as_secs_f64();
-    let answered = each / plan.pipelined * plan.pipelined * connections;
+    let answered = rounds * plan.pipelined * connections;
     println!("{:.0} {}", answered as f64 / seconds, (processor_time(pid)? - before) / answered);
     Ok(())
 }

@@ -1,14 +1,16 @@
 #!/bin/bash
 # `zcrackd serve` on loopback beside a Redis there, with the same clients, in turns. For each work, pipelined or not, on
-# one key and on 64, with 1, 2 and 4 workers and as many connections: requests a second (ours to Redis's: above 1 is
-# quicker) and processor time of the server a request (ours to Redis's: below 1 is less), medians over the rounds. Behind
-# them redis-benchmark with 4 connections. Use: bench/serve/run.sh [WORK..]. Redis is Debian's: apt-get install
-# redis-server redis-tools. ROUNDS is 5 if not given, REQUESTS 200000.
+# one key and on 64, with 1, 2, 4, 50 and 200 connections, and as many workers, but 4 at most: requests a second (ours to
+# Redis's: above 1 is quicker) and processor time of the server a request (ours to Redis's: below 1 is less), medians over
+# the rounds. Behind them redis-benchmark. Use: bench/serve/run.sh [WORK..]. Redis is Debian's: apt-get install
+# redis-server redis-tools. ROUNDS is 5 if not given, REQUESTS 200000, CONNECTIONS "1 2 4 50 200", KEYS "1 64".
 set -eu
 source "$(dirname "$0")/../common.sh"
 compile drive
 works=${*:-zadd zscore zcard zcount ten_lowest ranges_of_100}
 requests=${REQUESTS:-200000}
+all_connections=${CONNECTIONS:-1 2 4 50 200}
+most_workers=4
 ours= port=
 
 start_ours() {
@@ -36,7 +38,7 @@ both() {
 # benchmark PIPELINED PORT COMMAND.. PID: requests a second by redis-benchmark
 benchmark() {
     local pipelined=$1 port=$2 command=("${@:3:$#-3}")
-    redis-benchmark -p "$port" -c 4 -P "$pipelined" -n "$requests" -r 100000 --csv "${command[@]}" 2> /dev/null |
+    redis-benchmark -p "$port" -c "$connections" -P "$pipelined" -n "$requests" -r 100000 --csv "${command[@]}" 2> /dev/null |
         awk -F'","' 'END { print $2 }'
 }
 report() {
@@ -51,22 +53,25 @@ names=
 for round in $(seq "${ROUNDS:-5}"); do
     for work_name in $works; do
         for pipelined in 1 64; do
-            for keys in 1 64; do
-                for workers in 1 2 4; do
-                    name="$work_name:P$pipelined:keys$keys:workers$workers"
-                    both "$name" "$work/drive" "$work_name" "$workers" "$pipelined" "$keys" "$requests" PORT
+            for keys in ${KEYS:-1 64}; do
+                for connections in $all_connections; do
+                    workers=$((connections < most_workers ? connections : most_workers))
+                    name="$work_name:P$pipelined:keys$keys:connections$connections"
+                    both "$name" "$work/drive" "$work_name" "$connections" "$pipelined" "$keys" "$requests" PORT
                     test "$round" -gt 1 || names="$names $name"
                 done
             done
         done
     done
-    workers=4
-    for pipelined in 1 64; do
-        both "redis-benchmark:zadd:P$pipelined" benchmark "$pipelined" PORT ZADD board __rand_int__ member:__rand_int__
-        both "redis-benchmark:zscore:P$pipelined" benchmark "$pipelined" PORT ZSCORE board member:__rand_int__
-        both "redis-benchmark:zcard:P$pipelined" benchmark "$pipelined" PORT ZCARD board
-        test "$round" -gt 1 || names="$names redis-benchmark:zadd:P$pipelined redis-benchmark:zscore:P$pipelined \
-redis-benchmark:zcard:P$pipelined"
+    workers=$most_workers
+    for connections in $all_connections; do
+        for pipelined in 1 64; do
+            end=":P$pipelined:connections$connections"
+            both "benchmark:zadd$end" benchmark "$pipelined" PORT ZADD board __rand_int__ member:__rand_int__
+            both "benchmark:zscore$end" benchmark "$pipelined" PORT ZSCORE board member:__rand_int__
+            both "benchmark:zcard$end" benchmark "$pipelined" PORT ZCARD board
+            test "$round" -gt 1 || names="$names benchmark:zadd$end benchmark:zscore$end benchmark:zcard$end"
+        done
     done
 done
 printf '%-44s %10s %10s %6s %7s\n' work zcrackd redis ratio time
