@@ -163,6 +163,22 @@ impl Work {
         }
     }
 
+    /// Takes a member out, and counts those that are left: no more than one waits to go.
+    fn remove_and_count(&mut self) {
+        let member = self.member();
+        self.put(&["ZREM", "board", &member]);
+        self.put(&["ZCOUNT", "board", "-inf", "+inf"]);
+    }
+
+    /// Changes the scores of 40 members with long names, and counts between new bounds.
+    fn change_some_and_count(&mut self) {
+        for _ in 0..40 {
+            let (score, member) = (self.score(SCORES), self.member());
+            self.put(&["ZADD", "board", &score, &format!("{member}{PADDING}")]);
+        }
+        self.count_at_new_bounds();
+    }
+
     /// Sends what was put, and gives the processor time of the server and the number of commands.
     fn send(&mut self, server: &mut Server) -> io::Result<(u128, u64)> {
         let before = processor_time(server.pid)?;
@@ -179,6 +195,9 @@ const TURNS: u64 = 10_000;
 fn turns_of(name: &str) -> u64 {
     if name.starts_with("first_") { 100 } else { TURNS }
 }
+
+/// What makes a name too long to stand in a row.
+const PADDING: &str = "________________";
 
 /// How many members are removed by ranges, in all.
 const REMOVED: u64 = 200_000;
@@ -246,6 +265,12 @@ fn put_work(work: &mut Work, name: &str) {
         let members = members.parse().unwrap();
         (0..REMOVED / members).for_each(|_| work.remove_range_of(members));
     }
+    if name == "removals_at_one_score" {
+        (0..1000).for_each(|_| work.remove_and_count());
+    }
+    if name == "first_changes_and_counts" {
+        (0..20).for_each(|_| work.change_some_and_count());
+    }
     if name == "1000_counts_at_new_bounds" {
         (0..1000).for_each(|_| work.count_at_new_bounds());
     }
@@ -254,7 +279,8 @@ fn put_work(work: &mut Work, name: &str) {
 /// What is done to the set before the work is measured.
 fn prepare(work: &mut Work, server: &mut Server, name: &str) -> io::Result<()> {
     match name {
-        "counters_by_incr" => work.load(1, ""),
+        "counters_by_incr" | "removals_at_one_score" => work.load(1, ""),
+        "first_changes_and_counts" => work.load(SCORES, PADDING),
         "two_scores" => work.load(2, ""),
         "ten_scores" => work.load(10, ""),
         "hundred_scores" => work.load(100, ""),

@@ -1,11 +1,11 @@
 ghost use Rattle.std.specs.Prelude.{◌<◌, ◌≤◌, ◌^◌};
 
-use crate::columns::{add, expect_count, expect_state};
+use crate::columns::{add, expect_count, expect_state, filled};
 use crate::removals::{expect_parted, remove};
 use crate::steps::{Step, expect_steps};
 use crack_kernel::Row;
 use ripple_column::Column;
-use score_bounds::Bound;
+use score_bounds::{Bound, Range};
 use std::alloc::{AllocError, Global};
 use std::process::Abort;
 
@@ -260,4 +260,43 @@ fn cuts_that_move_on_keep_inner_pivots(rt: HostRuntime) -> Result<(), AllocError
     let alloc = rt.alloc();
     let mut window = filled_window(alloc, 9000)?;
     expect_moved_on(&rt, alloc, &mut window.column)
+}
+
+// Counts below so many bounds, six scores apart: each is a pivot that is shown.
+fn show_pivots(column: &mut Column<Global>, count: u16) -> Result<(), AllocError> {
+    for i in 1..count {
+        column.select(&Range {
+            min: Bound::NegInf,
+            max: Bound::Excl(6 * i64::from(i)),
+        })?;
+    }
+    Ok(())
+}
+
+// How many pivots there are beside those that are shown.
+fn inner_pivots(column: &Column<Global>) -> usize {
+    column
+        .piece_list()
+        .len()
+        .saturating_sub(column.pivot_list().len())
+}
+
+// Counts at new bounds would take longer: each bound goes into two lists of pivots, as long as an inner one is left.
+fn expect_no_inner<R: Abort>(rt: &R, column: &mut Column<Global>) -> Result<(), AllocError> {
+    let all = Range {
+        min: Bound::NegInf,
+        max: Bound::PosInf,
+    };
+    column.narrow(&all, 0, 10);
+    show_pivots(column, 500)?;
+    assert!(rt; inner_pivots(column) > 0);
+    show_pivots(column, 600)?;
+    assert_eq!(rt; inner_pivots(column), 0);
+    Ok(())
+}
+
+#[test]
+fn few_inner_pivots_beside_many_are_dropped(rt: HostRuntime) -> Result<(), AllocError> {
+    let mut column = filled(rt.alloc())?;
+    expect_no_inner(&rt, &mut column)
 }

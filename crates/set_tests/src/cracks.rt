@@ -25,6 +25,54 @@ fn rows_are_cracked(rt: HostRuntime) -> Result<(), AllocError> {
     Ok(())
 }
 
+// 4,096 scores from 0 on, in no order.
+fn mixed_scores(alloc: Global) -> Result<Vec<i64>, AllocError> {
+    let mut scores = Vec::new(alloc);
+    for i in 0..4096u16 {
+        scores.push(i64::from(i) * 1021 % 4096)?;
+    }
+    Ok(scores)
+}
+
+// Whether a row of the score stands at a place.
+fn stands_at(rows: &[Row<Global>], at: usize, score: i64) -> bool {
+    match rows.get(at) {
+        None => false,
+        Some(row) => row.score() == score,
+    }
+}
+
+// How many rows stood on their side of a score's place, and how many of these stand where they stood.
+fn kept_places(scores: &[i64], rows: &[Row<Global>], place: usize, v: i64) -> (usize, usize) {
+    let mut stood = 0usize;
+    let mut kept = 0usize;
+    for (at, score) in scores.iter().enumerate() {
+        if (at < place) == (*score < v) {
+            stood = stood.saturating_add(1);
+            if stands_at(rows, at, *score) {
+                kept = kept.saturating_add(1);
+            }
+        }
+    }
+    (stood, kept)
+}
+
+// The first ranges of a long set are cracked with few moves: rows on the wrong side change places, and the others
+// stay, but for a block or two.
+#[test]
+fn rows_on_their_side_stay(rt: HostRuntime) -> Result<(), AllocError> {
+    let alloc = rt.alloc();
+    let scores = mixed_scores(alloc)?;
+    let mut rows = rows_of(alloc, &scores)?;
+    let place = crack_two(&mut rows, 2048);
+    let (stood, kept) = kept_places(&scores, &rows, place, 2048);
+    assert!(rt;
+        stood > 1000 && kept.saturating_mul(8) > stood.saturating_mul(7),
+        "{kept} of {stood}"
+    );
+    Ok(())
+}
+
 // Each score stands in this piece among ten rows.
 const PIECES: [(i64, (usize, usize)); 4] = [(1, (0, 2)), (3, (2, 6)), (5, (2, 6)), (7, (6, 10))];
 

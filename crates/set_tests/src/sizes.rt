@@ -119,6 +119,75 @@ fn the_longest_member_is_kept(rt: HostRuntime) -> Result<(), Fail> {
     expect_kept(rt.alloc(), &mut owner, &member)
 }
 
+/// Members of each length up to 299 bytes are kept.
+fn expect_each_length(alloc: Global, owner: &mut Owner) -> Result<(), Fail>
+    requires { owner.old.next ≡ None }
+{
+    for bytes in 0..300usize {
+        let member = "m".repeat(alloc, bytes)?;
+        let text = format!(in alloc; "ZADD k {bytes} {member}")?;
+        expect_one(alloc, owner, text.as_str(), ":1~")?;
+    }
+    expect_one(alloc, owner, "ZCARD k", ":300~")
+}
+
+// There is memory, so none is refused.
+#[test]
+fn members_of_each_length_are_kept(rt: HostRuntime) -> Result<(), Fail> {
+    let mut owner = new_owner(&rt)?;
+    expect_each_length(rt.alloc(), &mut owner)
+}
+
+/// From which number of names on, and before which, a removal of each is asked for: few ones, and the most.
+const NUMBERS_OF_NAMES: [(u32, u32); 2] = [(1, 100), (1_005, 1_026)];
+
+/// As many members are added as a removal of so many names takes out again.
+fn expect_number(alloc: Global, owner: &mut Owner, names: u32) -> Result<(), Fail>
+    requires { owner.old.next ≡ None }
+    ensures { owner.new.next ≡ None }
+{
+    let pairs = names.min(PAIRS);
+    let wanted = format!(in alloc; ":{pairs}~")?;
+    expect_one(
+        alloc,
+        owner,
+        addition(alloc, 0, pairs)?.as_str(),
+        wanted.as_str(),
+    )?;
+    expect_one(
+        alloc,
+        owner,
+        removal(alloc, names)?.as_str(),
+        wanted.as_str(),
+    )
+}
+
+/// The same for each number from one on and before another.
+fn expect_numbers(alloc: Global, owner: &mut Owner, from: u32, to: u32) -> Result<(), Fail>
+    requires { owner.old.next ≡ None }
+    ensures { owner.new.next ≡ None }
+{
+    for names in from..to {
+        expect_number(alloc, owner, names)?;
+    }
+    Ok(())
+}
+
+fn expect_each_number(alloc: Global, owner: &mut Owner) -> Result<(), Fail>
+    requires { owner.old.next ≡ None }
+{
+    for (from, to) in NUMBERS_OF_NAMES {
+        expect_numbers(alloc, owner, from, to)?;
+    }
+    expect_one(alloc, owner, "ZCARD k", ":0~")
+}
+
+#[test]
+fn commands_of_each_length_are_answered(rt: HostRuntime) -> Result<(), Fail> {
+    let mut owner = new_owner(&rt)?;
+    expect_each_number(rt.alloc(), &mut owner)
+}
+
 /// Commands on 120,000 members, with their replies.
 const OF_A_LARGE_SET: [(&str, &str); 9] = [
     ("ZCARD k", ":120000~"),

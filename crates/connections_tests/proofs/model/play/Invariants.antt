@@ -1,0 +1,4 @@
+use Rattle.connections_tests.proofs.model.play.Given as goal
+
+abbrev pub invariant-loop-turn : goal.invariant-loop-turn
+invariant-loop-turn g l = g.E.Exec.settled l.exec

@@ -1,0 +1,264 @@
+//! What three clients are to be told, by a model: an owner of sets that is asked their requests one by
+//! one, in the order in which they are due.
+
+use crate::devices::{Device, Devices, Pace};
+use crate::orders::Order;
+use crate::scripts::{Script, ask};
+use connections::MOST_REQUESTS;
+use session_core::Exec;
+use std::alloc::Global;
+use std::test::Fail;
+
+/// What three clients send, on which devices, and when they have their turns.
+#[derive(Clone, Copy)]
+pub struct Case<'c> {
+    pub scripts: &'c [Script<'c>],
+    pub devices: [Devices; 3],
+    pub pace: Pace,
+    pub order: Order,
+}
+
+/// More turns than any of the tests has.
+pub const MOST_TURNS: usize = 100_000;
+
+/// What follows a call of a device.
+#[derive(Clone, Copy, PartialEq, Eq)]
+enum Call {
+    Fails,
+    Waits,
+    Moves(usize),
+}
+
+/// What the call of this number comes to, to a device that has so many bytes to move.
+fn outcome(device: Device, number: u64, bytes: usize) -> Call {
+    if number == device.fails_at {
+        Call::Fails
+    } else if device.is_ready(number) {
+        Call::Moves(device.chunk.min(bytes))
+    } else {
+        Call::Waits
+    }
+}
+
+/// How many requests a turn may run. The time is looked at behind each of them, and is over a
+/// millisecond after the first look, or where it can't be told.
+fn most_of(pace: Pace) -> u32 {
+    match pace {
+        Pace::Stands => MOST_REQUESTS,
+        Pace::Runs => 2,
+        Pace::Fails => 1,
+    }
+}
+
+/// A connection of the model.
+#[derive(Drop)]
+struct Modelled<'c> {
+    script: &'c Script<'c>,
+    devices: Devices,
+    replies: Vec<u8>,
+    /// How many bytes of the replies were sent, and in how many calls.
+    sent: usize,
+    writes: u64,
+    /// How many bytes were read, and in how many calls.
+    read: usize,
+    reads: u64,
+    /// How many requests were run.
+    run: usize,
+    /// Some that were read may be left to run.
+    is_running: bool,
+    has_failed: bool,
+    has_ended: bool,
+}
+
+impl<'c> Modelled<'c> {
+    fn new(alloc: Global, script: &'c Script<'c>, devices: Devices) -> Self {
+        Modelled {
+            script,
+            devices,
+            replies: Vec::new(alloc),
+            sent: 0,
+            writes: 0,
+            read: 0,
+            reads: 0,
+            run: 0,
+            is_running: false,
+            has_failed: false,
+            has_ended: false,
+        }
+    }
+
+    /// A call failed.
+    fn fail(&mut self) {
+        self.has_failed = true;
+        self.has_ended = true;
+    }
+
+    /// Sends replies while they are taken. True: all were.
+    fn send(&mut self) -> bool {
+        for _ in 0..MOST_TURNS {
+            let left = self.replies.len().saturating_sub(self.sent);
+            if left == 0 {
+                return true;
+            }
+            self.writes = self.writes.saturating_add(1);
+            match outcome(self.devices.to, self.writes, left) {
+                Call::Moves(n) => self.sent = self.sent.saturating_add(n),
+                Call::Waits => return false,
+                Call::Fails => {
+                    self.fail();
+                    return false;
+                }
+            }
+        }
+        false
+    }
+
+    /// Reads a piece, where all that was read is answered.
+    fn read_due(&mut self) {
+        if self.is_running {
+            return;
+        }
+        let left = self.script.bytes.len().saturating_sub(self.read);
+        self.reads = self.reads.saturating_add(1);
+        match outcome(self.devices.from, self.reads, left) {
+            Call::Waits => {}
+            Call::Fails => self.fail(),
+            Call::Moves(0) => self.has_ended = true,
+            Call::Moves(n) => {
+                self.read = self.read.saturating_add(n);
+                self.is_running = true;
+            }
+        }
+    }
+
+    /// Runs requests that were read, so many at most.
+    fn run_due<R, E: Exec<R, Global>>(
+        &mut self,
+        rt: &R,
+        alloc: Global,
+        exec: &mut E,
+        most: u32,
+    ) -> Result<(), Fail>
+        requires { E.settled exec.old }
+        ensures { E.settled exec.new }
+    {
+        for _ in 0..most {
+            let Some(text) = self.script.due(self.run, self.read) else {
+                self.is_running = false;
+                return Ok(());
+            };
+            ask(rt, alloc, exec, text, &mut self.replies)?;
+            self.run = self.run.saturating_add(1);
+        }
+        Ok(())
+    }
+
+    /// A turn: what waits is sent, then a piece is read or what is left of the last one is run, and the
+    /// replies are sent.
+    fn turn<R, E: Exec<R, Global>>(
+        &mut self,
+        rt: &R,
+        alloc: Global,
+        exec: &mut E,
+        most: u32,
+    ) -> Result<(), Fail>
+        requires { E.settled exec.old }
+        ensures { E.settled exec.new }
+    {
+        if !self.send() {
+            return Ok(());
+        }
+        self.read_due();
+        if !self.has_ended {
+            self.run_due(rt, alloc, exec, most)?;
+            self.send();
+        }
+        Ok(())
+    }
+}
+
+/// What a client was told, and at which of all turns its connection ended.
+#[derive(Debug, Drop, PartialEq, Eq)]
+pub struct Told {
+    pub bytes: Vec<u8>,
+    pub ended_at: usize,
+}
+
+/// What the clients are to be told.
+#[derive(Drop)]
+pub struct Wanted {
+    pub told: Vec<Told>,
+    /// How many requests of each were run.
+    pub run: Vec<usize>,
+    /// Whether a call of its device failed.
+    pub failed: Vec<bool>,
+}
+
+/// The connections of a case before the first turn.
+fn begun<'c>(alloc: Global, case: &Case<'c>) -> Result<Vec<Modelled<'c>>, Fail> {
+    let mut clients = Vec::new(alloc);
+    for (script, devices) in case.scripts.iter().zip(case.devices.iter()) {
+        clients.push(Modelled::new(alloc, script, *devices))?;
+    }
+    Ok(clients)
+}
+
+/// Gives turns until all have ended, and tells when each did.
+fn play<R, E: Exec<R, Global>>(
+    rt: &R,
+    alloc: Global,
+    exec: &mut E,
+    case: &Case<'_>,
+    clients: &mut Vec<Modelled<'_>>,
+) -> Result<Vec<usize>, Fail>
+    requires { E.settled exec.old }
+{
+    let most = most_of(case.pace);
+    let mut order = case.order;
+    let mut ends = vec![in alloc; 0; clients.len()]?;
+    for turn in 0..MOST_TURNS {
+        if clients.iter().all(|client| client.has_ended) {
+            return Ok(ends);
+        }
+        let place = order.next();
+        let client = clients.get_mut(place).ok_or("no client")?;
+        if !client.has_ended {
+            client.turn(rt, alloc, exec, most)?;
+            *ends.get_mut(place).ok_or("no client")? = turn;
+        }
+    }
+    Err("no end")?
+}
+
+/// What came of them.
+fn ended(alloc: Global, clients: &[Modelled<'_>], ends: &[usize]) -> Result<Wanted, Fail> {
+    let mut wanted = Wanted {
+        told: Vec::new(alloc),
+        run: Vec::new(alloc),
+        failed: Vec::new(alloc),
+    };
+    for (client, ended_at) in clients.iter().zip(ends.iter()) {
+        let sent = client.replies.get(..client.sent).unwrap_or(&[]);
+        wanted.told.push(Told {
+            bytes: Vec::from_slice(alloc, sent)?,
+            ended_at: *ended_at,
+        })?;
+        wanted.run.push(client.run)?;
+        wanted.failed.push(client.has_failed)?;
+    }
+    Ok(wanted)
+}
+
+/// What the clients are to be told over this owner.
+pub fn expected<R, E: Exec<R, Global>>(
+    rt: &R,
+    alloc: Global,
+    exec: &mut E,
+    case: &Case<'_>,
+) -> Result<Wanted, Fail>
+    requires { E.settled exec.old }
+{
+    let mut clients = begun(alloc, case)?;
+    let ends = play(rt, alloc, exec, case, &mut clients)?;
+    ended(alloc, &clients, &ends)
+}
