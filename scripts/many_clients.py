@@ -196,14 +196,18 @@ def fewer_descriptors_serve_fewer_clients():
         same(server.process.communicate(timeout=SECONDS), (b"", b""))
 
 
+def all_end(server, clients, told):
+    """The clients end, without a further reply, and the server behind them, with these totals."""
+    same([client.finish() for client in clients], [b""] * len(clients))
+    same(server.ends(), (0, told, b""))
+
+
 @test
 def one_worker_serves_many_at_once():
     with Server("--connections", 200, "--workers", 1) as server, connected(server, 200) as clients:
         for _ in range(3):
             same([client.ask("PING") for client in clients], [PONG] * 200)
-        for client in clients:
-            same(client.finish(), b"")
-        same(server.ends(), (0, totals(200, 0, 0, 0, 0, 0), b""))
+        all_end(server, clients, totals(200, 0, 0, 0, 0, 0))
 
 
 @test
@@ -212,9 +216,7 @@ def nobody_waits_behind_the_last_connection():
         same([client.ask("PING") for client in clients], [PONG] * 2)
         same(is_refused(server), True)
         same([client.ask("ZADD", "k", 1, "a") for client in clients], [b":1\r\n", b":0\r\n"])
-        for client in clients:
-            same(client.finish(), b"")
-        same(server.ends(), (0, totals(2, 1, 1, 1, 0, 1), b""))
+        all_end(server, clients, totals(2, 1, 1, 1, 0, 1))
 
 
 @test

@@ -12,6 +12,14 @@ start_logging() {
     start_redis "$port" --dir "$work/redis" --appendonly yes --appendfsync "$1" \
         --auto-aof-rewrite-percentage 0 --aof-use-rdb-preamble no
 }
+# fill_redis FILE: a Redis that begins with nothing takes these requests
+fill_redis() {
+    rm -rf "$work/redis" && mkdir "$work/redis"
+    start_logging no
+    await_redis "$port"
+    redis-cli -p "$port" --pipe < "$1" > /dev/null
+    stop_redis
+}
 for round in $(seq "${ROUNDS:-5}"); do
     rm -rf "$work/ours.append" "$work/redis" && mkdir "$work/redis"
     "$work/drive" run 2000 20000 stdio "$server" stdio --file "$work/ours.append" >> "$work/ours"
@@ -21,11 +29,7 @@ for round in $(seq "${ROUNDS:-5}"); do
     stop_redis
 done
 "$work/drive" changes "${CHANGES:-1000000}" > "$work/changes.append"
-rm -rf "$work/redis" && mkdir "$work/redis"
-start_logging no
-await_redis "$port"
-redis-cli -p "$port" --pipe < "$work/changes.append" > /dev/null
-stop_redis
+fill_redis "$work/changes.append"
 printf '*2\r\n$7\r\nZCRACKD\r\n$1\r\n2\r\n' | cat - "$work/changes.append" > "$work/effects.append"
 for round in $(seq "${ROUNDS:-5}"); do
     "$work/drive" reload "$server" stdio --file "$work/effects.append" >> "$work/ours"
@@ -37,11 +41,7 @@ for round in $(seq "${ROUNDS:-5}"); do
     stop_redis
 done
 "$work/drive" counters "${COUNTERS:-30000}" > "$work/counters"
-rm -rf "$work/redis" && mkdir "$work/redis"
-start_logging no
-await_redis "$port"
-redis-cli -p "$port" --pipe < "$work/counters" > /dev/null
-stop_redis
+fill_redis "$work/counters"
 "$server" stdio --file "$work/counted.append" < "$work/counters" > /dev/null
 echo "file_of_counters $(stat -c %s "$work/counted.append")" >> "$work/ours"
 echo "file_of_counters $(cat "$work/redis"/appendonlydir/*incr* | wc -c)" >> "$work/theirs"
