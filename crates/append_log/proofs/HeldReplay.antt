@@ -56,6 +56,11 @@ asked-skips (Ask words ∷ skips) each = absurd each.0
 asked-skips (SkipZero ∷ skips) each = asked-skips skips each.1
 asked-skips (SkipMinus ∷ skips) each = asked-skips skips each.1
 
+-- what stands behind others is an item as they are
+behind : (before : List Item) (item : Item) (more : List Item) → AllByRecursion IsItem (before ++ item ∷ more) → IsItem item
+behind [] item more each = each.0
+behind (x ∷ before) item more each = behind before item more each.1
+
 skips_are_items : (skips : List Item) → AllByRecursion IsSkip skips → AllByRecursion IsItem skips
 skips_are_items [] each = tt
 skips_are_items (Ask words ∷ skips) each = absurd each.0
@@ -219,7 +224,10 @@ module _ (whole : (text : List ℕ) → (text ≡ flat_map encoding_of (items te
     damaged f w wrong =
         (new.held, count, version, f, waits_replayed w, ap item_at w.held_is ∙ wrong_of (item_at (rest old.held)) f (wrong_at old.held f wrong))
 
-    module _ (words : Record) (is_request : IsRequest words) (gave : Gave old new words) where
+    module _ (words : Record) (gave : Gave old new words) where
+      is_request : IsRequest words
+      is_request = behind gave.skips (Ask words) (items new.held) (subst (AllByRecursion IsItem) gave.first (whole old.held).1)
+
       each_skip : AllByRecursion IsItem gave.skips
       each_skip = skips_are_items gave.skips gave.skipped
 

@@ -3,7 +3,7 @@
 ghost use Rattle.std.specs.Prelude.{◌≡◌, ◌≢◌, ℕ, ◌+◌, ◌-◌, ◌≤◌, ◌<◌, ◌^◌, [], ◌++◌, List, length, true, min, None, Ok, Err, Some, IfOk, OnOk, OnErr, IfErr, IsSome, MatchResult};
 ghost use Rattle.std.specs.Io.KnownBytes.{prepend_known, IsAtEnd};
 ghost use Rattle.resp_wire.specs.Device.{Rose, saturating_succ};
-ghost use Rattle.resp_wire.specs.RequestEncoding.{request as request_text};
+ghost use Rattle.resp_wire.specs.RequestEncoding.{IsArgument, argument, line, request as request_text};
 ghost use Rattle.zset_core.specs.World.{World as WorldType};
 ghost use Rattle.append_log.specs.Replay.{after, is_replayed as is_replayed_by};
 ghost use Rattle.append_log.specs.Reload.{Holds, Reads};
@@ -11,9 +11,8 @@ ghost use Rattle.append_log.specs.ReloadSteps.{IsBetweenReads, Stepped, Drained,
 ghost use Rattle.append_log.specs.declared.loading.ReloadFault.TheVariants as faults;
 
 use crate::version::{Version, is_header, names_version, number_of};
-use resp_wire::{
-    ByteSource, Decoder, MAX_READ_BUFFER, MAX_READS, Request, WireFault, laws, write_request,
-};
+use itoa::Buffer;
+use resp_wire::{ByteSource, Bytes, Decoder, MAX_READ_BUFFER, MAX_READS, Request, WireFault, laws};
 use std::alloc::{AllocError, Allocator};
 use std::hash::BuildHasher;
 use thiserror::Error;
@@ -108,13 +107,34 @@ fn replay_one<H: BuildHasher + Clone + Drop, A: Allocator + Copy>(
     }
 }
 
-/// The length of a request's text, which is written into the scratch.
-fn text_len<A: Allocator>(wanted: &Request<A>, scratch: &mut Vec<u8, A>) -> Result<u64, AllocError>
-    ensures { IfOk result (λ n. n ≡ length (request_text wanted.now)) }
+/// The length of a number in decimal and of the end of its line.
+fn line_len(n: usize) -> u64
+    ensures counted { result ≡ length (line n) }
+    ensures short { result ≤ 42 }
 {
-    scratch.clear();
-    write_request(wanted, scratch)?;
-    Ok(scratch.len() as u64)
+    Buffer::new().format(n).len() as u64 + 2
+}
+
+/// The length of an argument's text: its mark, its length's line, its bytes and the end of their line.
+fn argument_len<A: Allocator>(bytes: &Bytes<A>) -> u64
+    requires { IsArgument bytes.now }
+    ensures counted { result ≡ length (argument bytes.now) }
+    ensures short { result ≤ 70000 }
+{
+    1 + line_len(bytes.len()) + bytes.len() as u64 + 2
+}
+
+/// The length of a request's text. It is counted, since it is wanted of each record, and to write the
+/// text would take a buffer and a copy of each argument.
+fn text_len<A: Allocator>(wanted: &Request<A>) -> u64
+    ensures { result ≡ length (request_text wanted.now) }
+{
+    let words = wanted.words();
+    let mut len = 1 + line_len(words.len());
+    for bytes in words {
+        len += argument_len(bytes);
+    }
+    len
 }
 
 /// What a reload keeps between its reads.
@@ -122,8 +142,6 @@ fn text_len<A: Allocator>(wanted: &Request<A>, scratch: &mut Vec<u8, A>) -> Resu
 struct Reloader<A: Allocator> {
     alloc: A,
     decoder: Decoder<A>,
-    /// The buffer in which texts are measured.
-    scratch: Vec<u8, A>,
     /// The number of records that were replayed.
     records: u64,
     /// How records are read, once the first one was taken.
@@ -140,7 +158,6 @@ impl<A: Allocator + Copy> Reloader<A> {
         Reloader {
             alloc,
             decoder: Decoder::new(alloc),
-            scratch: Vec::new(alloc),
             records: 0,
             version: None,
         }
@@ -211,7 +228,7 @@ impl<A: Allocator + Copy> Reloader<A> {
             Err(WireFault::Protocol(_)) => Err(ReloadFault::Damaged(self.decoder.taken())),
             Ok(None) => Ok(false),
             Ok(Some(request)) => {
-                let size = text_len(&request, &mut self.scratch)?;
+                let size = text_len(&request);
                 match self.take_record(owner, request) {
                     Ok(()) => Ok(true),
                     Err(Unreplayed::NoMemory) => Err(ReloadFault::NoMemory),

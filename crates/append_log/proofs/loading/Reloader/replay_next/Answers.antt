@@ -25,7 +25,7 @@ returns-in-Ok-clause-stepped g c = λ start bytes h.
     let new = c.next.new.self in
     let words = c.in-Ok-Some.request in
     let gave = gave_at old new c.requires.ready.unfaulted c.in-Ok-Some.field-0 words c.in-Ok-Some.field-0-is c.in-Ok-Some.ensures.next in
-    rw c.take_record.ensures.decoder (gives c.longest.ensures.whole c.longest.ensures.most cuts.requests_are cuts.rest_is cuts.fault_is start bytes old new _ _ _ h c.in-Ok-Some.ensures.taken words (rw c.request.view_is at c.request.invariant) gave.0 _ _ _ gave.1 c.in-Ok.ensures.ok)
+    rw c.take_record.ensures.decoder (gives c.longest.ensures.whole c.longest.ensures.most cuts.requests_are cuts.rest_is cuts.fault_is start bytes old new _ _ _ h c.in-Ok-Some.ensures.taken words gave.0 _ _ _ gave.1 c.in-Ok.ensures.ok)
 
 pub returns-in-Err-NotACommand-clause-stepped : goal.returns-in-Err-NotACommand-clause-stepped
 returns-in-Err-NotACommand-clause-stepped g c = λ start bytes h.
@@ -34,7 +34,7 @@ returns-in-Err-NotACommand-clause-stepped g c = λ start bytes h.
     let new = c.next.new.self in
     let words = c.in-Ok-Some.request in
     let gave = gave_at old new c.requires.ready.unfaulted c.in-Ok-Some.field-0 words c.in-Ok-Some.field-0-is c.in-Ok-Some.ensures.next in
-    rw (c.taken-in-Err-NotACommand.ensures, c.take_record.ensures.decoder) (no_command c.longest.ensures.whole c.longest.ensures.most cuts.requests_are cuts.rest_is cuts.fault_is start bytes old new _ _ _ h c.in-Ok-Some.ensures.taken words (rw c.request.view_is at c.request.invariant) gave.0 _ _ c.in_ok-size-in-Ok-Some.ensures c.in-Err-NotACommand.ensures.err (rw c.in-Err-NotACommand.field-0-is at c.in-Err-NotACommand.ensures.cause))
+    rw (c.taken-in-Err-NotACommand.ensures, c.take_record.ensures.decoder) (no_command c.longest.ensures.whole c.longest.ensures.most cuts.requests_are cuts.rest_is cuts.fault_is start bytes old new _ _ _ h c.in-Ok-Some.ensures.taken words gave.0 _ _ c.text_len-size.ensures c.in-Err-NotACommand.ensures.err (rw c.in-Err-NotACommand.field-0-is at c.in-Err-NotACommand.ensures.cause))
 
 pub returns-in-Ok-clause-took : goal.returns-in-Ok-clause-took
 returns-in-Ok-clause-took g c =
@@ -49,4 +49,4 @@ returns-in-Err-UnknownVersion-clause-stepped g c = λ start bytes h.
     let words = c.in-Ok-Some.request in
     let gave = gave_at old new c.requires.ready.unfaulted c.in-Ok-Some.field-0 words c.in-Ok-Some.field-0-is c.in-Ok-Some.ensures.next in
     let cause = rw c.in-Err-UnknownVersion.field-0-is at c.in-Err-UnknownVersion.ensures.cause in
-    unknown c.longest.ensures.whole c.longest.ensures.most cuts.requests_are cuts.rest_is cuts.fault_is start bytes old new _ _ _ h c.in-Ok-Some.ensures.taken words (rw c.request.view_is at c.request.invariant) gave.0 _ c.in-Err-UnknownVersion.ensures.err cause.0 cause.1 cause.2
+    unknown c.longest.ensures.whole c.longest.ensures.most cuts.requests_are cuts.rest_is cuts.fault_is start bytes old new _ _ _ h c.in-Ok-Some.ensures.taken words gave.0 _ c.in-Err-UnknownVersion.ensures.err cause.0 cause.1 cause.2
