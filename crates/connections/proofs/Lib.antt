@@ -1,1 +1,3 @@
+pub mod HeldLemmas
+pub mod PlaceLemmas
 pub mod VisitLemmas

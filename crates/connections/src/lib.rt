@@ -7,6 +7,7 @@
 #![tactic(auto)]
 
 mod buffers;
+mod held;
 mod many;
 mod slots;
 mod sockets;

@@ -1,46 +1,30 @@
 //! All connections of one worker.
 
+ghost use Rattle.std.specs.Prelude.{◌≡◌, ◌<◌, [], length, IfOk};
 ghost use Rattle.session_core.specs.Interleaved.{Moves};
+ghost use Rattle.connections.specs.Places.{IsGrown};
+ghost use Rattle.connections.specs.VisitSteps.{AllGoOn, HaveLeft, IsAdded, new_state};
 
 use crate::buffers::Buffers;
+use crate::held::Held;
 use crate::slots::Slots;
-use crate::visit::{Next, Visit};
+use crate::visit::Next;
 use crate::watch::{Ringer, Watch, Watched};
 use resp_wire::{PolledDrain, PolledSource};
-use session_core::Exec;
+use session_core::{Exec, takes_turns};
 use std::alloc::{AllocError, Allocator};
+use std::marker::Model;
 use std::net::Net;
+use std::os::fd::RawFd;
 use std::time::{Clock, Duration, Instant};
 use std::{io, mem};
 
 /// After so many seconds it is looked again which connections were silent for too long.
 const LOOKS_AFTER: u64 = 1;
 
-/// A connection at its place.
-#[derive(Drop)]
-struct Held<S, D, A: Allocator> {
-    visit: Visit<S, D, A>,
-    /// It is among those that are ready.
-    is_queued: bool,
-    /// For how long it may send or take nothing.
-    silence: Option<Duration>,
-    /// When its last bytes came or went, where that is asked for.
-    moved: Option<Instant>,
-}
-
-impl<S, D, A: Allocator> Held<S, D, A> {
-    /// Whether it was silent for too long.
-    fn is_silent(&self, now: Instant) -> bool {
-        match (self.silence, self.moved) {
-            (Some(silence), Some(moved)) if !self.is_queued => now.duration_since(moved) >= silence,
-            _ => false,
-        }
-    }
-}
-
 /// The connections of one worker. They share an executor, turn by turn.
 #[derive(Drop)]
-pub struct Connections<S, D, A: Allocator> {
+pub struct Connections<S: PolledSource, D: PolledDrain, A: Allocator> {
     alloc: A,
     watch: Watch<A>,
     slots: Slots<Box<Held<S, D, A>, A>, A>,
@@ -55,13 +39,63 @@ pub struct Connections<S, D, A: Allocator> {
     looked: Option<Instant>,
 }
 
+/// Seen as the connections at their places, each as its visit shows itself.
+impl<S: PolledSource, D: PolledDrain, A: Allocator> Model for Connections<S, D, A> {
+    ghost use Rattle.std.specs.Prelude.{List, Option, map, option_map, box_value};
+    ghost use Rattle.connections.specs.VisitSteps.{VisitState};
+
+    ghost Value = { List (Option VisitState) };
+
+    ghost view = { λ c. map (option_map box_value) c.slots };
+}
+
+/// Watches a connection that begins; one that can't be watched is always ready. None where there is no
+/// memory for that; else whether it is among those that are ready.
+fn begin<A: Allocator + Copy>(
+    watch: &Watch<A>,
+    ready: &mut Vec<usize, A>,
+    descriptor: Option<RawFd>,
+    place: usize,
+) -> Option<bool> {
+    match descriptor {
+        Some(descriptor) => {
+            watch.add(descriptor, place).ok()?;
+            Some(false)
+        }
+        None => {
+            ready.push(place).ok()?;
+            Some(true)
+        }
+    }
+}
+
+/// Puts a place behind those that are ready, where it is not among them. Whether it is now.
+fn queue<A: Allocator>(ready: &mut Vec<usize, A>, place: usize, is_queued: bool) -> bool {
+    is_queued || ready.push(place).is_ok()
+}
+
+/// What becomes of a connection after its turn: whether it is among those that are ready again. None: it
+/// leaves.
+fn queue_again<A: Allocator>(ready: &mut Vec<usize, A>, place: usize, next: Next) -> Option<bool> {
+    match next {
+        Next::Ends => None,
+        Next::Waits => Some(false),
+        Next::Again => {
+            ready.push(place).ok()?;
+            Some(true)
+        }
+    }
+}
+
 impl<S: PolledSource + Watched + Drop, D: PolledDrain + Drop, A: Allocator + Copy> Connections<
     S,
     D,
     A,
 > {
     /// No connection yet.
-    pub fn new<R: Net>(net: &R, alloc: A) -> io::Result<Self> {
+    pub fn new<R: Net>(net: &R, alloc: A) -> io::Result<Self>
+        ensures none { IfOk result (λ connections. connections ≡ []) }
+    {
         Ok(Connections {
             alloc,
             watch: Watch::new(net, alloc)?,
@@ -85,7 +119,9 @@ impl<S: PolledSource + Watched + Drop, D: PolledDrain + Drop, A: Allocator + Cop
     }
 
     /// Room for one connection more, in all lists, and its place.
-    fn make_room(&mut self) -> Result<usize, AllocError> {
+    fn make_room(&mut self) -> Result<usize, AllocError>
+        ensures grown { IsGrown self.old self.new }
+    {
         let place = self.slots.make_room()?;
         let places = self.slots.len();
         self.ready.reserve(places)?;
@@ -101,53 +137,58 @@ impl<S: PolledSource + Watched + Drop, D: PolledDrain + Drop, A: Allocator + Cop
         Instant::now(clock).ok()
     }
 
-    fn try_add<C: Clock>(&mut self, clock: &C, source: S, drain: D) -> Result<(), AllocError> {
+    fn try_add<C: Clock>(&mut self, clock: &C, source: S, drain: D) -> Result<(), AllocError>
+        ensures added { IsAdded (new_state (S.told source) (D.told drain)) self.old self.new }
+    {
         let place = self.make_room()?;
         let descriptor = source.descriptor();
         let silence = source.silence();
-        self.ends_silent = self.ends_silent || silence.is_some();
-        let mut held = Box::new(
+        self.ends_silent |= silence.is_some();
+        let moved = self.now(clock);
+        let visit = Held::new(
             self.alloc,
-            Held {
-                visit: Visit::new(self.alloc, source, drain, descriptor.is_some()),
-                is_queued: false,
-                silence,
-                moved: self.now(clock),
-            },
-        )?;
-        match descriptor {
-            Some(descriptor) => {
-                if self.watch.add(descriptor, place).is_err() {
-                    return Ok(());
-                }
-            }
-            None => {
-                self.ready.push(place)?;
-                held.is_queued = true;
-            }
-        }
+            source,
+            drain,
+            descriptor.is_some(),
+            silence,
+            moved,
+        );
+        let mut held = Box::new(self.alloc, visit)?;
+        let Some(is_queued) = begin(&self.watch, &mut self.ready, descriptor, place) else {
+            return Ok(());
+        };
+        held.set_queued(is_queued);
         self.slots.put(held);
         Ok(())
     }
 
     /// Takes a connection on. Where there is no memory for it, or it can't be watched, it is dropped.
-    pub fn add<C: Clock>(&mut self, clock: &C, source: S, drain: D) {
+    pub fn add<C: Clock>(&mut self, clock: &C, source: S, drain: D)
+        ensures added { IsAdded (new_state (S.told source) (D.told drain)) self.old self.new }
+    {
         let _ = self.try_add(clock, source, drain);
     }
 
     /// Notes that the connection at a place is ready.
-    fn note(&mut self, place: usize, is_closed: bool) {
-        let Some(held) = self.slots.get_mut(place) else {
+    fn note(&mut self, place: usize, is_closed: bool)
+        ensures same { self.new ≡ self.old }
+    {
+        if place >= self.slots.len() {
+            return;
+        }
+        let Some(mut held) = self.slots.take(place) else {
             return;
         };
-        held.visit.note(is_closed);
-        if !held.is_queued && self.ready.push(place).is_ok() {
-            held.is_queued = true;
-        }
+        held.note(is_closed);
+        let is_queued = queue(&mut self.ready, place, held.is_queued());
+        held.set_queued(is_queued);
+        self.slots.put_back(place, held);
     }
 
     /// Waits until a connection is ready or the bell is rung, and notes those that are ready.
-    fn wait(&mut self) {
+    fn wait(&mut self)
+        ensures same { self.new ≡ self.old }
+    {
         let timeout = if !self.ready.is_empty() {
             Some(Duration::ZERO)
         } else if self.ends_silent {
@@ -175,18 +216,22 @@ impl<S: PolledSource + Watched + Drop, D: PolledDrain + Drop, A: Allocator + Cop
         requires settled { E.settled exec.old }
         ensures settled { E.settled exec.new }
         ensures moves { Moves E.allows exec.old exec.new }
+        ensures goes_on { AllGoOn E.allows self.old exec.old self.new exec.new }
     {
-        let Some(held) = self.slots.get_mut(place) else {
+        takes_turns::<R, A, E>();
+        if place >= self.slots.len() {
+            return;
+        }
+        let Some(mut held) = self.slots.take(place) else {
             return;
         };
-        let next = held.visit.turn(rt, clock, &mut self.buffers, exec);
-        if held.visit.take_moved() {
-            held.moved = now;
-        }
-        held.is_queued = next == Next::Again && self.ready.push(place).is_ok();
-        let stays = held.is_queued || next == Next::Waits;
-        if !stays {
-            self.slots.remove(place);
+        let next = held.turn(rt, clock, now, &mut self.buffers, exec);
+        match queue_again(&mut self.ready, place, next) {
+            Some(is_queued) => {
+                held.set_queued(is_queued);
+                self.slots.put_back(place, held);
+            }
+            None => self.slots.let_go(place),
         }
     }
 
@@ -195,6 +240,7 @@ impl<S: PolledSource + Watched + Drop, D: PolledDrain + Drop, A: Allocator + Cop
         requires settled { E.settled exec.old }
         ensures settled { E.settled exec.new }
         ensures moves { Moves E.allows exec.old exec.new }
+        ensures goes_on { AllGoOn E.allows self.old exec.old self.new exec.new }
     {
         let now = self.now(clock);
         let mut round = mem::replace(&mut self.round, Vec::new(self.alloc));
@@ -206,21 +252,38 @@ impl<S: PolledSource + Watched + Drop, D: PolledDrain + Drop, A: Allocator + Cop
         self.round = round;
     }
 
+    /// Ends the connection at a place.
+    fn end(&mut self, place: usize)
+        ensures left { HaveLeft self.old self.new }
+    {
+        if place >= self.slots.len() {
+            return;
+        }
+        let ended = self.slots.take(place);
+        if ended.is_some() {
+            self.slots.let_go(place);
+        }
+    }
+
     /// Ends the connections that were silent for too long.
-    fn end_silent(&mut self, now: Instant) {
+    fn end_silent(&mut self, now: Instant)
+        ensures left { HaveLeft self.old self.new }
+    {
         for place in 0..self.slots.len() {
-            let is_silent = match self.slots.get_mut(place) {
+            let is_silent = match self.slots.get(place) {
                 Some(held) => held.is_silent(now),
                 None => false,
             };
             if is_silent {
-                self.slots.remove(place);
+                self.end(place);
             }
         }
     }
 
     /// Ends those that were silent for too long, where that was not looked at for a second.
-    fn look_for_silent<C: Clock>(&mut self, clock: &C) {
+    fn look_for_silent<C: Clock>(&mut self, clock: &C)
+        ensures left { HaveLeft self.old self.new }
+    {
         let Some(now) = self.now(clock) else {
             return;
         };
@@ -235,12 +298,14 @@ impl<S: PolledSource + Watched + Drop, D: PolledDrain + Drop, A: Allocator + Cop
     }
 
     /// Waits until a connection is ready or the bell is rung, and gives each that is ready a turn.
-    ///
-    /// What the connections share is moved by requests alone, each of which one of them sent.
     pub fn turn<R, C: Clock, E: Exec<R, A>>(&mut self, rt: &R, clock: &C, exec: &mut E)
         requires settled { E.settled exec.old }
         ensures settled { E.settled exec.new }
+        // What the connections share is moved by requests alone.
         ensures moves { Moves E.allows exec.old exec.new }
+        // Each that is held was held before, and goes on as one that is served alone: its requests
+        // are run in turn, and their replies stand behind those before.
+        ensures goes_on { AllGoOn E.allows self.old exec.old self.new exec.new }
     {
         self.wait();
         self.serve_ready(rt, clock, exec);

@@ -84,13 +84,23 @@ impl<S: PolledSource, D: PolledDrain, A: Allocator + Copy> Visit<S, D, A> {
     }
 
     /// Notes that the device became ready, and whether the peer sends no more.
-    pub fn note(&mut self, is_closed: bool) {
+    pub fn note(&mut self, is_closed: bool)
+        ensures same { (state self.new.stage (S.told self.new.source)
+            (⟦<Outbox<D, A> as ByteDrain>⟧.told self.new.outbox) self.new.session.decoder self.new.session.progress)
+            ≡ (state self.old.stage (S.told self.old.source)
+            (⟦<Outbox<D, A> as ByteDrain>⟧.told self.old.outbox) self.old.session.decoder self.old.session.progress) }
+    {
         self.is_closed = self.is_closed || is_closed;
         self.is_drained = false;
     }
 
     /// Whether bytes came or went since this was last asked.
-    pub fn take_moved(&mut self) -> bool {
+    pub fn take_moved(&mut self) -> bool
+        ensures same { (state self.new.stage (S.told self.new.source)
+            (⟦<Outbox<D, A> as ByteDrain>⟧.told self.new.outbox) self.new.session.decoder self.new.session.progress)
+            ≡ (state self.old.stage (S.told self.old.source)
+            (⟦<Outbox<D, A> as ByteDrain>⟧.told self.old.outbox) self.old.session.decoder self.old.session.progress) }
+    {
         let moved = self.has_moved;
         self.has_moved = false;
         moved

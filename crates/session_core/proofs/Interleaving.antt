@@ -1,5 +1,5 @@
 -- Sessions that share an executor: each goes on as if it were served alone, among the others.
-use Rattle.std.proofs.Common.{◌≡◌, ℕ, List, [], ◌∷◌, ◌++◌, refl, sym, Bool, true, false, Result, Option, Some, None, Ok, Err, inl, inr}
+use Rattle.std.proofs.Common.{◌≡◌, ℕ, List, [], ◌∷◌, ◌++◌, refl, sym, Bool, true, false, Result, Option, Some, None, Ok, Err, MatchResult, ◌⊎◌, inl, inr}
 use Rattle.std.specs.Io.KnownBytes.{prepend_known}
 use Rattle.resp_wire.specs.declared.fault.ProtocolFault.{ProtocolFault}
 use Rattle.resp_wire.specs.Stream.{requests, rest, fault}
@@ -8,10 +8,11 @@ use Rattle.resp_wire.specs.Response.{Response}
 use Rattle.zset_core.specs.AbstractCommand.{Asked}
 use Rattle.zset_core.specs.declared.refusal.Refusal.{Refusal}
 use Rattle.session_core.specs.declared.session.Progress.{Progress}
+use Rattle.session_core.specs.declared.fault.Ended.{Ended}
 use Rattle.session_core.specs.declared.fault.SessionFault.{SessionFault}
 use Rattle.session_core.specs.declared.fault.SessionFault.TheVariants.{NoMemory, ReadFault, WriteFault, Wire, TooManyReads}
 use Rattle.session_core.specs.Exchange.{Exchanges}
-use Rattle.session_core.specs.SessionEnd.{Ends}
+use Rattle.session_core.specs.SessionEnd.{Replied, Broken, Finished, Served, Ends}
 use Rattle.session_core.specs.ServeSteps.{Underway, fed}
 use Rattle.session_core.specs.Interleaved.{Moves, Talk, Turn, Follows, PartWay, TakesTurns}
 use Rattle.session_core.proofs.ExchangeLemmas.{exchanges-append}
@@ -101,6 +102,67 @@ module _ {S : Type 0} (allows : S → Asked → Result Response Refusal → S �
     count_is = part.count_is;
   }
 
+  -- others were served, and the session has ended as before
+  module _ (start before here : S) (moves : Moves allows before here) where
+    still_replied : (asked : List (List (List ℕ))) (written : List ℕ) → Replied (Talk allows) start asked written before → Replied (Talk allows) start asked written here
+    still_replied asked written r = record { replies = r.replies; exchanges = moved-last start before here asked r.replies r.exchanges moves; written_is = r.written_is }
+
+    still_broken : (kept : List Response → List ℕ → Type 0) (asked : List (List (List ℕ))) (written : List ℕ) → Broken (Talk allows) kept start asked written before → Broken (Talk allows) kept start asked written here
+    still_broken kept asked written b = record {
+      run = b.run;
+      left = b.left;
+      asked_is = b.asked_is;
+      replies = b.replies;
+      exchanges = moved-last start before here b.run b.replies b.exchanges moves;
+      cut = b.cut;
+    }
+
+    still_faulted : (asked : List (List (List ℕ))) (behind : Option ProtocolFault) (so_far : ℕ) (end : SessionFault) (written : List ℕ) → Ends (Talk allows) start asked behind so_far end written before → Ends (Talk allows) start asked behind so_far end written here
+    still_faulted asked behind so_far NoMemory written e = still_broken _ asked written e
+    still_faulted asked behind so_far ReadFault written e = (still_replied asked written e.0, e.1)
+    still_faulted asked behind so_far TooManyReads written e = (still_replied asked written e.0, e.1)
+    still_faulted asked behind so_far (Wire told) written e = record {
+      fault_is = e.fault_is;
+      replies = e.replies;
+      exchanges = moved-last start before here asked e.replies e.exchanges moves;
+      written_is = e.written_is;
+    }
+    still_faulted asked behind so_far (WriteFault out) written (is, inl broken) = (is, inl (still_broken _ asked written broken))
+    still_faulted asked behind so_far (WriteFault out) written (is, inr cut) = (
+      is,
+      inr (record {
+        told = cut.told;
+        fault_is = cut.fault_is;
+        replies = cut.replies;
+        exchanges = moved-last start before here asked cut.replies cut.exchanges moves;
+        cut = cut.cut;
+      }),
+    )
+
+    still_finished : (read : List ℕ) (ended : Ended) (written : List ℕ) → Finished (Talk allows) start read ended written before → Finished (Talk allows) start read ended written here
+    still_finished read ended written f = record {
+      replied = still_replied (requests read) written f.replied;
+      unfaulted = f.unfaulted;
+      requests_are = f.requests_are;
+      rest_is = f.rest_is;
+    }
+
+    still_ended : (source₀ source₁ drain₀ drain₁ : Option (List ℕ)) (result : Result Ended SessionFault) → Served (Talk allows) start source₀ source₁ drain₀ drain₁ result before → Served (Talk allows) start source₀ source₁ drain₀ drain₁ result here
+    still_ended source₀ source₁ drain₀ drain₁ result served = record {
+      read = served.read;
+      written = served.written;
+      read_is = served.read_is;
+      written_is = served.written_is;
+      at_end = served.at_end;
+      line = line result served.line;
+    }
+      where
+        line : (result : Result Ended SessionFault)
+            → MatchResult result (λ ended. Finished (Talk allows) start served.read ended served.written before) (λ end. Ends (Talk allows) start (requests served.read) (fault served.read) 0 end served.written before)
+            → MatchResult result (λ ended. Finished (Talk allows) start served.read ended served.written here) (λ end. Ends (Talk allows) start (requests served.read) (fault served.read) 0 end served.written here)
+        line (Ok ended) finished = still_finished served.read ended served.written finished
+        line (Err end) ends = still_faulted (requests served.read) (fault served.read) 0 end served.written ends
+
   module _ (start here there : S) (source₀ source₁ drain₀ drain₁ drain₂ : Option (List ℕ)) (wire new : DecoderView) (progress after : Progress) where
     follows : (result : Result Bool SessionFault) → PartWay (Talk allows) start source₀ source₁ drain₀ drain₁ here wire progress → Turn allows here wire progress drain₁ result there new after drain₂
         → Follows allows start source₀ source₁ drain₀ drain₂ result there new after
@@ -128,6 +190,7 @@ module _ {S : Type 0} (allows : S → Asked → Result Response Refusal → S �
       begins = λ start source drain. begins allows (Talk allows) moves-refl talk-on start source drain;
       waits = λ start before here source₀ source₁ drain₀ drain₁ wire progress way moves. still start source₀ source₁ drain₀ drain₁ before here wire progress way moves;
       waits_part = λ start before here source₀ source₁ drain₀ drain₁ wire progress part moves. still_part start before here source₀ source₁ drain₀ drain₁ wire progress part moves;
+      waits_ended = λ start before here source₀ source₁ drain₀ drain₁ result served moves. still_ended start before here moves source₀ source₁ drain₀ drain₁ result served;
       reads = λ start here source₀ source₁ source₂ drain₀ drain₁ wire progress piece way given. reads (Talk allows) start source₀ drain₀ source₁ source₂ drain₁ here wire progress way piece given requests_cut rest_cut fault_cut;
       turns = λ start here there source₀ source₁ drain₀ drain₁ drain₂ wire new progress after result part turn. follows start here there source₀ source₁ drain₀ drain₁ drain₂ wire new progress after result part turn;
       ends = λ start here source₀ source₁ source₂ drain₀ drain₁ wire progress ended way given at_end count left.

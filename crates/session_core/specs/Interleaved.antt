@@ -65,6 +65,8 @@ module _ {S : Type 0} (allows : S → Asked → Result Response Refusal → S �
         → Underway Talk start source₀ source₁ drain₀ drain₁ before wire progress → Moves before here → Underway Talk start source₀ source₁ drain₀ drain₁ here wire progress
     pub waits_part : (start before here : S) (source₀ source₁ drain₀ drain₁ : Option (List ℕ)) (wire : DecoderView) (progress : Progress)
         → PartWay Talk start source₀ source₁ drain₀ drain₁ before wire progress → Moves before here → PartWay Talk start source₀ source₁ drain₀ drain₁ here wire progress
+    pub waits_ended : (start before here : S) (source₀ source₁ drain₀ drain₁ : Option (List ℕ)) (result : Result Ended SessionFault)
+        → Served Talk start source₀ source₁ drain₀ drain₁ result before → Moves before here → Served Talk start source₀ source₁ drain₀ drain₁ result here
     -- a piece is read
     pub reads : (start here : S) (source₀ source₁ source₂ drain₀ drain₁ : Option (List ℕ)) (wire : DecoderView) (progress : Progress) (piece : List ℕ)
         → Underway Talk start source₀ source₁ drain₀ drain₁ here wire progress → source₁ ≡ prepend_known piece source₂

@@ -1,13 +1,16 @@
 -- Connections leave a worker that ran requests.
-use Rattle.std.proofs.Common.{◌≡◌, ℕ, List, [], ◌∷◌, Result, Ok, Err, inl, inr, ◌∙◌}
+use Rattle.std.proofs.Common.{◌≡◌, ℕ, List, [], ◌∷◌, Option, Result, Ok, Err, inl, inr, ◌∙◌, sym, subst}
 use Rattle.resp_wire.specs.Response.{Response}
 use Rattle.zset_core.specs.AbstractCommand.{Meaning}
 use Rattle.zset_core.specs.CommandGrammar.{asked}
 use Rattle.zset_core.specs.declared.refusal.Refusal.{Refusal}
 use Rattle.session_core.specs.Exchange.{ExchangeOf, Exchanges}
-use Rattle.session_core.specs.Interleaved.{Moves}
+use Rattle.session_core.specs.Interleaved.{Moves, TakesTurns}
 use Rattle.session_core.specs.WorkerAnswers.{WorkerView, WorkerAnswers}
-use Rattle.zcrackd.specs.WorkerTurns.{Keeps}
+use Rattle.connections.specs.VisitSteps.{AllStand, AllGoOn, IsAdded, new_state}
+use Rattle.connections.proofs.HeldLemmas.{all_stand_on, added_stands}
+use Rattle.zcrackd.specs.WorkerTurns.{HandlerView, Keeps, Attends}
+use Rattle.zcrackd.specs.WorkerTurnLaws.{keeps_itself}
 
 abbrev Stays : WorkerView → WorkerView → Type 0
 Stays old new = (new.table ≡ old.table) × (new.pass.number ≡ old.pass.number)
@@ -38,3 +41,17 @@ ran old new requests replies exchanges =
 -- requests, whichever connection's, leave a worker that ran them
 pub keeps_by_moves : (old new : WorkerView) → Moves WorkerAnswers old new → Keeps old new
 keeps_by_moves old new moves = ran old new moves.requests moves.replies moves.exchanges
+
+-- a turn for each connection that is ready
+pub attends_by_turn : (old new : HandlerView) → Moves WorkerAnswers old.worker new.worker → AllGoOn WorkerAnswers old.connections old.worker new.connections new.worker → Attends old new
+attends_by_turn old new moves goes = record {
+  worker = keeps_by_moves old.worker new.worker moves;
+  connections = all_stand_on WorkerAnswers old.connections new.connections old.worker new.worker goes;
+}
+
+-- a connection is taken on
+pub attends_by_added : TakesTurns WorkerAnswers → (old new : HandlerView) (source drain : Option (List ℕ)) → new.worker ≡ old.worker → IsAdded (new_state source drain) old.connections new.connections → Attends old new
+attends_by_added law old new source drain same added = record {
+  worker = subst (λ (w : WorkerView). Keeps old.worker w) (sym same) (keeps_itself old.worker);
+  connections = λ stand. subst (λ (w : WorkerView). AllStand WorkerAnswers new.connections w) (sym same) (added_stands WorkerAnswers law old.connections new.connections old.worker source drain added stand);
+}

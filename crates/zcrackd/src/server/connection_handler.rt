@@ -1,15 +1,15 @@
 //! What a worker thread does with its connections.
 
-ghost use Rattle.std.specs.Prelude.{◌≡◌, ◌+◌, ◌<◌, ◌^◌, IfOk};
+ghost use Rattle.std.specs.Prelude.{◌≡◌, ◌+◌, ◌<◌, ◌^◌, [], IfOk};
 ghost use Rattle.set_table.specs.WorkerPasses.{IsPassOf};
-ghost use Rattle.zcrackd.specs.WorkerTurns.{Keeps};
-ghost use Rattle.zcrackd.specs.WorkerTurnLaws.{keeps_itself, keeps_on};
+ghost use Rattle.zcrackd.specs.WorkerTurns.{Attends};
+ghost use Rattle.zcrackd.specs.WorkerTurnLaws.{attends_itself, attends_on};
 
 use append_log::LogSink;
 use connections::{Connections, Ringer, Watched};
 use hand_over::{Bell, Handler};
 use resp_wire::{PolledDrain, PolledSource};
-use session_core::Worker;
+use session_core::{Worker, takes_turns};
 use set_table::{NoGate, Pass, Table};
 use std::alloc::Global;
 use std::hash::RandomState;
@@ -34,22 +34,30 @@ impl Bell for WorkerBell {
 
 /// Serves connections, turn by turn, all by one worker on the server's table.
 #[derive(Drop)]
-pub struct ConnectionHandler<'t, K: LogSink, L: Ledger, S, D, C> {
+pub struct ConnectionHandler<'t, K: LogSink, L: Ledger, S: PolledSource, D: PolledDrain, C> {
     clock: &'t C,
     worker: Worker<'t, RandomState, K, L, Global, NoGate>,
     connections: Connections<S, D, Global>,
     handled: u64,
 }
 
-impl<'t, K: LogSink, L: Ledger, S, D, C> Model for ConnectionHandler<'t, K, L, S, D, C> {
+impl<'t, K: LogSink, L: Ledger, S: PolledSource, D: PolledDrain, C> Model
+    for ConnectionHandler<'t, K, L, S, D, C> {
     ghost use Rattle.zcrackd.specs.WorkerTurns.{HandlerView};
 
     ghost Value = { HandlerView };
 
-    ghost view = { λ h. record { worker = h.worker; handled = h.handled } };
+    ghost view = { λ h. record { worker = h.worker; handled = h.handled; connections = h.connections } };
 }
 
-impl<'t, K: LogSink, L: Ledger, S, D, C> ConnectionHandler<'t, K, L, S, D, C> {
+impl<'t, K: LogSink, L: Ledger, S: PolledSource, D: PolledDrain, C> ConnectionHandler<
+    't,
+    K,
+    L,
+    S,
+    D,
+    C,
+> {
     /// A handler that has served no connection, with one of the table's passes.
     pub fn new(
         rt: &'t C,
@@ -58,13 +66,14 @@ impl<'t, K: LogSink, L: Ledger, S, D, C> ConnectionHandler<'t, K, L, S, D, C> {
         pass: Pass<Global>,
     ) -> io::Result<Self>
     where
-        S: PolledSource + Watched + Drop,
-        D: PolledDrain + Drop,
+        S: Watched + Drop,
+        D: Drop,
         C: Net + Clock,
         requires own { IsPassOf table.now pass }
         ensures worker { IfOk result (λ handler. handler.worker
             ≡ record { table = table.entry.now; pass = pass }) }
         ensures handled { IfOk result (λ handler. handler.handled ≡ 0) }
+        ensures none { IfOk result (λ handler. handler.connections ≡ []) }
     {
         let connections = Connections::new(rt, alloc)?;
         Ok(ConnectionHandler {
@@ -95,7 +104,9 @@ impl<'t, K: LogSink, L: Ledger, S, D, C> ConnectionHandler<'t, K, L, S, D, C> {
 
 /// Connections are served turn by turn, each to its end, whatever ends it: the end of its input, a
 /// fault of its devices, bytes that begin no request. The worker's table and pass stay its own, and
-/// its pass is moved by the requests that it ran, as a worker's answers move it.
+/// its pass is moved by the requests that it ran, as a worker's answers move it. Each connection that
+/// is held stands as one that is served alone: the requests that it sent were run in turn, with those
+/// of others between them, and their replies are what was written.
 impl<'t, K, L, S, D, C> Handler<(S, D)> for ConnectionHandler<'t, K, L, S, D, C>
 where
     K: LogSink,
@@ -106,13 +117,13 @@ where
 {
     type Bell = WorkerBell;
 
-    ghost keeps = { λ before after. Keeps before.worker after.worker };
+    ghost keeps = { Attends };
 
     ghost handled = { λ handler. handler.handled };
 
-    ghost reflexive = { λ handler. keeps_itself handler.worker };
+    ghost reflexive = { attends_itself };
 
-    ghost transitive = { λ a b c. keeps_on a.worker b.worker c.worker };
+    ghost transitive = { attends_on };
 
     fn bell(&self) -> Option<WorkerBell> {
         let ringer = self.connections.ringer()?;
@@ -124,6 +135,8 @@ where
     }
 
     fn handle<R: Wait>(&mut self, _rt: &R, connection: (S, D)) {
+        // A connection that begins stands as one that is served alone.
+        takes_turns::<R, Global, Worker<'t, RandomState, K, L, Global, NoGate>>();
         let (source, drain) = connection;
         self.handled += 1;
         self.connections.add(self.clock, source, drain);

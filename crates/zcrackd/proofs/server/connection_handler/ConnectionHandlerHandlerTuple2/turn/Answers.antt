@@ -1,7 +1,11 @@
 use Rattle.std.proofs.Common.{subst}
-use Rattle.zcrackd.specs.WorkerTurns.{HandlerView, Keeps}
-use Rattle.zcrackd.proofs.WorkerTurnLemmas.{keeps_by_moves}
+use Rattle.zcrackd.specs.WorkerTurns.{HandlerView, Attends}
+use Rattle.zcrackd.proofs.WorkerTurnLemmas.{attends_by_turn}
 use Rattle.zcrackd.proofs.server.connection_handler.ConnectionHandlerHandlerTuple2.turn.Goals as goal
 
 pub returns-clause-keeps : goal.returns-clause-keeps
-returns-clause-keeps g c = subst (λ (h : HandlerView). Keeps h.worker c.turn.new.exec) c.self.view_is (keeps_by_moves _ _ c.turn.ensures.moves)
+returns-clause-keeps g c =
+    let inside = c.self.inside in
+    let before : HandlerView = record { worker = inside.worker; handled = inside.handled; connections = inside.connections } in
+    let after : HandlerView = record { worker = c.turn.new.exec; handled = inside.handled; connections = c.turn.new.self } in
+    subst (λ (h : HandlerView). Attends h after) c.self.view_is (attends_by_turn before after c.turn.ensures.moves c.turn.ensures.goes_on)
