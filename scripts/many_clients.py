@@ -238,6 +238,28 @@ def idle_clients_take_no_processor_time():
         same(server.processor_time() - before < 0.05, True)
 
 
+def memory_of_each(server, count, requests):
+    """The bytes that a server takes for each of so many clients that send so many requests at once, and then nothing."""
+    before = server.memory()
+    with connected(server, count) as idle:
+        for client in idle:
+            same(client.flood(request("PING"), requests, PONG), requests)
+        # the last one is served, so all are held
+        with connected(server, 1) as (last,):
+            same(last.ask("PING"), PONG)
+            return (server.memory() - before) / count
+
+
+@test
+def idle_clients_take_little_memory():
+    if not has_descriptors():
+        return
+    with Server("--workers", 2) as server:
+        memory_of_each(server, 50, 5_000)
+        same([memory_of_each(server, *it) < most for it, most in (((400, 0), 1_024), ((400, 1), 1_024), ((100, 5_000), 32_768))],
+             [True, True, True])
+
+
 @test
 def fifty_silent_clients_are_ended_by_the_timeout():
     with Server("--workers", 2, "--timeout", 1) as server, connected(server, 51) as clients:

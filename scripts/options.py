@@ -150,7 +150,7 @@ def a_connection_is_set_up_and_read_in_long_pieces():
         tracer.communicate(timeout=SECONDS)
     trace = read("trace").decode()
     same(set(re.findall(r"recvfrom\(.*, (\d+), 0, NULL, NULL\)", trace)), {"16384"})
-    same(("ECONNABORTED" in trace, trace.count("TCP_NODELAY, [1]")), (True, 3))
+    same(("ECONNABORTED" in trace, trace.count("TCP_NODELAY, [1]"), trace.count("SO_KEEPALIVE, [1]")), (True, 3, 3))
 
 
 # What a connection may be sent

@@ -73,6 +73,11 @@ class Server:
             user, system = file.read().rsplit(")", 1)[1].split()[11:13]
         return (int(user) + int(system)) / os.sysconf("SC_CLK_TCK")
 
+    def memory(self):
+        """The bytes of its memory that are in use."""
+        with open(f"/proc/{self.process.pid}/statm") as file:
+            return int(file.read().split()[1]) * os.sysconf("SC_PAGE_SIZE")
+
     def end_by(self, number):
         """Ends it by a signal, and waits for it. From then on its clients may find it gone."""
         self.is_ending = True

@@ -1,15 +1,16 @@
 //! Clients of a server of sorted sets on loopback, each on a connection of its own:
 //! `drive WORK CONNECTIONS PIPELINED KEYS REQUESTS PORT PID`. Up to four threads share the connections. Each thread sends
-//! PIPELINED requests on each of its connections, reads the replies of all, and so on, until REQUESTS have been answered;
-//! before that, KEYS sets of 100,000 members together are loaded.
+//! PIPELINED requests on each of its connections, reads the replies of all, and so on, until REQUESTS have been answered.
+//! Before that, KEYS sets of 100,000 members together are loaded, and all requests are written down, so that the clients
+//! take little of the processors meanwhile.
 //!
 //! Prints the requests a second, and the processor time of the server a request in nanoseconds.
 #[path = "../client.rs"]
 #[allow(dead_code)]
 mod client;
 
-use client::{read_reply, request, Random, Reply};
-use std::io::{self, BufReader, Write};
+use client::{read_reply, request, Random};
+use std::io::{self, BufRead, BufReader, Write};
 use std::net::TcpStream;
 use std::sync::{Arc, Barrier};
 use std::time::Instant;
@@ -27,6 +28,46 @@ const THREADS: u64 = 4;
 struct Connection {
     stream: TcpStream,
     replies: BufReader<TcpStream>,
+    /// The line of a reply that was read last.
+    line: Vec<u8>,
+}
+
+impl Connection {
+    /// Reads one whole reply, and keeps nothing of it; it may be no error.
+    fn skip_reply(&mut self) -> io::Result<()> {
+        let mut left = 1;
+        while left > 0 {
+            left -= 1;
+            self.line.clear();
+            self.replies.read_until(b'\n', &mut self.line)?;
+            match self.line.first() {
+                None => return Err(io::ErrorKind::UnexpectedEof.into()),
+                Some(b'-') => panic!("{}", String::from_utf8_lossy(&self.line)),
+                Some(b'*') => left += self.number(),
+                Some(b'$') if self.line[1] != b'-' => self.skip(self.number() + 2)?,
+                Some(_) => (),
+            }
+        }
+        Ok(())
+    }
+
+    /// The number of the line: that of its digits.
+    fn number(&self) -> usize {
+        self.line[1..].iter().take_while(|it| it.is_ascii_digit()).fold(0, |n, it| n * 10 + usize::from(it - b'0'))
+    }
+
+    /// Reads so many bytes more.
+    fn skip(&mut self, mut len: usize) -> io::Result<()> {
+        while len > 0 {
+            let here = self.replies.fill_buf()?.len().min(len);
+            if here == 0 {
+                return Err(io::ErrorKind::UnexpectedEof.into());
+            }
+            self.replies.consume(here);
+            len -= here;
+        }
+        Ok(())
+    }
 }
 
 #[derive(Clone)]
@@ -42,7 +83,7 @@ impl Plan {
         let stream = TcpStream::connect(("127.0.0.1", self.port))?;
         stream.set_nodelay(true)?;
         let replies = BufReader::with_capacity(1 << 16, stream.try_clone()?);
-        Ok(Connection { stream, replies })
+        Ok(Connection { stream, replies, line: Vec::new() })
     }
 
     fn key(&self, random: &mut Random) -> String {
@@ -82,37 +123,29 @@ impl Plan {
         Ok(())
     }
 
-    /// Sends requests on one connection.
-    fn send(&self, connection: &mut Connection, random: &mut Random, out: &mut Vec<u8>) -> io::Result<()> {
-        out.clear();
+    /// The requests that are sent at once on one connection.
+    fn batch(&self, random: &mut Random) -> Vec<u8> {
+        let mut out = Vec::new();
         for _ in 0..self.pipelined {
-            self.ask(random, out);
+            self.ask(random, &mut out);
         }
-        connection.stream.write_all(out)
-    }
-
-    /// Reads their replies; none may be an error.
-    fn receive(&self, connection: &mut Connection) -> io::Result<()> {
-        for _ in 0..self.pipelined {
-            if let Reply::Line(line) = read_reply(&mut connection.replies)? {
-                assert!(!line.starts_with('-'), "{line}");
-            }
-        }
-        Ok(())
+        out
     }
 
     /// So many rounds of requests and replies on so many connections.
     fn drive(&self, seed: u64, connections: u64, rounds: u64, start: &Barrier) -> io::Result<()> {
         let mut random = Random(seed);
+        let batches: Vec<_> = (0..rounds * connections).map(|_| self.batch(&mut random)).collect();
         let mut connections = (0..connections).map(|_| self.connect()).collect::<io::Result<Vec<_>>>()?;
         start.wait();
-        let mut out = Vec::new();
-        for _ in 0..rounds {
-            for connection in &mut connections {
-                self.send(connection, &mut random, &mut out)?;
+        for round in batches.chunks(connections.len()) {
+            for (connection, batch) in connections.iter_mut().zip(round) {
+                connection.stream.write_all(batch)?;
             }
             for connection in &mut connections {
-                self.receive(connection)?;
+                for _ in 0..self.pipelined {
+                    connection.skip_reply()?;
+                }
             }
         }
         Ok(())
