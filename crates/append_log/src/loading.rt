@@ -107,10 +107,16 @@ fn replay_one<H: BuildHasher + Clone + Drop, A: Allocator + Copy>(
     }
 }
 
+/// A number of 64 bits and the end of its line are no longer.
+const LONGEST_LINE: u64 = 42;
+
+/// An argument's text is no longer.
+const LONGEST_ARGUMENT: u64 = 70_000;
+
 /// The length of a number in decimal and of the end of its line.
 fn line_len(n: usize) -> u64
     ensures counted { result ≡ length (line n) }
-    ensures short { result ≤ 42 }
+    ensures short { result ≤ LONGEST_LINE }
 {
     Buffer::new().format(n).len() as u64 + 2
 }
@@ -119,7 +125,7 @@ fn line_len(n: usize) -> u64
 fn argument_len<A: Allocator>(bytes: &Bytes<A>) -> u64
     requires { IsArgument bytes.now }
     ensures counted { result ≡ length (argument bytes.now) }
-    ensures short { result ≤ 70000 }
+    ensures short { result ≤ LONGEST_ARGUMENT }
 {
     1 + line_len(bytes.len()) + bytes.len() as u64 + 2
 }

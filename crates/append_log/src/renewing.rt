@@ -45,13 +45,6 @@ impl From<AllocError> for RewriteFault {
     }
 }
 
-/// A byte string of these bytes.
-fn bytes_of<A: Allocator>(alloc: A, bytes: &[u8]) -> Result<Bytes<A>, AllocError>
-    ensures { IfOk result (λ text. text ≡ bytes.now) }
-{
-    Ok(Bytes::new(Vec::from_slice(alloc, bytes)?))
-}
-
 /// A score as a byte string.
 fn score_bytes<A: Allocator>(alloc: A, score: i64) -> Result<Bytes<A>, AllocError>
     ensures { IfOk result (λ text. text ≡ score_text score) }
@@ -71,7 +64,7 @@ fn push_pair<A: Allocator + Copy>(
         ∷ []) }
 {
     words.push(score_bytes(alloc, pair.score())?)?;
-    words.push(bytes_of(alloc, pair.member())?)?;
+    words.push(Bytes::from_slice(alloc, pair.member())?)?;
     Ok(())
 }
 
@@ -84,8 +77,8 @@ fn words_of<A: Allocator + Copy>(
     ensures { IfOk result (λ words. words ≡ add_record key.now pairs.now) }
 {
     let mut words = Vec::new(alloc);
-    words.push(bytes_of(alloc, b"ZADD")?)?;
-    words.push(bytes_of(alloc, key)?)?;
+    words.push(Bytes::from_slice(alloc, b"ZADD")?)?;
+    words.push(Bytes::from_slice(alloc, key)?)?;
     for row in pairs {
         push_pair(alloc, &mut words, row)?;
     }

@@ -5,6 +5,8 @@
 #[cfg(test)]
 mod columns;
 #[cfg(test)]
+mod gap_removals;
+#[cfg(test)]
 mod merges;
 #[cfg(test)]
 mod passes;

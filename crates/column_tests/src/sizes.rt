@@ -109,15 +109,14 @@ fn a_sliding_window_takes_no_more_memory(rt: HostRuntime) -> Result<(), Fail> {
     Ok(())
 }
 
-/// Ranges at either end of 1,000 rows and between them, of 400 rows each.
-const LEAVING: [(Bound, Bound); 3] = [
-    (Bound::NegInf, Bound::Excl(400)),
-    (Bound::Incl(300), Bound::Excl(700)),
-    (Bound::Incl(600), Bound::PosInf),
+/// Ranges at either end of 1,000 rows and between them, of 400 rows each, one of few rows, and what the members of
+/// these rows take at the least.
+const LEAVING: [(Bound, Bound, usize); 4] = [
+    (Bound::NegInf, Bound::Excl(400), 40_000),
+    (Bound::Incl(300), Bound::Excl(700), 40_000),
+    (Bound::Incl(600), Bound::PosInf, 40_000),
+    (Bound::Incl(500), Bound::Excl(510), 1000),
 ];
-
-/// What the members of 400 rows take at the least.
-const LEAVING_BYTES: usize = 40_000;
 
 /// How many bytes more a heap has once the rows of a range left a new column, with members that take blocks of their
 /// own.
@@ -141,10 +140,10 @@ fn given_back(heap: &LocalHeap, min: Bound, max: Bound) -> Result<usize, AllocEr
 
 #[test]
 fn rows_that_left_give_their_blocks_back(rt: HostRuntime) -> Result<(), Fail> {
-    for (min, max) in LEAVING {
+    for (min, max, least) in LEAVING {
         let heap = LocalHeap::new(rt.alloc(), ROOM)?;
         let bytes = given_back(&heap, min, max)?;
-        assert!(rt; bytes >= LEAVING_BYTES, "{bytes}");
+        assert!(rt; bytes >= least, "{bytes}");
     }
     Ok(())
 }
@@ -175,6 +174,58 @@ fn a_merged_list_is_given_back(rt: HostRuntime) -> Result<(), Fail> {
         assert!(rt;
             merged <= waiting.saturating_add(waiting / 4),
             "{count}: {merged}"
+        );
+    }
+    Ok(())
+}
+
+/// How many bytes more a heap has once a change gave room back, for which so many rows were to wait to be taken out.
+fn give_room_back<'h>(
+    heap: &'h LocalHeap,
+    column: &mut Column<&'h LocalHeap>,
+    rows: u16,
+    room: u16,
+) -> Result<usize, AllocError>
+    requires { room < 1024 }
+{
+    fill(heap, column, rows, b"m")?;
+    column.select(&ALL)?;
+    column.reserve_write(usize::from(room))?;
+    let used = heap.used();
+    column.give_back_room();
+    Ok(used.saturating_sub(heap.used()))
+}
+
+fn room_given_back(heap: &LocalHeap, rows: u16, room: u16) -> Result<usize, AllocError>
+    requires { room < 1024 }
+{
+    let mut column = Column::new(heap);
+    give_room_back(heap, &mut column, rows, room)
+}
+
+/// How many rows a column has, for how many more room was made in each list, and whether that is given back.
+const ROOMS: [(u16, u16, bool); 5] = [
+    (0, 50, true),
+    (900, 300, true),
+    (10, 16, false),
+    (1023, 17, true),
+    (1024, 300, false),
+];
+
+// A row takes 32 bytes.
+#[test]
+fn room_that_stays_empty_is_given_back(rt: HostRuntime) -> Result<(), Fail> {
+    for (rows, room, is_given_back) in ROOMS {
+        let heap = LocalHeap::new(rt.alloc(), ROOM)?;
+        let bytes = room_given_back(&heap, rows, room)?;
+        let least = if is_given_back {
+            usize::from(room) * 64
+        } else {
+            0
+        };
+        assert!(rt;
+            bytes >= least && (bytes > 0) == is_given_back,
+            "{rows} rows, room for {room}: {bytes}"
         );
     }
     Ok(())

@@ -290,7 +290,7 @@ fn expect_no_inner<R: Abort>(rt: &R, column: &mut Column<Global>) -> Result<(), 
     column.narrow(&all, 0, 10);
     show_pivots(column, 500)?;
     assert!(rt; inner_pivots(column) > 0);
-    show_pivots(column, 600)?;
+    show_pivots(column, 700)?;
     assert_eq!(rt; inner_pivots(column), 0);
     Ok(())
 }

@@ -40,7 +40,7 @@ pub struct ServeTask<'a> {
     pub connections: u64,
     /// Clients that are served at once: 1 to 64,000.
     pub max_clients: u64,
-    /// Seconds for which a connection may send or take nothing, or 0 for any time: 0 to 86,400.
+    /// Seconds after which a connection on which no byte moves is ended, or 0 for never: 0 to 86,400.
     pub timeout: u64,
 }
 
@@ -106,7 +106,7 @@ fn clients_option<'a>(alloc: Global) -> Arg<'a> {
 
 fn timeout_option<'a>(alloc: Global) -> Arg<'a> {
     let help =
-        "Ends a connection that sends or takes nothing for so many seconds, 0 to 86400; 0 is never";
+        "Ends a connection on which no byte moves for so many seconds, 0 to 86400; 0 is never";
     number_option(alloc, "timeout", help, 0, MAX_TIMEOUT, "0")
 }
 

@@ -9,7 +9,7 @@ use crate::buffers::Buffers;
 use resp_wire::{ByteDrain, ByteSource, MAX_READS, Outbox, PolledDrain, PolledSource};
 use session_core::{Ended, Exec, Session, SessionFault, takes_turns};
 use std::alloc::Allocator;
-use std::time::{Clock, Instant};
+use std::time::{Clock, Duration, Instant};
 
 /// How many requests of one connection are run before the others have their turn.
 pub const MOST_REQUESTS: u32 = 128;
@@ -17,8 +17,11 @@ pub const MOST_REQUESTS: u32 = 128;
 /// With so many bytes of replies that are on their way a connection's turn ends.
 pub const MOST_HELD: usize = 65_536;
 
-/// After so many milliseconds a connection's turn ends, with the request that is being run.
-pub const MOST_MILLIS: u128 = 1;
+/// After so many milliseconds a connection's turn ends, with the requests up to the next look at the clock.
+pub const MOST_MILLIS: u64 = 1;
+
+/// The clock is looked at once for so many requests: it takes as long as a tenth of a short one.
+const REQUESTS_A_LOOK: u32 = 4;
 
 /// How far a visit is.
 #[derive(Clone, Copy, Debug, PartialEq, Eq)]
@@ -180,7 +183,7 @@ impl<S: PolledSource, D: PolledDrain, A: Allocator + Copy> Visit<S, D, A> {
     {
         takes_turns::<R, A, E>();
         let mut begun = None;
-        for _ in 0..MOST_REQUESTS {
+        for count in 0..MOST_REQUESTS {
             match self.session.turn(rt, 1, &mut self.outbox, exec) {
                 Err(end) => {
                     self.stage = Stage::Ended(Err(end));
@@ -193,7 +196,8 @@ impl<S: PolledSource, D: PolledDrain, A: Allocator + Copy> Visit<S, D, A> {
                     }
                 }
             }
-            if self.outbox.len() >= MOST_HELD || is_over(clock, &mut begun) {
+            let looks = count % REQUESTS_A_LOOK == 0;
+            if self.outbox.len() >= MOST_HELD || (looks && is_over(clock, &mut begun)) {
                 return;
             }
         }
@@ -294,7 +298,7 @@ fn is_over<C: Clock>(clock: &C, begun: &mut Option<Instant>) -> bool {
         return true;
     };
     match begun {
-        Some(begun) => now.duration_since(*begun).as_millis() >= MOST_MILLIS,
+        Some(begun) => now.duration_since(*begun) >= Duration::from_millis(MOST_MILLIS),
         None => {
             *begun = Some(now);
             false

@@ -19,7 +19,7 @@ pub type Logged<S, L> = LoggedOwner<RandomState, S, L, Global>;
 fn request(alloc: Global, text: &str) -> Result<Request<Global>, Fail> {
     let mut arguments = Vec::new(alloc);
     for argument in text.split(' ') {
-        arguments.push(Bytes::new(Vec::from_slice(alloc, argument.as_bytes())?))?;
+        arguments.push(Bytes::from_slice(alloc, argument.as_bytes())?)?;
     }
     Ok(Request::new(BytesList::new(arguments)).ok_or("no request")?)
 }

@@ -44,11 +44,11 @@ fn long_word(heap: &LocalHeap, byte: u8) -> Result<Bytes<&LocalHeap>, Fail> {
 fn long_removal(heap: &LocalHeap) -> Result<Command<&LocalHeap>, Fail> {
     let mut words = Vec::new(heap);
     for word in ["ZREM", "k"] {
-        words.push(Bytes::new(Vec::from_slice(heap, word.as_bytes())?))?;
+        words.push(Bytes::from_slice(heap, word.as_bytes())?)?;
     }
     words.push(long_word(heap, b'x')?)?;
     words.push(long_word(heap, b'y')?)?;
-    words.push(Bytes::new(Vec::from_slice(heap, b"a")?))?;
+    words.push(Bytes::from_slice(heap, b"a")?)?;
     let request = Request::new(BytesList::new(words)).ok_or("no request")?;
     Command::read(heap, request).map_err(|_| Fail::from("no command"))
 }
@@ -57,7 +57,7 @@ fn long_removal(heap: &LocalHeap) -> Result<Command<&LocalHeap>, Fail> {
 fn long_addition(heap: &LocalHeap) -> Result<Command<&LocalHeap>, Fail> {
     let mut words = Vec::new(heap);
     for word in ["ZADD", "k", "3"] {
-        words.push(Bytes::new(Vec::from_slice(heap, word.as_bytes())?))?;
+        words.push(Bytes::from_slice(heap, word.as_bytes())?)?;
     }
     words.push(long_word(heap, b'z')?)?;
     let request = Request::new(BytesList::new(words)).ok_or("no request")?;

@@ -21,7 +21,7 @@ use zset_core::{Command, OneOwner, Refusal};
 pub fn command<A: Allocator + Copy>(alloc: A, words: &str) -> Result<Command<A>, Fail> {
     let mut list = Vec::new(alloc);
     for word in words.split(' ') {
-        list.push(Bytes::new(Vec::from_slice(alloc, word.as_bytes())?))?;
+        list.push(Bytes::from_slice(alloc, word.as_bytes())?)?;
     }
     let request = Request::new(BytesList::new(list)).ok_or("no request")?;
     Command::read(alloc, request).map_err(|_| Fail::from("no command"))
@@ -123,7 +123,7 @@ fn is_refused(after: AfterReload) -> bool {
 }
 
 /// The least number of allocations that a reload of the three records makes.
-const LEAST_OF_A_RELOAD: u64 = 25;
+const LEAST_OF_A_RELOAD: u64 = 20;
 
 /// Each allocation of a reload is refused, one in each run, until a run has no more. Each run leaves the sets
 /// that the first so many records replay to. The last record is a removal, which takes what is kept back where it

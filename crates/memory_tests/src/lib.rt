@@ -1,5 +1,5 @@
 //! Tests of what takes no memory and of what takes little: changes that were prepared, sets that are handed over,
-//! windows, and records of removals. This crate has nothing but tests.
+//! windows, records of removals, and the sizes of sets. This crate has nothing but tests.
 #![tactic(auto)]
 
 #[cfg(test)]
@@ -8,3 +8,5 @@ mod little_room;
 mod no_memory;
 #[cfg(test)]
 mod owners;
+#[cfg(test)]
+mod sizes;

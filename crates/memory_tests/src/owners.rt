@@ -14,7 +14,7 @@ pub type Owner<A> = OneOwner<RandomState, A>;
 pub fn command<A: Allocator + Copy>(alloc: A, text: &str) -> Result<Command<A>, Fail> {
     let mut words = Vec::new(alloc);
     for word in text.split(' ') {
-        words.push(Bytes::new(Vec::from_slice(alloc, word.as_bytes())?))?;
+        words.push(Bytes::from_slice(alloc, word.as_bytes())?)?;
     }
     let request = Request::new(BytesList::new(words)).ok_or("no request")?;
     Command::read(alloc, request).map_err(|_| Fail::from("no command"))

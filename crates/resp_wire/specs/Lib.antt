@@ -1,3 +1,4 @@
+pub mod StoredBytes
 pub mod RequestEncoding
 pub mod Parser
 pub mod Stream

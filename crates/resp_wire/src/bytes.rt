@@ -1,58 +1,95 @@
 //! Byte strings, and lists of them.
 
-ghost use Rattle.std.specs.Prelude.{◌≡◌, ◌↔◌, [], length, nat_eq, IsTrue};
+ghost use Rattle.std.specs.Prelude.{◌≡◌, ◌≤◌, ◌↔◌, [], length, nat_eq, IfOk, IsOk, IsTrue};
 ghost use Rattle.std.specs.Cmp.{partial_equiv_from_equiv};
 ghost use Rattle.std.specs.Cmp.Lexicographic.{pointwise, nat_list_eq_equiv, lists_equiv};
 
-use std::alloc::Allocator;
+use short_bytes::{IN_PLACE, Inline};
+use std::alloc::{AllocError, Allocator};
+use std::fmt;
 use std::marker::Model;
 
-/// A byte string: a key, a member or another argument. A contract sees the list of its bytes.
+/// Where the bytes stand: in place, or in a block of their own.
 #[derive(Drop)]
-#[derive_where(Debug)]
+enum Storage<A: Allocator> {
+    InPlace(Inline),
+    Apart(Vec<u8, A>),
+}
+
+/// A byte string: a key, a member or another argument. Up to [`IN_PLACE`] bytes that were copied from a slice take no
+/// memory of their own. A contract sees the list of its bytes.
 pub struct Bytes<A: Allocator> {
-    bytes: Vec<u8, A>,
+    storage: Storage<A>,
 }
 
 impl<A: Allocator> Model for Bytes<A> {
     ghost use Rattle.std.specs.Prelude.{ℕ, List};
+    ghost use Rattle.resp_wire.specs.StoredBytes.{stored_bytes};
 
     ghost Value = { List ℕ };
 
-    ghost view = { λ b. b.bytes.items };
+    ghost view = { λ b. stored_bytes b.storage };
+}
+
+/// By hand, so that a proof about code that drops a byte string has no case for each place.
+impl<A: Allocator> Drop for Bytes<A> {
+    fn drop(self) {
+        let Bytes { storage: _ } = self;
+    }
 }
 
 impl<A: Allocator> Bytes<A> {
-    /// The byte string of these bytes.
+    /// The byte string of these bytes, which stay where they are.
     pub fn new(bytes: Vec<u8, A>) -> Self
         ensures { result ≡ bytes.items }
     {
-        Bytes { bytes }
+        Bytes {
+            storage: Storage::Apart(bytes),
+        }
+    }
+
+    /// A copy of these bytes.
+    ///
+    /// # Errors
+    ///
+    /// [`AllocError`] where there is no memory for more than [`IN_PLACE`] bytes.
+    pub fn from_slice(alloc: A, bytes: &[u8]) -> Result<Self, AllocError>
+        ensures bytes { IfOk result (λ copy. copy ≡ bytes.now) }
+        ensures short { length bytes.now ≤ IN_PLACE → IsOk result }
+    {
+        let storage = if bytes.len() <= IN_PLACE {
+            Storage::InPlace(Inline::new(bytes))
+        } else {
+            Storage::Apart(Vec::from_slice(alloc, bytes)?)
+        };
+        Ok(Bytes { storage })
     }
 
     pub fn as_slice(&self) -> &[u8]
         ensures { result.now ≡ self.now }
     {
-        self.bytes.as_slice()
+        match &self.storage {
+            Storage::InPlace(bytes) => bytes.as_slice(),
+            Storage::Apart(bytes) => bytes.as_slice(),
+        }
     }
 
     pub fn len(&self) -> usize
         ensures { result ≡ length self.now }
     {
-        self.bytes.len()
+        self.as_slice().len()
     }
 
     pub fn is_empty(&self) -> bool
         ensures { IsTrue result ↔ (self.now ≡ []) }
     {
-        self.bytes.is_empty()
+        self.as_slice().is_empty()
     }
+}
 
-    /// Gives the bytes back, without memory.
-    pub fn into_vec(self) -> Vec<u8, A>
-        ensures { result.items ≡ self }
-    {
-        self.bytes
+impl<A: Allocator> fmt::Debug for Bytes<A> {
+    fn fmt<W: fmt::Write>(&self, f: &mut fmt::Formatter<W>) -> fmt::Result {
+        self.as_slice().fmt(f)
     }
 }
 

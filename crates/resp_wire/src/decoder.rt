@@ -35,6 +35,21 @@ fn drop_read<A: Allocator>(bytes: &mut Vec<u8, A>, start: usize) -> usize
     0
 }
 
+/// Puts a piece behind the unread bytes, which begin at `start`.
+fn append<A: Allocator>(
+    bytes: &mut Vec<u8, A>,
+    start: usize,
+    piece: &[u8],
+) -> Result<(), AllocError>
+    requires { start ≤ length bytes.old.items }
+    ensures ok { OnOk result (drop start bytes.new.items ≡ drop start bytes.old.items ++ piece.now) }
+    ensures count { OnOk result (length bytes.new.items ≡ length bytes.old.items + length piece.now) }
+    ensures err { OnErr result (bytes.new.items ≡ bytes.old.items) }
+    ensures within { start ≤ length bytes.new.items }
+{
+    bytes.extend_from_slice(piece)
+}
+
 /// Takes a stream of requests in whatever pieces it comes. A contract sees the bytes that it holds,
 /// the number of bytes that it gave as requests or skipped before them, and the fault that it
 /// answered.
@@ -129,7 +144,7 @@ impl<A: Allocator + Copy> Decoder<A> {
             return Ok(());
         }
         self.start = drop_read(&mut self.bytes, self.start);
-        self.bytes.extend_from_slice(piece)
+        append(&mut self.bytes, self.start, piece)
     }
 
     /// The first whole request of the bytes held, which is taken off them. None: there is none yet, and

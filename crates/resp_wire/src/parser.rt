@@ -109,5 +109,5 @@ pub fn argument<A: Allocator>(alloc: A, bytes: &[u8]) -> Result<(Bytes<A>, &[u8]
     ensures { GivesUnlessFull (λ found. (found.0, found.1.now)) result (argument_at bytes.now) }
 {
     let (text, rest) = argument_text(bytes)?;
-    Ok((Bytes::new(Vec::from_slice(alloc, text)?), rest))
+    Ok((Bytes::from_slice(alloc, text)?, rest))
 }

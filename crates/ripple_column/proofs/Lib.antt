@@ -19,3 +19,4 @@ pub mod InnerCracks
 pub mod Removal
 pub mod FrontRoom
 pub mod Spans
+pub mod GapRemoval

@@ -10,7 +10,7 @@ use Rattle.std.proofs.lemmas.List.Sums.{sum_by-append}
 use Rattle.score_bounds.specs.declared.bounds.Cut.{Cut}
 use Rattle.score_bounds.specs.declared.bounds.Cut.TheVariants.{Start, At, End}
 use Rattle.score_bounds.specs.declared.bounds.Range.{Range}
-use Rattle.crack_kernel.specs.RowBag.{Test, IsSubBag}
+use Rattle.crack_kernel.specs.RowBag.{Test, IsSubBag, SameBag}
 use Rattle.crack_kernel.specs.Parts.{IsBelow, IsFrom, IsParted}
 use Rattle.crack_kernel.specs.PivotList.{ArePlacedInOrder, ObeysPivots, closed_up}
 use Rattle.ripple_column.specs.ClosedUp.{closed_up_pivots, closed_up_rows}
@@ -18,7 +18,7 @@ use Rattle.ripple_column.specs.Content.{ColumnState, content_count, has_score_in
 use Rattle.ripple_column.specs.CutPivots.{is_before, StandsAt}
 use Rattle.ripple_column.specs.RangeAnswer.{HoldsRange, IsAnswer, IsSettled, low_cut, high_cut}
 use Rattle.ripple_column.specs.ShownPivots.{AreFound, IsAmong}
-use Rattle.ripple_column.proofs.Counts.{count_and_le, count_none, count_split}
+use Rattle.ripple_column.proofs.Counts.{count_all, count_and_le, count_none, count_split}
 use Rattle.ripple_column.proofs.InnerPivots.{among_found, found_among}
 
 -- a pivot's place, once the rows between two places are gone
@@ -160,21 +160,23 @@ StandsAt-second End ps from to n n' order within long at = omega arith
 
 -- the rows of a range left a column
 pub record IsClosedUp (old new : ColumnState) (answer : ℕ × ℕ) : Type 0 where
-  pub rows : new.rows ≡ closed_up_rows answer.0 answer.1 old.rows
+  pub rows : SameBag new.rows (closed_up_rows answer.0 answer.1 old.rows)
   pub pivots : new.pivots ≡ closed_up_pivots answer.0 answer.1 old.pivots
   pub insertions : new.insertions ≡ old.insertions
   pub deletions : new.deletions ≡ old.deletions
 
 pub IsAnswer-closed_up : (old new : ColumnState) (range : Range) (a : ℕ × ℕ) → IsClosedUp old new a → HoldsRange old range a → IsAnswer old range a → IsAnswer new range (a.0, a.0)
 IsAnswer-closed_up old new range a gone holds answer =
-    let long = closed_up-length old.rows a.0 a.1 holds.order holds.within in
+    let closed = closed_up-length old.rows a.0 a.1 holds.order holds.within in
+    let all = gone.rows (λ r. true) in
+    let long : length new.rows + (a.1 - a.0) ≡ length old.rows = omega (arith, closed, all, count_all new.rows, count_all (closed_up_rows a.0 a.1 old.rows)) in
     elim (cases_Bool (is_before (low_cut range) (high_cut range))) [
       | inl order ↦
           let s : IsSettled old range a = rw order at answer in
           let t : IsSettled new range (a.0, a.0) =
           record {
-            low = rw (gone.rows, gone.pivots) (StandsAt-first (low_cut range) old.pivots a.0 a.1 (length old.rows) _ holds.order holds.within long s.low);
-            high = rw (gone.rows, gone.pivots) (StandsAt-second (high_cut range) old.pivots a.0 a.1 (length old.rows) _ holds.order holds.within long s.high);
+            low = rw gone.pivots (StandsAt-first (low_cut range) old.pivots a.0 a.1 (length old.rows) (length new.rows) holds.order holds.within long s.low);
+            high = rw gone.pivots (StandsAt-second (high_cut range) old.pivots a.0 a.1 (length old.rows) (length new.rows) holds.order holds.within long s.high);
             insertions = rw gone.insertions s.insertions;
             deletions = rw gone.deletions s.deletions;
           } in
@@ -203,7 +205,7 @@ content_closed_up old new range a gone holds part p =
     let rows = count_split p q old.rows in
     let insertions = count_split p q old.insertions in
     let deletions = count_split p q old.deletions in
-    rw (gone.rows, gone.insertions, gone.deletions) (omega (arith, left, taken, rows, insertions, deletions, part p, part inside, part outside))
+    rw (gone.insertions, gone.deletions) (omega (arith, gone.rows p, left, taken, rows, insertions, deletions, part p, part inside, part outside))
 
 both_not : (a b : Bool) → ((a && b) && not b) ≡ false
 both_not true true = refl
@@ -238,19 +240,20 @@ part_closed_up old new range a gone holds part answer =
           let none' = count_none q old.deletions s.deletions in
           let nothing = count_and_le p q old.insertions in
           let nothing' = count_none q old.insertions s.insertions in
-          rw gone.rows (omega (arith, left, taken, rows, deletions, part outside, none, none', nothing, nothing'))
+          omega (arith, gone.rows p, left, taken, rows, deletions, part outside, none, none', nothing, nothing')
       | inr reversed ↦
           let same : a ≡ (0, 0) = rw reversed at answer in
           λ p.
           let left : closed_up_rows a.0 a.1 old.rows ≡ old.rows = ap (λ (b : ℕ × ℕ). closed_up_rows b.0 b.1 old.rows) same in
-          rw (gone.rows, left) (part p)
+          let rest = ap (λ (z : List (ℤ × List ℕ)). count_by p z) left in
+          omega (arith, gone.rows p, rest, part p)
     ]
 
 -- no row came
 pub rows_closed_up : (old new : ColumnState) (range : Range) (a : ℕ × ℕ) → IsClosedUp old new a → HoldsRange old range a → IsSubBag new.rows old.rows
 rows_closed_up old new range a gone holds p =
     let left = count_closed_up p old.rows a.0 a.1 holds.order in
-    rw gone.rows (omega (arith, left))
+    omega (arith, gone.rows p, left)
 
 -- by the pivot law a pivot of a greater value has no lower place
 pub placed_in_order : (ps : List (ℤ × ℕ)) (rows : List (ℤ × List ℕ)) → ObeysPivots ps rows → ArePlacedInOrder ps

@@ -1,6 +1,6 @@
 -- The rows that wait in a range, gathered at the end of a list.
-use Rattle.std.proofs.Common.{◌≡◌, ℕ, true, false, not, ◌&&◌, ◌+◌, ◌≤◌, ℤ, List, length, get_or, take, drop, count_by, sym, ◌∙◌, ap, arith, IsPermutation}
-use Rattle.std.specs.List.{AllWithin}
+use Rattle.std.proofs.Common.{◌≡◌, ℕ, zero, suc, refl, [], ◌∷◌, true, false, not, ◌&&◌, ◌+◌, ◌≤◌, ℤ, List, length, get_or, take, drop, count_by, sym, ◌∙◌, ap, arith, IsPermutation}
+use Rattle.std.specs.List.{AllWithin, list_any}
 use Rattle.std.proofs.lemmas.List.{length-drop, get_or-drop, get_or-take, take-append-drop}
 use Rattle.std.proofs.lemmas.List.Sorted.{IsPermutation-refl}
 use Rattle.score_bounds.specs.declared.bounds.Range.{Range}
@@ -35,6 +35,14 @@ count_within_tail w n xs fits tail =
     let all = count_all (drop n xs) in
     let parts = count_parts w n xs in
     omega (arith, none, split, both, all, parts, length-drop n xs)
+
+-- where the first rows fail a test, any row passes it exactly where one behind them does
+pub list_any_behind : (p : Test) (n : ℕ) (xs : List (ℤ × List ℕ)) → AllWithin (λ r. p r ≡ false) xs 0 n → list_any p (drop n xs) ≡ list_any p xs
+list_any_behind p zero xs none = refl
+list_any_behind p (suc n) [] none = refl
+list_any_behind p (suc n) (x ∷ xs) none =
+    let head : p x ≡ false = none 0 x (omega arith) (omega arith) in
+    rw head (list_any_behind p n xs (λ k d l h. none (suc k) d (omega arith) (omega arith)))
 
 -- what fails w still waits, where the front is the same and no row came
 pub SameOutside-tail : (q : Test) (n : ℕ) (old mid new : List (ℤ × List ℕ)) → count_by q (take n mid) ≡ count_by q old → IsPermutation old mid

@@ -16,11 +16,17 @@ use crack_kernel::{Pivots, Row};
 use score_bounds::Cut;
 use std::alloc::Allocator;
 
-/// A piece of fewer rows is cracked at a cut alone, which reads them as fast as a crack in the center.
+/// A piece of so many rows or more is long: one whose rows take long to read.
 const LONG_PIECE: usize = 2048;
 
-/// A cut comes near the end of a piece where fewer rows of its sample than this are on one side.
+/// A piece of fewer rows is cracked at a cut alone, which reads them as fast as a crack in the center.
+const CENTERED_ROWS: usize = 256;
+
+/// A cut comes near the end of a long piece where fewer rows of its sample than this are on one side.
 const NEAR: usize = SAMPLE / 8;
+
+/// The same of a piece that is not long: few enough that cuts at random seldom crack its center too.
+const NEAR_IN_SHORT: usize = 2;
 
 /// Around so many places, at equal distances, the pieces are looked at to tell whether all are short.
 const LOOKED_AT: usize = 8;
@@ -61,16 +67,21 @@ pub fn is_short_at<A: Allocator>(pivots: &Pivots<A>, cut: &Cut, rows_len: usize)
 
 /// A score that parts these rows in the center, where a cut at `v` would come near an end of them.
 fn center_score<A: Allocator>(rows: &[Row<A>], v: i64) -> Option<i64> {
+    let near = if rows.len() < LONG_PIECE {
+        NEAR_IN_SHORT
+    } else {
+        NEAR
+    };
     let mut sample = sample_of(rows)?;
     let below = sample.iter().filter(|score| **score < v).count();
-    if below >= NEAR && below <= SAMPLE - NEAR {
+    if below >= near && below <= SAMPLE - near {
         return None;
     }
     sample.sort_unstable();
     parting_score_at(&sample, SAMPLE / 2)
 }
 
-/// Cracks the piece of `v` in its center, where it is long and a cut at `v` would come near its end, and
+/// Cracks the piece of `v` in its center, where it has enough rows and a cut at `v` would come near its end, and
 /// answers whether it did. Where `v` is a pivot it cracks nothing.
 fn crack_center<A: Allocator>(pieces: &mut Pieces<A>, v: i64) -> bool
     ensures cracked { AreCracked pieces.old pieces.new }
@@ -84,7 +95,7 @@ fn crack_center<A: Allocator>(pieces: &mut Pieces<A>, v: i64) -> bool
     }
     let rows_len = cracked.rows.len();
     let (from, to) = cracked.pivots.piece_at(index, rows_len);
-    if from >= to || to > rows_len || to - from < LONG_PIECE {
+    if from >= to || to > rows_len || to - from < CENTERED_ROWS {
         return false;
     }
     let Some(center) = center_score(&cracked.rows.list()[from..to], v) else {
@@ -98,8 +109,8 @@ fn crack_center<A: Allocator>(pieces: &mut Pieces<A>, v: i64) -> bool
     crack_inside(pieces, center)
 }
 
-/// Cracks the piece of `v` in its center, and the half of it with `v` again, until a cut there comes near no
-/// end of a long piece.
+/// Cracks the piece of `v` in its center, and the half of it with `v` again, until a cut there comes near no end of
+/// its piece or the piece has few rows.
 fn crack_centers<A: Allocator>(pieces: &mut Pieces<A>, v: i64)
     ensures cracked { AreCracked pieces.old pieces.new }
     ensures still { (k : ℕ) (d : ℤ × List ℕ) → IsUncracked (At v) pieces.old.cracked.pivots.list k
@@ -123,7 +134,7 @@ fn approach_cut<A: Allocator>(pieces: &mut Pieces<A>, cut: &Cut)
     }
 }
 
-/// Cracks the pieces of two cuts in their centers, so that the cuts come near no end of a long piece.
+/// Cracks the pieces of two cuts in their centers, so that the cuts come near no end of a piece of many rows.
 pub fn approach_cuts<A: Allocator>(pieces: &mut Pieces<A>, first: &Cut, second: &Cut)
     ensures cracked { AreCracked pieces.old pieces.new }
     ensures still { (k : ℕ) (d : ℤ × List ℕ) → IsUncracked first.now (shown pieces.old) k

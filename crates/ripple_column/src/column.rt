@@ -1,7 +1,7 @@
 //! The column.
 
 ghost use Rattle.std.specs.Prelude.{◌≡◌, ◌+◌, ◌<◌, ◌≤◌, ◌&&◌, ℕ, [], ◌∷◌, not, true, false, length, count_by, slice_range, IsPermutation, IfOk, IfSome, OnOk, OnErr};
-ghost use Rattle.crack_kernel.specs.RowBag.{IsSubBag, Test};
+ghost use Rattle.crack_kernel.specs.RowBag.{IsSubBag, SameBag, Test};
 ghost use Rattle.crack_kernel.specs.PivotList.{ObeysPivots};
 ghost use Rattle.ripple_column.specs.RangeAnswer.{AddsCuts, HasAnswer, HoldsRange, IsAnswer, StandsStill, low_cut, high_cut, pivots_with_cuts};
 ghost use Rattle.ripple_column.specs.Content.{HasRow, IsUnchanged, NoneIn, Pends, SameContent, SameOutside, content_count, has_score_in, most_pending};
@@ -11,7 +11,7 @@ ghost use Rattle.ripple_column.specs.ShownPivots.{IsAmong};
 
 use crate::cracking::is_before;
 use crate::inner_cracks::{is_wide, narrow};
-use crate::pending_lists::{MAX_PENDING, MAX_RESERVED, Pending};
+use crate::pending_lists::{KEEPS_ROOM_FROM, MAX_PENDING, MAX_RESERVED, Pending, SMALL_ROOM};
 use crate::pieces::Pieces;
 use crate::range_removal::remove_between;
 use crate::select::{select_between, settled_places};
@@ -151,6 +151,19 @@ impl<A: Allocator + Copy> Column<A> {
             .pend(row, &mut self.pending.insertions);
     }
 
+    /// Gives back the room of each list in which no row waits, where it is for more than [`SMALL_ROOM`] rows and the
+    /// column has fewer than [`KEEPS_ROOM_FROM`]. A change calls it at its end: beside few rows such room would be much.
+    pub fn give_back_room(&mut self)
+        ensures unchanged { IsUnchanged self.old self.new }
+        ensures insertions { length self.old.rows < KEEPS_ROOM_FROM → self.old.insertions ≡ []
+            → self.new.insert_spare ≤ SMALL_ROOM }
+        ensures deletions { length self.old.rows < KEEPS_ROOM_FROM → self.old.deletions ≡ []
+            → self.new.delete_spare ≤ SMALL_ROOM }
+    {
+        self.pending
+            .give_back(self.pieces.cracked.rows.len(), SMALL_ROOM);
+    }
+
     /// Merges all that waits. On Err, the column is unchanged.
     pub fn merge_all(&mut self) -> Result<(), AllocError>
         ensures content { SameContent self.old self.new }
@@ -193,14 +206,15 @@ impl<A: Allocator + Copy> Column<A> {
     }
 
     /// Takes the rows with scores in the range out of the column, which has an answer for it as it
-    /// stands, and the rows behind them close up. Pivots stay: a place inside the gap becomes its start,
-    /// one behind it moves up. What waits goes on waiting. It takes no memory.
+    /// stands. The others stay, and change places only between pivots. Pivots stay: a place inside the range becomes its
+    /// start, one behind it moves up. What waits goes on waiting. It takes no memory.
     ///
-    /// Its cost grows with the pivots, the rows that leave and, unless they are the first, those behind them.
+    /// Its cost grows with the pivots on one side of the range and with the rows that leave, or, where these are fewer,
+    /// with the rows on one side of it.
     pub fn remove_rows(&mut self, range: &Range)
         requires ready { HasAnswer self.old range.now }
         ensures rows { (answer : ℕ × ℕ) → IsAnswer self.old range.now answer
-            → self.new.rows ≡ closed_up_rows answer.0 answer.1 self.old.rows }
+            → SameBag self.new.rows (closed_up_rows answer.0 answer.1 self.old.rows) }
         ensures pivots { (answer : ℕ × ℕ) → IsAnswer self.old range.now answer
             → self.new.pivots ≡ closed_up_pivots answer.0 answer.1 self.old.pivots }
         ensures insertions { self.new.insertions ≡ self.old.insertions }

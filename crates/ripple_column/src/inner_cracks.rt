@@ -27,8 +27,8 @@ const ROWS_A_PIVOT: usize = 64;
 /// From so many pivots on a search cracks nothing: the pieces are short enough by then.
 const SEARCH_PIVOTS: usize = 512;
 
-/// A window cracks no piece of fewer rows: they are copied and put in order as fast.
-const WINDOW_ROWS: usize = 512;
+/// A window cracks no piece of fewer rows: there is no sample of them, and they are as fast copied and put in order.
+const WINDOW_ROWS: usize = SAMPLE;
 
 /// How many places of the sample a window's crack stands away from the window, so that this lies
 /// inside the smaller part for nearly every sample.

@@ -33,4 +33,4 @@ mod select;
 mod shown_pivots;
 
 pub use column::Column;
-pub use pending_lists::{MAX_PENDING, MAX_RESERVED};
+pub use pending_lists::{KEEPS_ROOM_FROM, MAX_PENDING, MAX_RESERVED, SMALL_ROOM};

@@ -133,6 +133,8 @@ pub fn sink_gap<A: Allocator>(rows: &mut Rows<A>, pivots: &Pivots<A>, gap: Gap) 
     requires gap { HasGapAt pivots.now.list rows.old.items gap }
     ensures gap { HasGapAt pivots.now.list rows.new.items result }
     ensures start { 0 < result.piece → (slice_index_or pivots.now.list (result.piece - 1) (pos 0, 0)).1 ≡ result.low }
+    ensures piece { result.piece ≡ gap.piece }
+    ensures first { gap.piece ≡ 0 → result.low ≡ 0 }
     ensures width { result.high - result.low ≡ gap.high - gap.low }
     ensures rows { IsPermutation rows.old.items rows.new.items }
     ensures capacity { vec_capacity rows.new ≡ vec_capacity rows.old }

@@ -7,6 +7,7 @@ ghost use Rattle.crack_kernel.specs.PivotList.{ObeysPivots};
 ghost use Rattle.ripple_column.specs.Content.{KeepsContent};
 ghost use Rattle.ripple_column.specs.MergeGap.{AllParted, HasGapAt, KeepsContentBeside, TakenFrom, blank};
 ghost use Rattle.ripple_column.specs.MergeEffects.{KeepsFrame};
+ghost use Rattle.ripple_column.specs.declared.merge_gap.Direction.TheVariants.{Down};
 
 use crate::deletion_bloom::DeletionBloom;
 use crate::fingerprinted_rows::Rows;
@@ -137,7 +138,7 @@ fn next_stop<A: Allocator>(
 
 /// Carries the gap from the start of its piece into the next piece. Where there is no next piece,
 /// all stays.
-fn next_piece<A: Allocator>(
+pub fn next_piece<A: Allocator>(
     rows: &mut Rows<A>,
     pivots: &mut Pivots<A>,
     gap: Gap,
@@ -146,6 +147,7 @@ fn next_piece<A: Allocator>(
     requires gap { HasGapAt pivots.old.list rows.old.items gap }
     requires start { 0 < gap.piece → (slice_index_or pivots.old.list (gap.piece - 1) (pos 0, 0)).1 ≡ gap.low }
     ensures gap { HasGapAt pivots.new.list rows.new.items result }
+    ensures down { direction ≡ Down → 0 < gap.piece → result.piece + 1 ≡ gap.piece }
     ensures width { result.high - result.low ≡ gap.high - gap.low }
     ensures rows { IsPermutation rows.old.items rows.new.items }
     ensures frame { KeepsFrame rows.old pivots.old rows.new pivots.new }
@@ -191,7 +193,7 @@ fn carry_to<A: Allocator>(
 }
 
 /// Carries the gap over the pieces above it, and cuts it off.
-fn lift_out<A: Allocator>(rows: &mut Rows<A>, pivots: &mut Pivots<A>, gap: Gap)
+pub fn lift_out<A: Allocator>(rows: &mut Rows<A>, pivots: &mut Pivots<A>, gap: Gap)
     requires gap { HasGapAt pivots.old.list rows.old.items gap }
     ensures parted { AllParted pivots.new.list rows.new.items }
     ensures content { (p : Test) → count_by p rows.old.items

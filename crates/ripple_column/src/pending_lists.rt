@@ -27,9 +27,12 @@ pub const MAX_RESERVED: usize = 1027;
 /// From how many rows on a list gets marks. Fewer rows are as quickly looked through.
 const MARKED_FROM: usize = 128;
 
-/// Beside so many rows or more the lists keep their room once all that waited is merged. Beside fewer it
-/// would be as much as these take.
-const KEEPS_ROOM_FROM: usize = 1024;
+/// Beside so many rows or more the lists keep their room where nothing waits. Beside fewer it would be as much as
+/// these take.
+pub const KEEPS_ROOM_FROM: usize = 1024;
+
+/// Room for so many rows is kept after a change: the next one takes it.
+pub const SMALL_ROOM: usize = 16;
 
 /// Rows that wait, in no order, beside their marks, so that mostly no row is looked at where the one
 /// that is looked for does not wait.
@@ -92,7 +95,7 @@ impl<A: Allocator> PendingList<A> {
         if self.span.is_missed_by(&interval) {
             return false;
         }
-        self.list().iter().any(|row| is_within(row, &interval))
+        self.rows.has_within(range)
     }
 
     /// How many rows have scores in the range.
@@ -149,12 +152,12 @@ impl<A: Allocator> PendingList<A> {
         self.rows.reserve(n)
     }
 
-    /// Gives back all room, and the marks, where no row waits.
-    pub fn give_back(&mut self)
+    /// Gives back all room, and the marks, where no row waits and the room is for more than `kept` rows.
+    pub fn give_back(&mut self, kept: usize)
         ensures items { self.new.items ≡ self.old.items }
-        ensures freed { vec_len self.old ≡ 0 → vec_capacity self.new ≡ 0 }
+        ensures freed { vec_len self.old ≡ 0 → vec_capacity self.new ≤ kept }
     {
-        if self.rows.len() == 0 {
+        if self.rows.len() == 0 && self.rows.capacity() > kept {
             self.rows.give_back();
             self.marks.give_back();
         }
@@ -318,15 +321,19 @@ impl<A: Allocator> Pending<A> {
         }
     }
 
-    /// Gives back the room of each list in which no row waits, beside a column of so many rows, if these
-    /// are few.
-    pub fn give_back(&mut self, rows_len: usize)
+    /// Gives back the room of each list in which no row waits, if it is for more than `kept` rows, beside a column of
+    /// so many rows, if these are few.
+    pub fn give_back(&mut self, rows_len: usize, kept: usize)
         ensures deletions { self.new.deletions.items ≡ self.old.deletions.items }
         ensures insertions { self.new.insertions.items ≡ self.old.insertions.items }
+        ensures freed_deletions { rows_len < KEEPS_ROOM_FROM → vec_len self.old.deletions ≡ 0
+            → vec_capacity self.new.deletions ≤ kept }
+        ensures freed_insertions { rows_len < KEEPS_ROOM_FROM → vec_len self.old.insertions ≡ 0
+            → vec_capacity self.new.insertions ≤ kept }
     {
         if rows_len < KEEPS_ROOM_FROM {
-            self.deletions.give_back();
-            self.insertions.give_back();
+            self.deletions.give_back(kept);
+            self.insertions.give_back(kept);
         }
     }
 

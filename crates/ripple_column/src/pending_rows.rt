@@ -1,7 +1,7 @@
 //! Rows that wait in no order, and can be gathered by a range.
 
 ghost use Rattle.std.specs.Prelude.{◌≡◌, ◌+◌, ◌-◌, ◌<◌, ◌≤◌, ◌≢◌, ◌++◌, ◌∷◌, ◌↔◌, true, false, ℕ, ℤ, List, [], Some, IsSome, length, take, OnOk, slice_index_or, option_to_list, IsPermutation, vec_len, vec_capacity};
-ghost use Rattle.std.specs.List.{AllWithin, remove, swap_remove};
+ghost use Rattle.std.specs.List.{AllWithin, list_any, remove, swap_remove};
 ghost use Rattle.ripple_column.specs.Content.{has_score_in};
 ghost use Rattle.ripple_column.specs.MergeEffects.{ArePassed, HasLast};
 
@@ -66,6 +66,13 @@ impl<A: Allocator> PendingRows<A> {
         ensures { result.now ≡ self.now.items }
     {
         &self.rows
+    }
+
+    /// For how many rows there is room.
+    pub fn capacity(&self) -> usize
+        ensures { result ≡ vec_capacity self.now }
+    {
+        self.rows.capacity()
     }
 
     /// Makes room for `n` more rows.
@@ -137,13 +144,27 @@ impl<A: Allocator> PendingRows<A> {
         row
     }
 
+    /// How many of the first rows are known to have no score in the range.
+    fn passed_for(&self, range: &Range) -> usize
+        ensures { ArePassed range.now self.now.items result }
+    {
+        if self.last == *range { self.passed } else { 0 }
+    }
+
+    /// Whether a row has a score in the range. Those that are known to have none are not looked at.
+    pub fn has_within(&self, range: &Range) -> bool
+        ensures { result ≡ list_any (has_score_in range.now) self.now.items }
+    {
+        has_from(&self.rows, range, self.passed_for(range))
+    }
+
     /// Puts the rows with scores in the range last, and answers how many others there are.
     pub fn gather(&mut self, range: &Range) -> usize
         ensures rows { IsPermutation self.old.items self.new.items }
         ensures last { HasLast range.now self.new.items result }
         ensures capacity { vec_capacity self.new ≡ vec_capacity self.old }
     {
-        let passed = if self.last == *range { self.passed } else { 0 };
+        let passed = self.passed_for(range);
         let others = partition_from(&mut self.rows, range, passed);
         self.last = *range;
         self.passed = others;
@@ -172,6 +193,22 @@ impl<A: Allocator> PendingRows<A> {
         self.passed = self.passed.min(from);
         reverse_tail(&mut self.rows, from);
     }
+}
+
+/// Whether a row has a score in the range, where those before the index `from` have none.
+fn has_from<A: Allocator>(list: &[Row<A>], range: &Range, from: usize) -> bool
+    requires { ArePassed range.now list.now from }
+    ensures { result ≡ list_any (has_score_in range.now) list.now }
+{
+    is_any_within(&list[from..], range)
+}
+
+/// Whether one of these rows has a score in the range.
+fn is_any_within<A: Allocator>(rows: &[Row<A>], range: &Range) -> bool
+    ensures { result ≡ list_any (has_score_in range.now) rows.now }
+{
+    let interval = range.interval();
+    rows.iter().any(|row| is_within(row, &interval))
 }
 
 /// Puts the rows with scores in the range last, and answers how many others there are. Those before the

@@ -155,7 +155,7 @@ fn settle<A: Allocator + Copy>(pieces: &mut Pieces<A>, pending: &mut Pending<A>,
     break_up(pieces, &pending.deletions, tails.deletions);
     merge_gathered(&mut pieces.cracked, pending, range, tails);
     renew_places(pieces.apart, &mut pieces.kept, &pieces.cracked.pivots);
-    pending.give_back(pieces.cracked.rows.len());
+    pending.give_back(pieces.cracked.rows.len(), 0);
 }
 
 /// Cracks the rows at two cuts, of which the first is below the second, shows these as pivots, and

@@ -16,7 +16,7 @@ pub type Owner = OneOwner<RandomState, Global>;
 fn request(alloc: Global, text: &str) -> Result<Request<Global>, Fail> {
     let mut words = Vec::new(alloc);
     for word in text.split(' ') {
-        words.push(Bytes::new(Vec::from_slice(alloc, word.as_bytes())?))?;
+        words.push(Bytes::from_slice(alloc, word.as_bytes())?)?;
     }
     Ok(Request::new(BytesList::new(words)).ok_or("no request")?)
 }

@@ -1,17 +1,20 @@
 -- A run more keeps a cell whole.
-use Rattle.std.proofs.Common.{◌≡◌, ℕ, ◌+◌, ◌*◌, ◌^◌, ◌<◌, ◌≤◌, ◌∙◌, List, length, replicate, get_or, set, None, sym, ap, subst, refl, arith, length-set, get_or-set_same}
+use Rattle.std.proofs.Common.{◌≡◌, ℕ, ◌+◌, ◌*◌, ◌^◌, ◌<◌, ◌≤◌, ◌∙◌, false, List, length, replicate, get_or, set, Option, None, Some, Result, Ok, Err, IfSome, IfOk, MatchResult, inr, sym, ap, subst, refl, arith, length-set, get_or-set_same}
 use Rattle.std.specs.FinMap as fin
+use Rattle.std.proofs.lemmas.List.{get_or_default}
 use Rattle.std.proofs.lemmas.List.Folds.{sum_by-replicate}
 use Rattle.std.proofs.lemmas.List.Sums.{sum_by-set, get_or-le-sum_by}
 use Rattle.resp_wire.specs.Response.{Response}
-use Rattle.zset_core.specs.AbstractCommand.{Asked}
+use Rattle.zset_core.specs.AbstractCommand.{Asked, is_writing}
 use Rattle.zset_core.specs.SetAndOwnerViews.{SetView}
+use Rattle.zset_core.specs.declared.refusal.Refusal.{Refusal}
 use Rattle.set_table.specs.declared.counts.Tally.{Tally}
 use Rattle.set_table.specs.declared.counts.Counts.{Counts}
 use Rattle.set_table.specs.declared.counts.OwnCounts.{OwnCounts}
 use Rattle.set_table.specs.Tallies.{ShareView, empty_tally, tally_after, total_of, runs_of, added_of, removed_of, share_after_run, no_counts}
 use Rattle.set_table.specs.SetSteps.{Stepped, IsLawful, IsLogged, AnswerView}
-use Rattle.set_table.specs.CellStates.{CellView, IsWhole, InStep, HasRun, HasRead, WasRun, counts_of, new_cell}
+use Rattle.set_table.specs.CellStates.{CellView, IsWhole, InStep, HasRun, HasRead, HasNoReading, WasRun, counts_of, new_cell}
+use Rattle.set_table.specs.WorkerPasses.{AreSharesOf, WasAnswered, no_share}
 
 -- what one pass was told is within the totals
 record Within (t : Tally) (records : List Tally) : Type 0 where
@@ -156,6 +159,33 @@ ran_by c d s t command a h =
       removed = omega (arith, w.removed, ap (λ (n : Counts). n.removed) h.found_is);
       share = h.share;
     }
+
+-- what a reading answers, to a caller who sees the shares of the pass and not the cell
+read_by : (opened : List ℕ) (shares : List ShareView) (number place : ℕ) (c : CellView) (command : Asked) (a : AnswerView) → AreSharesOf opened number shares → place < length opened → is_writing command.meaning ≡ false
+    → HasRead c (get_or shares place no_share) command a → WasAnswered opened shares shares place command a
+read_by opened shares number place c command a are here reads h =
+    let s : ShareView = get_or shares place no_share in
+    let own = are.each place here in
+    let w = within c.tallies s.pass s.tally h.in_step.pass h.in_step.tally in
+    record {
+      command_is = h.command_is;
+      place_is = h.place_is ∙ h.in_step.place ∙ own.place_is;
+      lawful = h.lawful;
+      opened_is = ap (λ (n : Counts). n.opened) h.found_is ∙ h.in_step.opened ∙ own.opened_is;
+      added = omega (arith, w.added, ap (λ (n : Counts). n.added) h.found_is);
+      removed = omega (arith, w.removed, ap (λ (n : Counts). n.removed) h.found_is);
+      told = inr (reads, refl, h.own_is);
+    }
+
+-- the same of what a cell answers to the share that stands at the place, if it answers
+pub if_read_by : (opened : List ℕ) (shares own : List ShareView) (number place : ℕ) (c : CellView) (s : ShareView) (command : Asked) (r : Option (Result AnswerView Refusal)) → AreSharesOf opened number shares → place < length opened → is_writing command.meaning ≡ false
+    → own ≡ shares → s ≡ get_or own place s → IfSome r (λ read. MatchResult read (λ a. HasRead c s command a) (λ refusal. HasNoReading refusal c s)) → IfSome r (λ read. IfOk read (λ a. WasAnswered opened shares shares place command a))
+if_read_by opened shares own number place c s command None are here reads same is h = tt
+if_read_by opened shares own number place c s command (Some (Err refusal)) are here reads same is h = tt
+if_read_by opened shares own number place c s command (Some (Ok a)) are here reads same is h =
+    let at : s ≡ get_or shares place no_share =
+    is ∙ ap (λ (list : List ShareView). get_or list place s) same ∙ get_or_default shares place s no_share (omega (arith, are.places, here)) in
+    read_by opened shares number place c command a are here reads (subst (λ (t : ShareView). HasRead c t command a) at h)
 
 -- a new cell
 pub whole_new : (place : ℕ) (kept : SetView) (opened max_runs appended passes : ℕ) (tallies : List Tally) → kept.next ≡ None → opened ≡ fin.len kept.members → opened < 2 ^ 63 → max_runs ≤ 2 ^ 40 → tallies ≡ replicate passes empty_tally

@@ -15,7 +15,7 @@ pub type Owner = OneOwner<RandomState, Global>;
 pub fn command(alloc: Global, text: &str) -> Result<Command<Global>, Fail> {
     let mut words = Vec::new(alloc);
     for word in text.split(' ') {
-        words.push(Bytes::new(Vec::from_slice(alloc, word.as_bytes())?))?;
+        words.push(Bytes::from_slice(alloc, word.as_bytes())?)?;
     }
     let request = Request::new(BytesList::new(words)).ok_or("no request")?;
     match Command::read(alloc, request) {

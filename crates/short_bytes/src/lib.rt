@@ -5,5 +5,5 @@
 mod inline;
 mod short_bytes;
 
-pub use inline::IN_PLACE;
+pub use inline::{IN_PLACE, Inline};
 pub use short_bytes::ShortBytes;

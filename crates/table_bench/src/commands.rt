@@ -22,7 +22,7 @@ enum Work {
 fn command(alloc: Global, text: &str) -> anyhow::Result<Command<Global>> {
     let mut words = Vec::new(alloc);
     for word in text.split(' ') {
-        words.push(Bytes::new(Vec::from_slice(alloc, word.as_bytes())?))?;
+        words.push(Bytes::from_slice(alloc, word.as_bytes())?)?;
     }
     let Some(request) = Request::new(BytesList::new(words)) else {
         anyhow::bail!("no request");

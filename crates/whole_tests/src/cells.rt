@@ -270,7 +270,7 @@ fn refused<R: Wait>(
 
 /// A set whose rows from 4 to 6 stand in pieces and wait for nothing, and one row that waits behind them.
 const SETUP: [&str; 3] = [
-    "ZADD k 1 a 5 b 6 c 9 d",
+    "ZADD k 1 a 5 b 6 a-member-that-takes-memory 9 d",
     "ZRANGEBYSCORE k 4 6",
     "ZADD k 12 e",
 ];
@@ -287,12 +287,11 @@ const CHANGED: Appended = Appended {
     calls: 6,
 };
 
-const COMMANDS: [(&str, Appended); 7] = [
+const COMMANDS: [(&str, Appended); 6] = [
     ("ZADD k 3 a 7 f", CHANGED),
     ("ZADD k INCR 4 b", CHANGED),
     ("ZREM k b", CHANGED),
     ("ZREMRANGEBYSCORE k 5 9", CHANGED),
-    ("ZSCORE k a", READ),
     ("ZCOUNT k 2 9", READ),
     ("ZRANGEBYSCORE k 2 13 WITHSCORES", READ),
 ];
@@ -305,18 +304,15 @@ fn each_run_is_refused_or_answered(rt: HostRuntime) -> Result<(), Fail> {
             "{words}"
         );
     }
+    assert_eq!(rt; refused(&rt, &rt, Asked::Run, "ZSCORE k a", READ)?, 0);
     Ok(())
 }
 
 #[test]
 fn each_reading_beside_others_is_refused_or_answered(rt: HostRuntime) -> Result<(), Fail> {
-    for words in ["ZRANGEBYSCORE k 4 6 WITHSCORES", "ZSCORE k a"] {
-        assert!(rt;
-            refused(&rt, &rt, Asked::Ready, words, READ)? >= 1,
-            "{words}"
-        );
-    }
-    for words in ["ZCOUNT k 4 6", "ZCARD k"] {
+    let words = "ZRANGEBYSCORE k 4 6 WITHSCORES";
+    assert!(rt; refused(&rt, &rt, Asked::Ready, words, READ)? >= 2);
+    for words in ["ZCOUNT k 4 6", "ZCARD k", "ZSCORE k a"] {
         assert_eq!(rt; refused(&rt, &rt, Asked::Ready, words, READ)?, 0);
     }
     Ok(())

@@ -55,7 +55,7 @@ pub fn ask<R, E: Exec<R, Global>>(
 {
     let mut list = Vec::new(alloc);
     for word in words.split(' ') {
-        list.push(Bytes::new(Vec::from_slice(alloc, word.as_bytes())?))?;
+        list.push(Bytes::from_slice(alloc, word.as_bytes())?)?;
     }
     let request = Request::new(BytesList::new(list)).ok_or("no request")?;
     let command = Command::read(alloc, request).map_err(|_| Fail::from("no command"))?;

@@ -75,7 +75,7 @@ pub fn bytes_of(alloc: Global, text: &str) -> io::Result<Vec<u8>> {
 pub fn write_words(alloc: Global, words: &str, out: &mut Vec<u8>) -> io::Result<()> {
     let mut list = Vec::new(alloc);
     for word in words.split(' ') {
-        list.push(Bytes::new(Vec::from_slice(alloc, word.as_bytes())?))?;
+        list.push(Bytes::from_slice(alloc, word.as_bytes())?)?;
     }
     if let Some(request) = Request::new(BytesList::new(list)) {
         write_request(&request, out)?;

@@ -44,7 +44,7 @@ impl LogSink for CountingSink {
 fn command(alloc: Global, words: &str) -> Result<Command<Global>, Fail> {
     let mut list = Vec::new(alloc);
     for word in words.split(' ') {
-        list.push(Bytes::new(Vec::from_slice(alloc, word.as_bytes())?))?;
+        list.push(Bytes::from_slice(alloc, word.as_bytes())?)?;
     }
     let request = Request::new(BytesList::new(list)).ok_or("no request")?;
     Command::read(alloc, request).map_err(|_| Fail::from("no command"))

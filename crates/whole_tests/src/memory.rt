@@ -25,10 +25,10 @@ pub struct Script<'t> {
 
 const REMOVALS: Script<'static> = Script {
     requests: &[
-        "ZADD k 5 a",
+        "ZADD k 5 a-member-that-takes-memory",
         "ZRANGEBYSCORE k 5 5",
         "ZREMRANGEBYSCORE k (3 5",
-        "PING hi",
+        "PING a-text-that-takes-memory",
     ],
     behind: b"",
     error: b"",
@@ -36,9 +36,9 @@ const REMOVALS: Script<'static> = Script {
 
 const LISTINGS: Script<'static> = Script {
     requests: &[
-        "ZADD k 5 a",
+        "ZADD k 5 a-member-that-takes-memory",
         "ZRANGEBYSCORE k 5 5",
-        "ZADD k 1 b 1 a 1 B",
+        "ZADD k 1 b 1 a-member-that-takes-memory 1 B",
         "ZRANGEBYSCORE k -inf +inf WITHSCORES",
     ],
     behind: b"",
@@ -46,7 +46,10 @@ const LISTINGS: Script<'static> = Script {
 };
 
 const FAULT: Script<'static> = Script {
-    requests: &["ZADD k 5 a", "ZADD k INCR 1.0 a"],
+    requests: &[
+        "ZADD k 5 a-member-that-takes-memory",
+        "ZADD k INCR 1.0 a-member-that-takes-memory",
+    ],
     behind: b"*0\r\nPING\r\n",
     error: b"-ERR protocol 2 not an array\r\n",
 };
@@ -310,8 +313,8 @@ fn refused(rt: &HostRuntime, script: Script<'_>, piece: usize) -> Result<Seen, F
 
 /// The scripts, the least number of allocations of a session of each, and whether the drain may fail.
 const SCRIPTS: [(Script<'static>, u64, bool); 3] = [
-    (REMOVALS, 35, true),
-    (LISTINGS, 60, true),
+    (REMOVALS, 30, true),
+    (LISTINGS, 45, true),
     (FAULT, 25, false),
 ];
 

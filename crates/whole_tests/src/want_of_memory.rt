@@ -19,7 +19,7 @@ pub type Example<'w> = (&'w [&'w str], &'w str);
 pub fn request<A: Allocator + Copy>(alloc: A, words: &str) -> Result<Request<A>, Fail> {
     let mut list = Vec::new(alloc);
     for word in words.split(' ') {
-        list.push(Bytes::new(Vec::from_slice(alloc, word.as_bytes())?))?;
+        list.push(Bytes::from_slice(alloc, word.as_bytes())?)?;
     }
     Ok(Request::new(BytesList::new(list)).ok_or("no request")?)
 }
@@ -213,26 +213,26 @@ pub fn refused(rt: &HostRuntime, setup: &[&str], words: &str) -> Result<Points, 
 
 /// A set with rows that stand in pieces, and changes that wait.
 const SETUP: [&str; 5] = [
-    "ZADD k 5 a 6 b 7 c 7 d 9 e 12 f",
+    "ZADD k 5 a-member-that-takes-memory 6 b 7 c 7 another-member-that-takes-memory 9 e 12 f",
     "ZCOUNT k 6 9",
-    "ZADD k 8 g -1 h 6 a",
-    "ZREM k d",
+    "ZADD k 8 g -1 h 6 a-member-that-takes-memory",
+    "ZREM k another-member-that-takes-memory",
     "ZADD j 1 x",
 ];
 
 /// Commands on that set, and how often each is refused at the least.
 const COMMANDS: [(&str, u64); 11] = [
-    ("PING hi", 1),
+    ("PING a-text-that-takes-memory", 1),
     ("ZADD k 1 i 2 j 3 k 4 l 5 m 6 n 7 o 8 p", 6),
     ("ZADD new 1 a", 8),
-    ("ZADD k XX CH 3 a 9 nobody", 3),
+    ("ZADD k XX CH 3 a-member-that-takes-memory 9 nobody", 3),
     ("ZADD k INCR 4 b", 3),
     ("ZADD k GT CH 9 b 1 z", 3),
-    ("ZSCORE k a", 1),
+    ("ZSCORE k a-member-that-takes-memory", 0),
     ("ZCOUNT k (6 +inf", 1),
     ("ZCOUNT k (5 (8", 1),
-    ("ZRANGEBYSCORE k -inf 8 WITHSCORES", 10),
-    ("ZRANGEBYSCORE k 0 +inf LIMIT 1 3", 5),
+    ("ZRANGEBYSCORE k -inf 8 WITHSCORES", 4),
+    ("ZRANGEBYSCORE k 0 +inf LIMIT 1 3", 3),
 ];
 
 #[test]
@@ -247,7 +247,10 @@ fn each_command_is_refused_or_answered(rt: HostRuntime) -> Result<(), Fail> {
 // A removal takes what was kept back.
 #[test]
 fn a_removal_is_made_whichever_allocation_is_refused(rt: HostRuntime) -> Result<(), Fail> {
-    for words in ["ZREM k a b nobody", "ZREMRANGEBYSCORE k (6 8"] {
+    for words in [
+        "ZREM k a-member-that-takes-memory b nobody",
+        "ZREMRANGEBYSCORE k (6 8",
+    ] {
         let points = refused(&rt, &SETUP, words)?;
         assert!(rt;
             points.all >= 1 && points.refused == 0,
@@ -257,12 +260,12 @@ fn a_removal_is_made_whichever_allocation_is_refused(rt: HostRuntime) -> Result<
     Ok(())
 }
 
-/// `ZADD k` with 500 pairs from a number on, each with its number as its score.
+/// `ZADD k` with 500 pairs from a number on, each with its number as its score and a member that takes memory.
 fn addition(alloc: Global, first: u64) -> Result<String, Fail> {
     let mut text = "ZADD k".to_string(alloc)?;
     for index in 0..500u64 {
         let number = first.saturating_add(index);
-        text.push_str(&format!(in alloc; " {number} m{number}")?)?;
+        text.push_str(&format!(in alloc; " {number} member-of-a-long-set-{number}")?)?;
     }
     Ok(text)
 }
@@ -274,7 +277,7 @@ fn long_setup(alloc: Global) -> Result<Vec<String>, Fail> {
         commands.push(addition(alloc, first)?)?;
     }
     commands.push("ZCOUNT k -inf +inf".to_string(alloc)?)?;
-    commands.push("ZREM k m1234".to_string(alloc)?)?;
+    commands.push("ZREM k member-of-a-long-set-1234".to_string(alloc)?)?;
     Ok(commands)
 }
 

@@ -199,11 +199,15 @@ fn decode<A: Allocator + Copy>(alloc: Global, heap: A, text: &[u8]) -> Result<Gi
 }
 
 /// Requests with what is skipped between them, and a byte that begins none.
-const TEXT: &[u8] = b"*2\r\n$4\r\nPING\r\n$2\r\nhi\r\n*0\r\n*1\r\n$4\r\nPING\r\nP";
+const TEXT: &[u8] =
+    b"*2\r\n$4\r\nPING\r\n$24\r\na-text-that-takes-memory\r\n*0\r\n*2\r\n$4\r\nPING\r\n$24\r\na-text-that-takes-memory\r\nP";
+
+/// Its words. A text of this length stands in memory of its own, and a name in its place.
+const WORDS: &[u8] = b"PING a-text-that-takes-memory PING a-text-that-takes-memory ";
 
 /// Whether a decoder gave what stands there.
 fn is_whole(given: &Given) -> bool {
-    given.words.as_slice() == b"PING hi PING ".as_slice()
+    given.words.as_slice() == WORDS
         && given.fault == Some(WireFault::Protocol(ProtocolFault::NotAnArray))
 }
 

@@ -117,7 +117,7 @@ impl Meets {
 /// Examples of one kind, what refused allocations do to each, and the least number of allocations of all.
 const KINDS: [(&[Example<'static>], Meets, u64); 5] = [
     (CHANGES, Meets::Refusals, 60),
-    (READINGS, Meets::Refusals, 45),
+    (READINGS, Meets::Refusals, 29),
     (REFUSALS, Meets::Refusals, 3),
     (REMOVALS, Meets::NoRefusal, 4),
     (WITHOUT_MEMORY, Meets::Nothing, 0),

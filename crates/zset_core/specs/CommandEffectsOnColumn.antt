@@ -2,6 +2,7 @@
 use Rattle.std.specs.Prelude.{None, Some, ◌≡◌, ◌≤◌, ℕ, ◌-◌, Bool, true, false, List, ℤ, option_map, unwrap_or}
 use Rattle.std.specs.FinMap as fin
 use Rattle.score_bounds.specs.declared.bounds.Range.{Range}
+use Rattle.crack_kernel.specs.RowBag.{SameBag}
 use Rattle.ripple_column.specs.ClosedUp.{closed_up_pivots, closed_up_rows}
 use Rattle.ripple_column.specs.RangeAnswer.{AddsCuts, HasAnswer, IsAnswer, StandsStill, low_cut, high_cut, pivots_with_cuts}
 use Rattle.ripple_column.specs.Content.{ColumnState, IsUnchanged, NoneIn, SameOutside}
@@ -59,7 +60,7 @@ pub record Selects (range : Range) (old new : ColumnState) : Type 0 where
 -- goes on waiting
 pub record TakesOut (range : Range) (old new : ColumnState) : Type 0 where
   pub ready : HasAnswer old range
-  pub rows : (answer : ℕ × ℕ) → IsAnswer old range answer → new.rows ≡ closed_up_rows answer.0 answer.1 old.rows
+  pub rows : (answer : ℕ × ℕ) → IsAnswer old range answer → SameBag new.rows (closed_up_rows answer.0 answer.1 old.rows)
   pub pivots : (answer : ℕ × ℕ) → IsAnswer old range answer → new.pivots ≡ closed_up_pivots answer.0 answer.1 old.pivots
   pub insertions : new.insertions ≡ old.insertions
   pub deletions : new.deletions ≡ old.deletions

@@ -5,17 +5,17 @@ ghost use Rattle.score_bounds.specs.Scores.{score_text};
 ghost use Rattle.zset_core.specs.Semantics.{increase_reply, score_reply};
 
 use crate::set::pair_outcome::Outcome;
+use itoa::Buffer;
 use resp_wire::{Bytes, Reply};
-use score_bounds::write_score;
 use std::alloc::{AllocError, Allocator};
 
-/// The text of a score.
+/// The text of a score. It is short enough to take no memory.
+#[tactic(auto, unfolding(score_bounds::specs::Scores::score_text))]
 pub fn score_bytes<A: Allocator + Copy>(alloc: A, score: i64) -> Result<Bytes<A>, AllocError>
     ensures { IfOk result (λ bytes. bytes ≡ score_text score) }
 {
-    let mut text = Vec::new(alloc);
-    write_score(score, &mut text)?;
-    Ok(Bytes::new(text))
+    let mut buffer = Buffer::new();
+    Bytes::from_slice(alloc, buffer.format(score).as_bytes())
 }
 
 /// The reply to ZADD with INCR.

@@ -87,14 +87,15 @@ impl Memory {
         self.slot_of(hash, 0)
     }
 
-    /// The slot of a hash after so many steps.
+    /// The slot of a hash after so many steps, round the end of the slots. The hash's share of its range gives the first
+    /// one: a product is much quicker than a remainder.
     fn slot_of(&self, hash: u32, step: usize) -> usize
         requires { step < 2 ^ 16 }
     {
-        if self.slots.is_empty() {
-            return 0;
-        }
-        (hash as usize + step) % self.slots.len()
+        let len = self.slots.len();
+        let first = (u64::from(hash).wrapping_mul(len as u64) >> 32) as usize;
+        let slot = first + step;
+        if slot < len { slot } else { slot - len }
     }
 }
 

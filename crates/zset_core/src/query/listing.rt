@@ -55,7 +55,7 @@ fn put_elements<A: Allocator + Copy>(
     ensures { OnOk result (list.new.items ≡ list.old.items
         ++ elements with_scores ((score, member.now) ∷ [])) }
 {
-    list.push(Bytes::new(Vec::from_slice(alloc, member)?))?;
+    list.push(Bytes::from_slice(alloc, member)?)?;
     if with_scores {
         list.push(score_bytes(alloc, score)?)?;
     }

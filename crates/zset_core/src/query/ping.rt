@@ -30,6 +30,6 @@ fn echo<A: Allocator + Copy>(alloc: A, words: &[Bytes<A>]) -> Result<Reply<A>, A
 {
     match words.get(1) {
         None => Ok(Reply::Simple("PONG")),
-        Some(text) => Ok(Reply::Bulk(Bytes::new(Vec::from_slice(alloc, text.as_slice())?))),
+        Some(text) => Ok(Reply::Bulk(Bytes::from_slice(alloc, text.as_slice())?)),
     }
 }

@@ -57,6 +57,7 @@ fn change_column<H: BuildHasher, A: Allocator + Copy>(
         None => {
             make_edits(column, edits);
             remove_members(members, column, removed);
+            column.give_back_room();
         }
         Some(range) => remove_range(members, column, &range),
     }

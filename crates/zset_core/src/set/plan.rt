@@ -241,7 +241,7 @@ fn plan_for<H: BuildHasher, A: Allocator + Copy>(
             given,
             member,
         } => { plan_increase(alloc, members, *flags, *given, words[*member].as_slice()) }
-        Form::Remove => Ok(plan_remove(alloc, members, &words[2..])?),
+        Form::Remove => Ok(plan_remove(alloc, members, words.split_at(2).1)?),
         _ => unreachable!(),
     }
 }

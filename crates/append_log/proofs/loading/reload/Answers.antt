@@ -2,7 +2,7 @@ use Rattle.std.proofs.Common.{◌≡◌, ◌++◌, length, drop, refl, sym, ◌�
 use Rattle.std.proofs.lemmas.List.{length-take-le}
 use Rattle.resp_wire.proofs.CallerLemmas.{err_is}
 use Rattle.append_log.proofs.ReloadFaults.{handed_late}
-use Rattle.append_log.proofs.ReloadProgress.{unread, begins, reads_on, loads, fails}
+use Rattle.append_log.proofs.ReloadProgress.{unread, begins, too_many, reads_on, loads, fails}
 use Rattle.append_log.proofs.loading.reload.Goals as goal
 
 pub returns-in_err-piece-clause-read : goal.returns-in_err-piece-clause-read
@@ -47,3 +47,7 @@ reads-preserved g c =
       many = omega (arith, e.calls, i.many);
       good = e.failures ∙ i.good;
     }
+
+pub returns-clause-read : goal.returns-clause-read
+returns-clause-read g c =
+    too_many _ _ _ _ _ _ _ c.reads.invariant.way c.cut.ensures.requests_are c.cut.ensures.rest_is c.cut.ensures.fault_is

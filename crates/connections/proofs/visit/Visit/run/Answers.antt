@@ -3,8 +3,8 @@ use Rattle.session_core.proofs.Interleaving.{moves-refl}
 use Rattle.connections.proofs.VisitLemmas.{runs_on, moves_on}
 use Rattle.connections.proofs.visit.Visit.run.Goals as goal
 
-pub loop-init : goal.loop-init
-loop-init g c = record {
+pub loop-count-init : goal.loop-count-init
+loop-count-init g c = record {
   settled = c.requires.settled;
   runs = c.requires.runs;
   moves = moves-refl g.E.Exec.allows _;
@@ -12,27 +12,27 @@ loop-init g c = record {
 }
 
 pub returns-then-is_all-clause-moves : goal.returns-then-is_all-clause-moves
-returns-then-is_all-clause-moves g c = moves_on g.E.Exec.allows _ _ _ _ _ _ _ _ _ (Ok true) c.loop.invariant.moves (c.in-Ok.ensures.answered c.if-is_all.true)
+returns-then-is_all-clause-moves g c = moves_on g.E.Exec.allows _ _ _ _ _ _ _ _ _ (Ok true) c.loop-count.invariant.moves (c.in-Ok.ensures.answered c.if-is_all.true)
 
 pub returns-then-is_all-clause-goes_on : goal.returns-then-is_all-clause-goes_on
-returns-then-is_all-clause-goes_on g c = runs_on g.E.Exec.allows c.takes_turns.ensures.law _ _ _ _ _ _ _ _ _ _ _ _ _ _ _ _ _ (Ok true) c.loop.invariant.runs c.loop.invariant.goes_on (c.in-Ok.ensures.answered c.if-is_all.true) refl
+returns-then-is_all-clause-goes_on g c = runs_on g.E.Exec.allows c.takes_turns.ensures.law _ _ _ _ _ _ _ _ _ _ _ _ _ _ _ _ _ (Ok true) c.loop-count.invariant.runs c.loop-count.invariant.goes_on (c.in-Ok.ensures.answered c.if-is_all.true) refl
 
 pub returns-in-Err-clause-moves : goal.returns-in-Err-clause-moves
-returns-in-Err-clause-moves g c = moves_on g.E.Exec.allows _ _ _ _ _ c.loop.self.session.decoder c.turn.new.self.decoder c.loop.self.session.progress c.turn.new.self.progress (Err c.in-Err.end) c.loop.invariant.moves c.in-Err.ensures.halted
+returns-in-Err-clause-moves g c = moves_on g.E.Exec.allows _ _ _ _ _ c.loop-count.self.session.decoder c.turn.new.self.decoder c.loop-count.self.session.progress c.turn.new.self.progress (Err c.in-Err.end) c.loop-count.invariant.moves c.in-Err.ensures.halted
 
 pub returns-in-Err-clause-goes_on : goal.returns-in-Err-clause-goes_on
-returns-in-Err-clause-goes_on g c = runs_on g.E.Exec.allows c.takes_turns.ensures.law _ _ _ _ _ _ _ _ _ _ _ c.loop.self.session.decoder c.turn.new.self.decoder c.loop.self.session.progress c.turn.new.self.progress _ _ (Err c.in-Err.end) c.loop.invariant.runs c.loop.invariant.goes_on c.in-Err.ensures.halted refl
+returns-in-Err-clause-goes_on g c = runs_on g.E.Exec.allows c.takes_turns.ensures.law _ _ _ _ _ _ _ _ _ _ _ c.loop-count.self.session.decoder c.turn.new.self.decoder c.loop-count.self.session.progress c.turn.new.self.progress _ _ (Err c.in-Err.end) c.loop-count.invariant.runs c.loop-count.invariant.goes_on c.in-Err.ensures.halted refl
 
 pub returns-then-len-ge-MOST_HELD-clause-moves : goal.returns-then-len-ge-MOST_HELD-clause-moves
-returns-then-len-ge-MOST_HELD-clause-moves g c = moves_on g.E.Exec.allows _ _ _ _ _ _ _ _ _ (Ok false) c.loop.invariant.moves (c.in-Ok.ensures.half c.if-is_all.false)
+returns-then-len-ge-MOST_HELD-clause-moves g c = moves_on g.E.Exec.allows _ _ _ _ _ _ _ _ _ (Ok false) c.loop-count.invariant.moves (c.in-Ok.ensures.half c.if-is_all.false)
 
 pub returns-then-len-ge-MOST_HELD-clause-goes_on : goal.returns-then-len-ge-MOST_HELD-clause-goes_on
-returns-then-len-ge-MOST_HELD-clause-goes_on g c = runs_on g.E.Exec.allows c.takes_turns.ensures.law _ _ _ _ _ _ _ _ _ _ _ _ _ _ _ _ _ (Ok false) c.loop.invariant.runs c.loop.invariant.goes_on (c.in-Ok.ensures.half c.if-is_all.false) c.loop.invariant.runs
+returns-then-len-ge-MOST_HELD-clause-goes_on g c = runs_on g.E.Exec.allows c.takes_turns.ensures.law _ _ _ _ _ _ _ _ _ _ _ _ _ _ _ _ _ (Ok false) c.loop-count.invariant.runs c.loop-count.invariant.goes_on (c.in-Ok.ensures.half c.if-is_all.false) c.loop-count.invariant.runs
 
-pub loop-preserved : goal.loop-preserved
-loop-preserved g c = record {
+pub loop-count-preserved : goal.loop-count-preserved
+loop-count-preserved g c = record {
   settled = c.turn.ensures.settled;
-  runs = c.loop.invariant.runs;
-  moves = moves_on g.E.Exec.allows _ _ _ _ _ _ _ _ _ (Ok false) c.loop.invariant.moves (c.in-Ok.ensures.half c.if-is_all.false);
-  goes_on = runs_on g.E.Exec.allows c.takes_turns.ensures.law _ _ _ _ _ _ _ _ _ _ _ _ _ _ _ _ _ (Ok false) c.loop.invariant.runs c.loop.invariant.goes_on (c.in-Ok.ensures.half c.if-is_all.false) c.loop.invariant.runs;
+  runs = c.loop-count.invariant.runs;
+  moves = moves_on g.E.Exec.allows _ _ _ _ _ _ _ _ _ (Ok false) c.loop-count.invariant.moves (c.in-Ok.ensures.half c.if-is_all.false);
+  goes_on = runs_on g.E.Exec.allows c.takes_turns.ensures.law _ _ _ _ _ _ _ _ _ _ _ _ _ _ _ _ _ (Ok false) c.loop-count.invariant.runs c.loop-count.invariant.goes_on (c.in-Ok.ensures.half c.if-is_all.false) c.loop-count.invariant.runs;
 }

@@ -5,8 +5,8 @@ use Rattle.connections.specs.declared.visit.Stage.TheVariants.{Runs}
 use Rattle.connections.specs.VisitSteps.{GoesOn, state}
 use Rattle.connections.proofs.visit.Visit.run.Given as goal
 
-abbrev pub invariant-loop : goal.invariant-loop
-invariant-loop g l = record {
+abbrev pub invariant-loop-count : goal.invariant-loop-count
+invariant-loop-count g l = record {
   settled : g.E.Exec.settled l.exec;
   runs : l.self.stage ≡ Runs;
   moves : Moves g.E.Exec.allows l.fn.exec l.exec;
