@@ -69,6 +69,19 @@ impl Work {
         let width = members * SCORES / self.members;
         let low = self.random.below(SCORES - width + 1);
         self.put(&["ZREMRANGEBYSCORE", "board", &low.to_string(), &(low + width).to_string()]);
+        if members <= PUT_BACK {
+            self.put_back(members, low, width);
+        }
+    }
+
+    /// Puts as many members back as left, in one ZADD, so that the set stays as it is.
+    fn put_back(&mut self, members: u64, low: u64, width: u64) {
+        let mut words = vec!["ZADD".to_string(), "board".to_string()];
+        for _ in 0..members {
+            words.push((low + self.random.below(width)).to_string());
+            words.push(format!("back:{:09}", self.random.below(1_000_000_000)));
+        }
+        self.put(&words.iter().map(String::as_str).collect::<Vec<_>>());
     }
 
     /// One turn of a rate limiter with a window of all members: a request comes, old ones go, the others are counted.
@@ -201,6 +214,9 @@ const PADDING: &str = "________________";
 
 /// How many members are removed by ranges, in all.
 const REMOVED: u64 = 200_000;
+
+/// Where no more than so many leave at once as many are put back.
+const PUT_BACK: u64 = 500;
 
 /// How often one member is changed where members share scores: enough for the pending lists to be merged.
 const CHANGES: u64 = 10_000;

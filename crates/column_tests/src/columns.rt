@@ -253,11 +253,7 @@ fn has_short_end(pivots: &[(i64, usize)]) -> bool {
 
 // The piece of a window is short, and no pivot of it is shown.
 fn expect_narrowed<R: Abort>(rt: &R, column: &mut Column<Global>) {
-    let all = Range {
-        min: Bound::NegInf,
-        max: Bound::PosInf,
-    };
-    column.narrow(&all, 0, 10);
+    column.narrow(0, 10);
     assert!(rt; has_short_end(column.piece_list()));
     expect_state(rt, column, &[], 4096, (0, 0));
 }

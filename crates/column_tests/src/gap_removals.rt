@@ -54,11 +54,7 @@ fn show_pivots(column: &mut Column<Global>, shape: Shape) -> Result<(), AllocErr
 
 // The same behind inner pivots around two places.
 fn crack(column: &mut Column<Global>, shape: Shape) -> Result<(), AllocError> {
-    let all = Range {
-        min: Bound::NegInf,
-        max: Bound::PosInf,
-    };
-    column.narrow(&all, 5000, 15_000);
+    column.narrow(5000, 15_000);
     show_pivots(column, shape)
 }
 

@@ -228,7 +228,7 @@ fn drive(
     let range = range_from(low);
     let (from, to) = column.select(&range)?;
     let start = from.saturating_add(numbers.below(1000)).min(to);
-    column.narrow(&range, start, start.saturating_add(10).min(to));
+    column.narrow(start, start.saturating_add(10).min(to));
     Ok((low, to - from))
 }
 

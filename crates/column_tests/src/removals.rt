@@ -18,7 +18,7 @@ pub fn remove<R: Abort>(
     let rows = column.len();
     let pending = column.pending();
     assert_eq!(rt; to - from, want);
-    column.remove_rows(&range);
+    column.remove_rows(from, to);
     assert_eq!(rt; column.ready(&range), Some((from, from)));
     assert_eq!(rt; column.len(), rows - want);
     assert_eq!(rt; column.pending(), pending);
@@ -153,11 +153,7 @@ fn expect_inner_pivots_stay<R: Abort>(
     rt: &R,
     column: &mut Column<Global>,
 ) -> Result<(), AllocError> {
-    let all = Range {
-        min: Bound::NegInf,
-        max: Bound::PosInf,
-    };
-    column.narrow(&all, 1500, 3000);
+    column.narrow(1500, 3000);
     let inner = column.piece_list().len();
     assert!(rt; inner > 0);
     remove(rt, column, Bound::Incl(1000), Bound::Excl(2000), 1000)?;

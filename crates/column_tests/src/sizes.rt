@@ -55,8 +55,8 @@ fn remove<A: Allocator + Copy>(
     max: Bound,
 ) -> Result<(), AllocError> {
     let range = Range { min, max };
-    column.select(&range)?;
-    column.remove_rows(&range);
+    let (from, to) = column.select(&range)?;
+    column.remove_rows(from, to);
     Ok(())
 }
 
@@ -127,9 +127,9 @@ fn give_back<'h>(
 ) -> Result<usize, AllocError> {
     fill(heap, column, 1000, &LONG)?;
     column.merge_all()?;
-    column.select(range)?;
+    let (from, to) = column.select(range)?;
     let used = heap.used();
-    column.remove_rows(range);
+    column.remove_rows(from, to);
     Ok(used.saturating_sub(heap.used()))
 }
 

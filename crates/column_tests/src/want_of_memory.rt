@@ -30,7 +30,7 @@ fn is_made<A: Allocator + Copy>(column: &mut Column<A>, call: Call) -> bool {
         Call::Reserve => column.reserve_write(1).is_ok(),
         Call::Select(range) => column.select(&range).is_ok(),
         Call::Narrow(from, to) => {
-            column.narrow(&ALL, from, to);
+            column.narrow(from, to);
             true
         }
         Call::MergeAll => column.merge_all().is_ok(),
@@ -336,11 +336,11 @@ fn remove_without_memory<A: Allocator + Copy>(
     column: &mut Column<A>,
     range: &Range,
 ) -> Result<bool, AllocError> {
-    column.narrow(&ALL, 1000, 1010);
-    column.select(range)?;
+    column.narrow(1000, 1010);
+    let (from, to) = column.select(range)?;
     let before = column.len();
     fuse.arm(1);
-    column.remove_rows(range);
+    column.remove_rows(from, to);
     let is_armed = fuse.is_armed();
     fuse.arm(0);
     Ok(is_armed && column.len() < before)

@@ -283,11 +283,7 @@ fn inner_pivots(column: &Column<Global>) -> usize {
 
 // Counts at new bounds would take longer: each bound goes into two lists of pivots, as long as an inner one is left.
 fn expect_no_inner<R: Abort>(rt: &R, column: &mut Column<Global>) -> Result<(), AllocError> {
-    let all = Range {
-        min: Bound::NegInf,
-        max: Bound::PosInf,
-    };
-    column.narrow(&all, 0, 10);
+    column.narrow(0, 10);
     show_pivots(column, 500)?;
     assert!(rt; inner_pivots(column) > 0);
     show_pivots(column, 700)?;

@@ -28,7 +28,9 @@ pub struct Connections<S: PolledSource, D: PolledDrain, A: Allocator> {
     alloc: A,
     watch: Watch<A>,
     slots: Slots<Box<Held<S, D, A>, A>, A>,
-    /// The places of those that are ready, each once.
+    /// The places of those that waited and have become ready, each once.
+    woken: Vec<usize, A>,
+    /// The places of those that can go on behind their last turn, each once.
     ready: Vec<usize, A>,
     /// Those whose turn it is.
     round: Vec<usize, A>,
@@ -69,9 +71,9 @@ fn begin<A: Allocator + Copy>(
     }
 }
 
-/// Puts a place behind those that are ready, where it is not among them. Whether it is now.
-fn queue<A: Allocator>(ready: &mut Vec<usize, A>, place: usize, is_queued: bool) -> bool {
-    is_queued || ready.push(place).is_ok()
+/// Puts a place behind those that have become ready, where it is not queued. Whether it is now.
+fn queue<A: Allocator>(woken: &mut Vec<usize, A>, place: usize, is_queued: bool) -> bool {
+    is_queued || woken.push(place).is_ok()
 }
 
 /// What becomes of a connection after its turn: whether it is among those that are ready again. None: it
@@ -100,6 +102,7 @@ impl<S: PolledSource + Watched + Drop, D: PolledDrain + Drop, A: Allocator + Cop
             alloc,
             watch: Watch::new(net, alloc)?,
             slots: Slots::new(alloc),
+            woken: Vec::new(alloc),
             ready: Vec::new(alloc),
             round: Vec::new(alloc),
             buffers: Buffers::new(alloc)?,
@@ -124,6 +127,7 @@ impl<S: PolledSource + Watched + Drop, D: PolledDrain + Drop, A: Allocator + Cop
     {
         let place = self.slots.make_room()?;
         let places = self.slots.len();
+        self.woken.reserve(places)?;
         self.ready.reserve(places)?;
         self.round.reserve(places)?;
         Ok(place)
@@ -180,22 +184,27 @@ impl<S: PolledSource + Watched + Drop, D: PolledDrain + Drop, A: Allocator + Cop
             return;
         };
         held.note(is_closed);
-        let is_queued = queue(&mut self.ready, place, held.is_queued());
+        let is_queued = queue(&mut self.woken, place, held.is_queued());
         held.set_queued(is_queued);
         self.slots.put_back(place, held);
     }
 
-    /// Waits until a connection is ready or the bell is rung, and notes those that are ready.
-    fn wait(&mut self)
-        ensures same { self.new ≡ self.old }
-    {
-        let timeout = if !self.ready.is_empty() {
+    /// For how long to wait for a connection that becomes ready: not at all where one can go on.
+    fn patience(&self) -> Option<Duration> {
+        if !self.ready.is_empty() {
             Some(Duration::ZERO)
         } else if self.ends_silent {
             Some(Duration::from_secs(LOOKS_AFTER))
         } else {
             None
-        };
+        }
+    }
+
+    /// Waits until a connection becomes ready, the bell is rung or the time is up, and notes those that have become
+    /// ready.
+    fn wait(&mut self, timeout: Option<Duration>)
+        ensures same { self.new ≡ self.old }
+    {
         self.watch.wait(timeout);
         for number in 0..self.watch.len() {
             if let Some(change) = self.watch.change(number) {
@@ -235,17 +244,46 @@ impl<S: PolledSource + Watched + Drop, D: PolledDrain + Drop, A: Allocator + Cop
         }
     }
 
-    /// A turn for each that is ready.
-    fn serve_ready<R, C: Clock, E: Exec<R, A>>(&mut self, rt: &R, clock: &C, exec: &mut E)
+    /// A turn for each that waited and has become ready.
+    fn serve_woken<R, C: Clock, E: Exec<R, A>>(
+        &mut self,
+        rt: &R,
+        clock: &C,
+        now: Option<Instant>,
+        exec: &mut E,
+    )
         requires settled { E.settled exec.old }
         ensures settled { E.settled exec.new }
         ensures moves { Moves E.allows exec.old exec.new }
         ensures goes_on { AllGoOn E.allows self.old exec.old self.new exec.new }
     {
-        let now = self.now(clock);
+        let mut woken = mem::replace(&mut self.woken, Vec::new(self.alloc));
+        for place in woken.iter() {
+            self.serve(rt, clock, now, *place, exec);
+        }
+        woken.clear();
+        self.woken = woken;
+    }
+
+    /// A turn for each that can go on. Before each of them those come that have become ready meanwhile, so that a
+    /// quiet client does not wait for all busy ones.
+    fn serve_ready<R, C: Clock, E: Exec<R, A>>(
+        &mut self,
+        rt: &R,
+        clock: &C,
+        now: Option<Instant>,
+        exec: &mut E,
+    )
+        requires settled { E.settled exec.old }
+        ensures settled { E.settled exec.new }
+        ensures moves { Moves E.allows exec.old exec.new }
+        ensures goes_on { AllGoOn E.allows self.old exec.old self.new exec.new }
+    {
         let mut round = mem::replace(&mut self.round, Vec::new(self.alloc));
         mem::swap(&mut round, &mut self.ready);
         for place in round.iter() {
+            self.wait(Some(Duration::ZERO));
+            self.serve_woken(rt, clock, now, exec);
             self.serve(rt, clock, now, *place, exec);
         }
         round.clear();
@@ -307,8 +345,10 @@ impl<S: PolledSource + Watched + Drop, D: PolledDrain + Drop, A: Allocator + Cop
         // are run in turn, and their replies stand behind those before.
         ensures goes_on { AllGoOn E.allows self.old exec.old self.new exec.new }
     {
-        self.wait();
-        self.serve_ready(rt, clock, exec);
+        self.wait(self.patience());
+        let now = self.now(clock);
+        self.serve_woken(rt, clock, now, exec);
+        self.serve_ready(rt, clock, now, exec);
         self.look_for_silent(clock);
     }
 }

@@ -1,14 +1,12 @@
 -- Rows between two places leave by a gap that is carried to an end.
-use Rattle.std.proofs.Common.{◌≡◌, ◌≢◌, ℕ, ℤ, pos, true, false, Bool, cond, ◌+◌, ◌-◌, ◌<◌, ◌≤◌, ◌<ℤ◌, ◌≤ℤ◌, int_lt, List, [], ◌∷◌, ◌++◌, length, length-take, length-drop, get_or, take, drop, map, replicate, count_by, inl, inr, sym, ◌∙◌, subst, refl, ap, arith}
-use Rattle.std.specs.List.{All, AllWithin, between}
+use Rattle.std.proofs.Common.{◌≡◌, ℕ, ℤ, pos, true, ◌+◌, ◌-◌, ◌<◌, ◌≤◌, ◌<ℤ◌, ◌≤ℤ◌, int_lt, List, [], ◌∷◌, ◌++◌, length, length-take, length-drop, get_or, take, drop, map, replicate, count_by, sym, ◌∙◌, subst, refl, ap, arith}
+use Rattle.std.specs.List.{AllWithin}
 use Rattle.std.proofs.lemmas.Int.{ints}
-use Rattle.std.proofs.lemmas.Bool.{cases_lt}
 use Rattle.std.proofs.lemmas.Bool.Decides.{nat_tests}
-use Rattle.std.proofs.lemmas.List.{ext_get_or, get_or-take, get_or-drop, get_or-replicate, get_or_default, get_or-map, length-map, length-replicate, take-append-drop, length-take-le}
-use Rattle.std.proofs.lemmas.List.Edits.{split_between, get_or-between}
+use Rattle.std.proofs.lemmas.List.{ext_get_or, get_or-take, get_or-drop, get_or-replicate, get_or-map, length-map, length-replicate, take-append-drop}
 use Rattle.crack_kernel.specs.RowBag.{Test, SameBag}
 use Rattle.crack_kernel.specs.Parts.{IsBelow, IsFrom, IsParted}
-use Rattle.crack_kernel.specs.PivotList.{ArePlacedInOrder, IsRising, ObeysPivots, closed_up}
+use Rattle.crack_kernel.specs.PivotList.{ObeysPivots, closed_up}
 use Rattle.ripple_column.specs.ClosedUp.{closed_up_pivots, closed_up_rows}
 use Rattle.ripple_column.specs.CutPivots.{values}
 use Rattle.ripple_column.specs.MergeGap.{AllParted, HasGap, blank}

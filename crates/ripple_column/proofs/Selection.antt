@@ -10,14 +10,16 @@ use Rattle.score_bounds.specs.declared.bounds.Cut.{Cut}
 use Rattle.score_bounds.specs.declared.bounds.Cut.TheVariants.{Start, At, End}
 use Rattle.score_bounds.specs.declared.bounds.Range.{Range}
 use Rattle.score_bounds.specs.Bounds.{is_in, is_below}
+use Rattle.score_bounds.proofs.Cuts.{is_under-first_cut, is_over-second_cut}
 use Rattle.score_bounds.specs.Scores.{greatest}
 use Rattle.crack_kernel.specs.RowBag.{Test}
 use Rattle.crack_kernel.specs.Parts.{IsBelow, IsFrom, IsParted}
 use Rattle.crack_kernel.specs.PivotList.{IsNewValue, IsRising, ObeysPivots}
-use Rattle.ripple_column.specs.Content.{ColumnState, IsScored, has_score_in, NoneIn}
+use Rattle.ripple_column.specs.Content.{ColumnState, IsScored, IsUnchanged, SameOutside, has_score_in, NoneIn}
 use Rattle.ripple_column.specs.CutPivots.{is_before, values, cut_values, new_values, StandsAt}
 use Rattle.ripple_column.specs.ShownPivots.{IsAmong}
-use Rattle.ripple_column.specs.RangeAnswer.{low_cut, high_cut, pivots_with_cuts, IsSettled, IsAnswer, HoldsRange, AddsCuts}
+use Rattle.ripple_column.specs.RangeAnswer.{low_cut, high_cut, pivots_with_cuts, IsSettled, IsAnswer, HoldsRange, AddsCuts, StandsStill}
+use Rattle.ripple_column.specs.RangeEffects.{Selects}
 use Rattle.ripple_column.proofs.Values.{StandsAt-kept}
 use Rattle.ripple_column.proofs.Counts.{count_none, count_alike, count_and_le}
 
@@ -117,6 +119,9 @@ none_in p range xs none =
 abbrev pub CutsPart : Range → Type 0
 CutsPart range = (s : ℤ) → s ≤ℤ greatest → is_in range s ≡ (not (is_below s (low_cut range)) && is_below s (high_cut range))
 
+pub CutsPart-any : (range : Range) → CutsPart range
+CutsPart-any range s within = rw (← is_under-first_cut range.min s within, ← is_over-second_cut range.max s within) refl
+
 pub HoldsRange-settled : (c : ColumnState) (all : List (ℤ × ℕ)) (range : Range) (answer : ℕ × ℕ) → CutsPart range → IsAmong c.pivots all → ObeysPivots all c.rows → IsScored c.rows
     → is_before (low_cut range) (high_cut range) ≡ true → IsSettled c range answer → HoldsRange c range answer
 HoldsRange-settled c all range answer cuts among law scored below settled =
@@ -200,6 +205,28 @@ Contains-one_place v p q ps rising (i, i_in, i_is) (j, j_in, j_is) =
       ]
     ]
 
+-- a cut has one place
+StandsAt-one_place : (cut : Cut) (ps all : List (ℤ × ℕ)) (len p q : ℕ) → IsAmong ps all → IsRising all → StandsAt cut ps len p → StandsAt cut ps len q → p ≡ q
+StandsAt-one_place Start ps all len p q among rising here there = here ∙ sym there
+StandsAt-one_place (At v) ps all len p q among rising here there = Contains-one_place v p q all rising (among (v, p) here) (among (v, q) there)
+StandsAt-one_place End ps all len p q among rising here there = here ∙ sym there
+
+-- and a range one answer
+pub IsAnswer-one : (c : ColumnState) (all : List (ℤ × ℕ)) (range : Range) (a b : ℕ × ℕ) → IsAmong c.pivots all → IsRising all → IsAnswer c range a → IsAnswer c range b → (a.0 ≡ b.0) × (a.1 ≡ b.1)
+IsAnswer-one c all range a b among rising here there =
+    elim (cases_Bool (is_before (low_cut range) (high_cut range))) [
+      | inl order ↦
+          let s : IsSettled c range a = rw order at here in
+          let t : IsSettled c range b = rw order at there in (
+            StandsAt-one_place (low_cut range) c.pivots all (length c.rows) a.0 b.0 among rising s.low t.low,
+            StandsAt-one_place (high_cut range) c.pivots all (length c.rows) a.1 b.1 among rising s.high t.high,
+          )
+      | inr reversed ↦
+          let s : a ≡ (0, 0) = rw reversed at here in
+          let t : b ≡ (0, 0) = rw reversed at there in
+          (ap (λ (x : ℕ × ℕ). x.0) (s ∙ sym t), ap (λ (x : ℕ × ℕ). x.1) (s ∙ sym t))
+    ]
+
 -- what a search for a pivot finds is its one place
 pub found-exact : (r : Option ℕ) (u v : ℤ) (place : ℕ) (ps : List (ℤ × ℕ)) → u ≡ v → IsRising ps → MatchOption r (IsNewValue u ps) (λ p. Contains ps (u, p))
     → Contains ps (v, place) → r ≡ Some place
@@ -272,4 +299,19 @@ AddsCuts-selected (Err e) range old new kept cleared = tt
 AddsCuts-selected (Ok a) range old new kept cleared = λ order. record {
   kept = kept order;
   cleared = cleared order;
+}
+
+-- what a selection does to the column
+pub Selects-selected : {E : Type 0} (r : Result (ℕ × ℕ) E) (old new : ColumnState) (range : Range) → SameOutside range old.insertions new.insertions → SameOutside range old.deletions new.deletions
+    → OnOk r (is_before (low_cut range) (high_cut range) ≡ true → AddsCuts range old.pivots new.pivots)
+    → (is_before (low_cut range) (high_cut range) ≡ false → IsUnchanged old new)
+    → OnOk r (pivots_with_cuts range old.pivots ≤ 4096 → NoneIn range old.insertions → NoneIn range old.deletions → StandsStill range old new)
+    → OnOk r (Selects range old new)
+Selects-selected (Err e) old new range insertions deletions pivots empty still = tt
+Selects-selected (Ok a) old new range insertions deletions pivots empty still = record {
+  waiting_insertions = insertions;
+  waiting_deletions = deletions;
+  pivots = pivots;
+  empty = empty;
+  still = still;
 }

@@ -3,6 +3,7 @@ pub mod Content
 pub mod CutPivots
 pub mod ColumnViewAndInvariant
 pub mod RangeAnswer
+pub mod RangeEffects
 pub mod MergeGap
 pub mod MergeEffects
 pub mod RowHash

@@ -31,6 +31,10 @@ IsAnswer c range answer = MatchBool (is_before (low_cut range) (high_cut range))
 abbrev pub HasAnswer : ColumnState → Range → Type 0
 HasAnswer c range = (answer : ℕ × ℕ) × IsAnswer c range answer
 
+-- two places are the answer for some range
+abbrev pub AnswersSome : ColumnState → ℕ × ℕ → Type 0
+AnswersSome c places = (range : Range) × IsAnswer c range places
+
 -- the rows between the two places are the content with scores in the range, as bags
 pub record HoldsRange (c : ColumnState) (range : Range) (answer : ℕ × ℕ) : Type 0 where
   pub order : answer.0 ≤ answer.1

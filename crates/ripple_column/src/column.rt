@@ -1,11 +1,12 @@
 //! The column.
 
-ghost use Rattle.std.specs.Prelude.{◌≡◌, ◌+◌, ◌<◌, ◌≤◌, ◌&&◌, ℕ, [], ◌∷◌, not, true, false, length, count_by, slice_range, IsPermutation, IfOk, IfSome, OnOk, OnErr};
-ghost use Rattle.crack_kernel.specs.RowBag.{IsSubBag, SameBag, Test};
+ghost use Rattle.std.specs.Prelude.{◌≡◌, ◌+◌, ◌<◌, ◌≤◌, ◌&&◌, ℕ, [], ◌∷◌, not, false, length, count_by, slice_range, IfOk, IfSome, OnOk, OnErr};
+ghost use Rattle.score_bounds.specs.declared.bounds.Range.{Range};
+ghost use Rattle.crack_kernel.specs.RowBag.{IsSubBag, Test};
 ghost use Rattle.crack_kernel.specs.PivotList.{ObeysPivots};
-ghost use Rattle.ripple_column.specs.RangeAnswer.{AddsCuts, HasAnswer, HoldsRange, IsAnswer, StandsStill, low_cut, high_cut, pivots_with_cuts};
-ghost use Rattle.ripple_column.specs.Content.{HasRow, IsUnchanged, NoneIn, Pends, SameContent, SameOutside, content_count, has_score_in, most_pending};
-ghost use Rattle.ripple_column.specs.ClosedUp.{closed_up_pivots, closed_up_rows};
+ghost use Rattle.ripple_column.specs.RangeAnswer.{AnswersSome, HoldsRange, IsAnswer, low_cut, high_cut};
+ghost use Rattle.ripple_column.specs.RangeEffects.{Narrows, Selects, TakesOut};
+ghost use Rattle.ripple_column.specs.Content.{HasRow, IsUnchanged, Pends, SameContent, content_count, has_score_in, most_pending};
 ghost use Rattle.ripple_column.specs.CutPivots.{is_before, values};
 ghost use Rattle.ripple_column.specs.ShownPivots.{IsAmong};
 
@@ -15,7 +16,7 @@ use crate::pending_lists::{KEEPS_ROOM_FROM, MAX_PENDING, MAX_RESERVED, Pending, 
 use crate::pieces::Pieces;
 use crate::range_removal::remove_between;
 use crate::select::{select_between, settled_places};
-use crack_kernel::{MAX_PIVOTS, Row};
+use crack_kernel::Row;
 use score_bounds::Range;
 use std::alloc::{AllocError, Allocator};
 use std::marker::Model;
@@ -186,73 +187,48 @@ impl<A: Allocator + Copy> Column<A> {
         // The cuts of the range are pivots at these places, or ends of the column, and nothing waits in it.
         ensures answer { IfOk result (λ answer. IsAnswer self.new range.now answer) }
         ensures rows { IfOk result (λ answer. HoldsRange self.new range.now answer) }
+
+        // What waits outside the range goes on waiting, the other pivots stay where there is room for all, and with
+        // nothing to merge rows outside the pieces in which a cut falls stand still.
+        ensures selects { OnOk result (Selects range.now self.old self.new) }
+        ensures empty { is_before (low_cut range.now) (high_cut range.now) ≡ false → result ≡ Ok (0, 0) }
         ensures refused { OnErr result (IsUnchanged self.old self.new) }
-        ensures empty { is_before (low_cut range.now) (high_cut range.now) ≡ false
-            → IsUnchanged self.old self.new × (result ≡ Ok (0, 0)) }
-        // What waits outside the range goes on waiting.
-        ensures waiting_insertions { SameOutside range.now self.old.insertions self.new.insertions }
-        ensures waiting_deletions { SameOutside range.now self.old.deletions self.new.deletions }
-
-        ensures pivots { OnOk result (is_before (low_cut range.now) (high_cut range.now) ≡ true
-            → AddsCuts range.now self.old.pivots self.new.pivots) }
-
-        // With nothing to merge and no pivot dropped, rows outside the pieces in which a cut falls stand still.
-        ensures still { OnOk result (pivots_with_cuts range.now self.old.pivots ≤ MAX_PIVOTS
-            → NoneIn range.now self.old.insertions → NoneIn range.now self.old.deletions
-            → StandsStill range.now self.old self.new) }
     {
         let (first, second) = range.cuts();
         select_between(&mut self.pieces, &mut self.pending, range, &first, &second)
     }
 
-    /// Takes the rows with scores in the range out of the column, which has an answer for it as it
-    /// stands. The others stay, and change places only between pivots. Pivots stay: a place inside the range becomes its
-    /// start, one behind it moves up. What waits goes on waiting. It takes no memory.
+    /// Takes the rows from the place `from` on and before the place `to` out of the column: those with scores in a range
+    /// of which these places are the answer. The others stay, and change places only between pivots. Pivots stay: a
+    /// place inside the range becomes its start, one behind it moves up. What waits goes on waiting. It takes no memory.
     ///
     /// Its cost grows with the pivots on one side of the range and with the rows that leave, or, where these are fewer,
     /// with the rows on one side of it.
-    pub fn remove_rows(&mut self, range: &Range)
-        requires ready { HasAnswer self.old range.now }
-        ensures rows { (answer : ℕ × ℕ) → IsAnswer self.old range.now answer
-            → SameBag self.new.rows (closed_up_rows answer.0 answer.1 self.old.rows) }
-        ensures pivots { (answer : ℕ × ℕ) → IsAnswer self.old range.now answer
-            → self.new.pivots ≡ closed_up_pivots answer.0 answer.1 self.old.pivots }
-        ensures insertions { self.new.insertions ≡ self.old.insertions }
-        ensures deletions { self.new.deletions ≡ self.old.deletions }
-        ensures spare { self.new.insert_spare ≡ self.old.insert_spare }
-        ensures spare_deletions { self.new.delete_spare ≡ self.old.delete_spare }
+    pub fn remove_rows(&mut self, from: usize, to: usize)
+        requires answer { AnswersSome self.old (from, to) }
+        ensures takes_out { (range : Range) → IsAnswer self.old range (from, to) → TakesOut range self.old self.new }
 
         // The content is what it was, but for the rows with scores in the range.
-        ensures content { (p : Test) → content_count p self.new
-            ≡ content_count (λ r. p r && not (has_score_in range.now r)) self.old }
-        ensures none_left { (p : Test) → content_count (λ r. p r && has_score_in range.now r) self.new ≡ 0 }
-        ensures answer { (answer : ℕ × ℕ) → IsAnswer self.old range.now answer
-            → IsAnswer self.new range.now (answer.0, answer.0) }
+        ensures content { (range : Range) → IsAnswer self.old range (from, to) → (p : Test) → content_count p self.new
+            ≡ content_count (λ r. p r && not (has_score_in range r)) self.old }
+        ensures none_left { (range : Range) → IsAnswer self.old range (from, to)
+            → (p : Test) → content_count (λ r. p r && has_score_in range r) self.new ≡ 0 }
+        ensures answer { (range : Range) → IsAnswer self.old range (from, to) → IsAnswer self.new range (from, from) }
     {
-        if let Some((from, to)) = self.ready(range) {
-            remove_between(&mut self.pieces, from, to);
-        }
+        remove_between(&mut self.pieces, from, to);
     }
 
     /// Makes it cheap to list the rows from one place to another: it adds inner pivots near both, so that
     /// mostly few rows stand between each of them and the pivots around it. That is a hint: no clause says
     /// how few, and any two places may be given. What is promised is that nothing else moves: the content,
-    /// the shown pivots and what waits are the same, and rows only change places between shown pivots.
-    ///
-    /// `range` does no work. It names the range whose answer the caller holds: that answer is still right
-    /// afterwards. Where memory is refused, the cracks so far stay and no more come.
-    pub fn narrow(&mut self, range: &Range, from: usize, to: usize)
+    /// the shown pivots and what waits are the same, rows only change places between shown pivots, and each
+    /// answer is still right. Where memory is refused, the cracks so far stay and no more come.
+    pub fn narrow(&mut self, from: usize, to: usize)
         ensures content { SameContent self.old self.new }
-        ensures pivots { self.new.pivots ≡ self.old.pivots }
-        ensures insertions { self.new.insertions ≡ self.old.insertions }
-        ensures deletions { self.new.deletions ≡ self.old.deletions }
-        ensures spare { self.new.insert_spare ≡ self.old.insert_spare }
-        ensures spare_deletions { self.new.delete_spare ≡ self.old.delete_spare }
-        ensures permutation { IsPermutation self.old.rows self.new.rows }
-        ensures answer { (answer : ℕ × ℕ) → IsAnswer self.old range.now answer → IsAnswer self.new range.now answer }
-        ensures rows { (answer : ℕ × ℕ) → IsAnswer self.old range.now answer → HoldsRange self.new range.now answer }
+        ensures narrows { Narrows self.old self.new }
+        ensures answers { (range : Range) (answer : ℕ × ℕ) → IsAnswer self.old range answer
+            → IsAnswer self.new range answer × HoldsRange self.new range answer }
     {
-        let _cuts = range.cuts();
         narrow(&mut self.pieces, from);
         narrow(&mut self.pieces, to);
     }

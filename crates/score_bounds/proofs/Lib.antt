@@ -1,5 +1,5 @@
 mod Numerals
-mod Cuts
+pub mod Cuts
 mod Points
 mod Grammar
 mod BoundGrammar

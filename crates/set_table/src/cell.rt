@@ -1,11 +1,13 @@
 //! What stands behind a place's lock.
 
-ghost use Rattle.std.specs.Prelude.{◌≡◌, ◌<◌, ◌≤◌, ◌^◌, ◌↔◌, length, None, IfOk, IfErr, IfSome, OnErr, IsSome, IsTrue, MatchResult};
+ghost use Rattle.std.specs.Prelude.{◌≡◌, ◌<◌, ◌≤◌, ◌^◌, ◌↔◌, length, None, Some, IfOk, IfErr, IfNone, IfSome, OnErr, IsSome, IsTrue, MatchResult};
 ghost use Rattle.std.proofs.Math.ListN.{get_or, set};
 ghost use Rattle.std.specs.FinMap as map;
 ghost use Rattle.crack_kernel.specs.PivotList.{ObeysPivots};
 ghost use Rattle.ripple_column.specs.Content.{Holds};
 ghost use Rattle.zset_core.specs.AbstractCommand.{key_of};
+ghost use Rattle.resp_wire.specs.Response.{response_of};
+ghost use Rattle.zset_core.specs.Semantics.{step};
 ghost use Rattle.zset_core.specs.AnswerableAsItStands.{IsReadyFor, ListsWindow};
 ghost use Rattle.zset_core.specs.SortedSet.{pairs};
 ghost use Rattle.set_table.specs.CellStates.{HasNoReading, HasRead, HasRun, InStep, IsRefused, IsWhole, WasRun, counts_of, new_cell};
@@ -20,6 +22,7 @@ use crate::cell::step::take_step;
 use crate::counts::{Counts, OwnCounts, Tally};
 use crate::shares::Shares;
 use append_log::{Log, LogSink, RecordShare};
+use resp_wire::Reply;
 use std::alloc::{AllocError, Allocator};
 use std::hash::BuildHasher;
 use std::marker::Model;
@@ -168,28 +171,58 @@ impl<H: BuildHasher, L: Ledger, A: Allocator + Copy> Cell<H, L, A> {
             (λ answer. HasRead self.now shares.now command.now answer)
             (λ refusal. HasNoReading refusal self.now shares.now)) }
     {
-        let answer = self.sorted_set.ready(command)?;
-        if !self.is_in_step(shares) {
-            return Some(Err(Refusal::OutOfStep));
-        }
-        match answer {
-            Err(_) => Some(Err(Refusal::NoMemory)),
-            Ok(reply) => {
-                let own = OwnCounts::none();
-                Some(Ok(Answer::new(command, self.place, reply, self.found(), own)))
-            }
-        }
+        let reply = self.sorted_set.ready(command)?;
+        Some(self.answer_of(command, shares, reply))
     }
 
-    /// Whether the command had better be run than asked by `ready`: it lists a window for which `ready`
-    /// would read many rows and later commands few after a run, and a run is to be had. It is a hint: no
-    /// reply depends on it. So only a listing by LIMIT that `ready` would answer is run.
-    pub fn prefers_run(&self, command: &Command<A>) -> bool
-        ensures window { IsTrue result
-            → ListsWindow self.now.sorted_set.column command.now.meaning }
-        ensures room { IsTrue result → runs_of self.now.tallies < self.now.max_runs }
+    /// As `ready`, but none too for a command that had better be run: it lists a window for which `ready` would read
+    /// many rows and later commands few after a run, and a run is to be had. That is a hint: no reply depends on it. So
+    /// only a listing by LIMIT that `ready` would answer is run.
+    pub fn read_few<'c>(
+        &self,
+        command: &'c Command<A>,
+        shares: &Shares,
+    ) -> Option<Result<Answer<'c, A>, Refusal>>
+        requires keyed { IsSome (key_of command.now.meaning) }
+        ensures ready { IsSome result → IsReadyFor self.now.sorted_set.column command.now.meaning }
+        ensures run { IfNone result (IsReadyFor self.now.sorted_set.column command.now.meaning
+            → ListsWindow self.now.sorted_set.column command.now.meaning
+            × runs_of self.now.tallies < self.now.max_runs) }
+        ensures read { IfSome result (λ read. MatchResult read
+            (λ answer. HasRead self.now shares.now command.now answer)
+            (λ refusal. HasNoReading refusal self.now shares.now)) }
     {
-        self.total.runs < self.max_runs && self.sorted_set.is_wide(command)
+        let reply = if self.total.runs < self.max_runs {
+            self.sorted_set.ready_by_few(command)?
+        } else {
+            self.sorted_set.ready(command)?
+        };
+        Some(self.answer_of(command, shares, reply))
+    }
+
+    /// The answer to a command that reads, from the set's reply as it stands.
+    fn answer_of<'c>(
+        &self,
+        command: &'c Command<A>,
+        shares: &Shares,
+        reply: Result<Reply<A>, AllocError>,
+    ) -> Result<Answer<'c, A>, Refusal>
+        requires reply { IfOk reply (λ reply. step self.now.sorted_set.members command.now.meaning
+            ≡ Some (self.now.sorted_set.members, response_of reply)) }
+        ensures read { MatchResult result
+            (λ answer. HasRead self.now shares.now command.now answer)
+            (λ refusal. HasNoReading refusal self.now shares.now) }
+    {
+        if !self.is_in_step(shares) {
+            return Err(Refusal::OutOfStep);
+        }
+        match reply {
+            Err(_) => Err(Refusal::NoMemory),
+            Ok(reply) => {
+                let own = OwnCounts::none();
+                Ok(Answer::new(command, self.place, reply, self.found(), own))
+            }
+        }
     }
 
     /// A law: what holds of every cell whose lock is free. The rows of its column are those of its members, and each

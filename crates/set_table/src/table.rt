@@ -260,10 +260,7 @@ impl<H: BuildHasher, S: LogSink, L: Ledger, A: Allocator + Copy> Table<H, S, L, 
     {
         let cell = self.cells[place].read(rt);
         gate.inside(place);
-        if cell.prefers_run(command) {
-            return None;
-        }
-        cell.ready(command, &pass.shares[place])
+        cell.read_few(command, &pass.shares[place])
     }
 
     /// Asks a place's cell under its shared lock.

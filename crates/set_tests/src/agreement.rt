@@ -322,10 +322,15 @@ fn windows_of_one_score_are_listed(rt: HostRuntime) -> Result<(), Fail> {
     expect_limits(&rt, rt.alloc(), &mut set, &mut plain)
 }
 
-// Whether a listing of the ten lowest would read many rows of the set, and less after `narrow`.
-fn is_wide(alloc: Global, set: &Set) -> Result<bool, Fail> {
+// Whether a listing of the ten lowest would read many rows of a set that is ready for it.
+fn is_wide(alloc: Global, set: &Set) -> Result<bool, Fail>
+    requires { set.now.next ≡ None }
+{
     let command = command(alloc, "ZRANGEBYSCORE k -inf +inf LIMIT 0 10")?;
-    Ok(set.is_wide(&command))
+    if command.key().is_none() {
+        Err("no key")?;
+    }
+    Ok(set.ready(&command).is_some() && set.ready_by_few(&command).is_none())
 }
 
 // Runs a command: a listing of the ten lowest is wide then, or is not.

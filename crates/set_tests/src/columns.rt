@@ -27,7 +27,6 @@ fn ask(set: &mut Set, command: &Command<Global>) -> Result<Reply<Global>, Fail>
     if command.key().is_none() {
         Err("no key")?;
     }
-    set.narrow(command)?;
     Ok(set.answer(command)?)
 }
 

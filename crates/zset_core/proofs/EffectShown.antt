@@ -9,7 +9,7 @@ use Rattle.zset_core.specs.SortedSet.{Members}
 use Rattle.zset_core.specs.AbstractCommand.{Meaning, Ping, Add, Increase, Remove, RemoveRange, Score, Card, Count, ListRange, range_to_remove}
 use Rattle.zset_core.specs.ChangeEffect.{effect, moved_names, names_in, prepared_effect}
 use Rattle.zset_core.specs.MembersWithStagedScores.{Entry, current_score, rows_by, name_at}
-use Rattle.zset_core.specs.Plan.{edited_by, left_by, moved_places, without_given}
+use Rattle.zset_core.specs.Plan.{edited_by, left_by, moved_places, range_of, without_given}
 use Rattle.zset_core.specs.SetAndOwnerViews.{SetView}
 use Rattle.zset_core.specs.SetViewAndInvariant.{view_of, IsPlanned, IsSound}
 use Rattle.zset_core.specs.declared.set.Prepared.{Prepared}
@@ -50,7 +50,7 @@ module _ {A : Type 0} (es : List Entry) (column : ColumnState) (q : Prepared A) 
   pub effect-at : (i : ℕ) (name : List ℕ) (score : Option ℤ) → i < length places → name ≡ name_at es (get_or places i 0) → score ≡ fin.get (edited_by es q.plan) (name_at es (get_or places i 0))
       → slice_get (effect old new q.asked.value.meaning) i ≡ Some (name, score)
   effect-at i name score lt is has =
-      let alone = no_range q.plan.range q.asked.value.meaning old new (length places) i planned.range named_len lt in
+      let alone = no_range (range_of q.plan) q.asked.value.meaning old new (length places) i planned.range named_len lt in
       let left : new ≡ edited_by es q.plan = ap (λ (range : Option Range). without_given range (edited_by es q.plan)) alone in
       let here : slice_get named i ≡ Some name = sym (ap (λ (names : List (List ℕ)). slice_get names i) planned.moved)
       ∙ slice_get-map (name_at es) places i ∙ ap (option_map (name_at es)) (slice_get-get_or places i 0 lt) ∙ ap (λ (k : List ℕ). Some k) (sym is) in

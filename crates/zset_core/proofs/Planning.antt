@@ -7,7 +7,7 @@ use Rattle.zset_core.specs.SortedSet.{Members, pairs}
 use Rattle.zset_core.specs.MembersWithStagedScores.{Entry, current_score, staged_score, rows_by, members_by, names_at, IsSettled}
 use Rattle.zset_core.specs.RowEdits.{most_edits}
 use Rattle.zset_core.specs.ChangeEffect.{moved_names, names_in}
-use Rattle.zset_core.specs.Plan.{Moves, MovesTo, NeedsAtMost, Plans, Prepares, edited_by, left_by, rows_coming, rows_leaving}
+use Rattle.zset_core.specs.Plan.{Moves, MovesTo, NeedsAtMost, Plans, Prepares, edited_by, left_by, range_of, rows_coming, rows_leaving}
 use Rattle.zset_core.specs.ChangeOutline.{IsOutline}
 use Rattle.zset_core.specs.CommandEffectsOnColumn.{edit_count}
 use Rattle.zset_core.specs.AbstractCommand.{Meaning, range_to_remove}
@@ -54,7 +54,7 @@ module _ {A : Type 0} where
       let a = count_pairs (members_by current_score old) in
       let b = count_pairs (members_by staged_score new) in
       let less = len_removed (members_by staged_score new) (names_at new plan.removed.keys) in
-      let fewer : fin.len s.0.0 ≤ fin.len (edited_by new plan) = subst (λ (m : Members). fin.len m ≤ fin.len (edited_by new plan)) p.members_are (len_without_given plan.range (edited_by new plan)) in
+      let fewer : fin.len s.0.0 ≤ fin.len (edited_by new plan) = subst (λ (m : Members). fin.len m ≤ fin.len (edited_by new plan)) p.members_are (len_without_given (range_of plan) (edited_by new plan)) in
       elim p.outline_is.one_way [
         | inl none ↦ omega (arith, none)
         | inr none ↦ omega (arith, none, p.outline_is.sums, bag, a, b, less, fewer, count_all plan.draft.edits.coming.items, count_all plan.draft.edits.leaving.items, p.few_rows.coming)
@@ -85,7 +85,7 @@ module _ {A : Type 0} where
   MovesTo-left old new plan names (Some done) h m = subst (MovesTo old new plan.draft names) (sym h.members_are) m
 
   pub IsPlanned-made : (old new : List Entry) (c c' : ColumnState) (meaning : Meaning) (plan : Plan A) (o : Option (Members × Response)) → IsIdle old c → Plans old new plan o → SameContent c c'
-      → IsReadyForPlan c' plan → plan.range ≡ range_to_remove meaning → Moves old new plan (names_in meaning) o → IsPlanned new c' meaning plan
+      → IsReadyForPlan c' plan → range_of plan ≡ range_to_remove meaning → Moves old new plan (names_in meaning) o → IsPlanned new c' meaning plan
   IsPlanned-made old new c c' meaning plan o idle h content ready range moves =
       let done = (Prepares-some old new plan o h).0 in
       let p = (Prepares-some old new plan o h).1 in

@@ -1,21 +1,23 @@
 -- The rows of a range of a column: in the order of a listing they are the listing.
-use Rattle.std.proofs.Common.{◌≡◌, ℕ, ◌+◌, ◌<◌, ◌≤◌, ℤ, Bool, true, false, cond, nat_lt, ◌&&◌, ◌||◌, List, [], ◌∷◌, filter, length, count_by, pos, Option, Some, Result, Ok, Err, IfOk, OnOk, OnErr, refl, sym, ap, subst, ◌∙◌, arith}
+use Rattle.std.proofs.Common.{◌≡◌, ℕ, ◌+◌, ◌<◌, ◌≤◌, ℤ, Bool, true, false, cond, nat_lt, ◌&&◌, ◌||◌, List, [], ◌∷◌, filter, length, count_by, pos, Option, None, Some, IsSome, Result, Ok, Err, IfOk, OnOk, OnErr, refl, sym, ap, subst, ◌∙◌, arith}
 use Rattle.std.proofs.lemmas.List.{length-map}
 use Rattle.std.specs.Prelude.{slice_range}
 use Rattle.std.specs.List.{AllByRecursion, IsDistinct, list_any}
 use Rattle.std.specs.Cmp.{eq_by_cmp_equiv}
 use Rattle.std.specs.FinMap as fin
+use Rattle.std.proofs.lemmas.Bool.{false≢true}
 use Rattle.std.proofs.lemmas.Bool.Decides.{nat_tests}
 use Rattle.std.proofs.lemmas.List.Sums.{sum_by-cons}
 use Rattle.score_bounds.specs.declared.bounds.Range.{Range}
 use Rattle.score_bounds.specs.Bounds.{is_in}
 use Rattle.crack_kernel.specs.RowBag.{Test, SameBag}
 use Rattle.ripple_column.specs.Content.{ColumnState, Holds, SameContent}
-use Rattle.ripple_column.specs.RangeAnswer.{HoldsRange}
+use Rattle.ripple_column.specs.RangeAnswer.{HasAnswer, HoldsRange}
 use Rattle.ripple_column.proofs.CallerLemmas.{count_all}
 use Rattle.zset_core.specs.SortedSet.{Members, Pair, pair_cmp, pairs, marks, listing}
 use Rattle.resp_wire.specs.Response.{Response, Integer, Array}
-use Rattle.zset_core.specs.CommandEffectsOnColumn.{Reads, Selects}
+use Rattle.ripple_column.specs.RangeEffects.{Selects}
+use Rattle.zset_core.specs.CommandEffectsOnColumn.{Reads, SelectsListed, SelectsWindow}
 use Rattle.zset_core.specs.AbstractCommand.{Meaning, Count, ListRange}
 use Rattle.zset_core.specs.Semantics.{step, elements, apply_limit}
 use Rattle.zset_core.specs.declared.command.limit.Limit.{Limit}
@@ -119,8 +121,23 @@ Holds-same c c' m same holds p = same p ∙ holds p
 pub Reads-count : (old new : ColumnState) (meaning : Meaning) (key : List ℕ) (range : Range) → meaning ≡ Count key range → Selects range old new → Reads meaning old new
 Reads-count old new meaning key range is selects = subst (λ (m : Meaning). Reads m old new) (sym is) selects
 
-pub Reads-list : (old new : ColumnState) (meaning : Meaning) (key : List ℕ) (range : Range) (with_scores : Bool) (limit : Option Limit) → meaning ≡ ListRange key range with_scores limit → Selects range old new → Reads meaning old new
+pub Reads-list : (old new : ColumnState) (meaning : Meaning) (key : List ℕ) (range : Range) (with_scores : Bool) (limit : Option Limit) → meaning ≡ ListRange key range with_scores limit → SelectsListed limit range old new → Reads meaning old new
 Reads-list old new meaning key range with_scores limit is selects = subst (λ (m : Meaning). Reads m old new) (sym is) selects
+
+-- a range that was asked for may be listed, all of it or a window
+pub SelectsListed-selects : (limit : Option Limit) (range : Range) (old new : ColumnState) → HasAnswer new range → Selects range old new → SelectsListed limit range old new
+SelectsListed-selects None range old new answer selects = selects
+SelectsListed-selects (Some limit) range old new answer selects = record {
+  answer = answer;
+  waiting_insertions = selects.waiting_insertions;
+  waiting_deletions = selects.waiting_deletions;
+  pivots = selects.pivots;
+  empty = selects.empty;
+}
+
+pub SelectsListed-window : (limit : Option Limit) (range : Range) (old new : ColumnState) → IsSome limit → SelectsWindow range old new → SelectsListed limit range old new
+SelectsListed-window None range old new some window = absurd (false≢true some)
+SelectsListed-window (Some limit) range old new some window = window
 
 pub OnOk-any : {X E : Type 0} (r : Result X E) (P : Type 0) → P → OnOk r P
 OnOk-any (Ok x) P h = h

@@ -1,20 +1,16 @@
 -- What commands do to the column of a set.
-use Rattle.std.specs.Prelude.{None, Some, ◌≡◌, ◌≤◌, ℕ, ◌-◌, Bool, true, false, List, ℤ, option_map, unwrap_or}
+use Rattle.std.specs.Prelude.{Option, None, Some, ◌≡◌, ℕ, ◌-◌, Bool, true, false, List, ℤ, option_map, unwrap_or}
 use Rattle.std.specs.FinMap as fin
 use Rattle.score_bounds.specs.declared.bounds.Range.{Range}
-use Rattle.crack_kernel.specs.RowBag.{SameBag}
-use Rattle.ripple_column.specs.ClosedUp.{closed_up_pivots, closed_up_rows}
-use Rattle.ripple_column.specs.RangeAnswer.{AddsCuts, HasAnswer, IsAnswer, StandsStill, low_cut, high_cut, pivots_with_cuts}
-use Rattle.ripple_column.specs.Content.{ColumnState, IsUnchanged, NoneIn, SameOutside}
+use Rattle.ripple_column.specs.RangeAnswer.{AddsCuts, HasAnswer, low_cut, high_cut}
+use Rattle.ripple_column.specs.RangeEffects.{Selects}
+use Rattle.ripple_column.specs.Content.{ColumnState, IsUnchanged, SameOutside}
 use Rattle.ripple_column.specs.CutPivots.{is_before}
 use Rattle.zset_core.specs.SortedSet.{Members}
 use Rattle.zset_core.specs.AbstractCommand.{Meaning, Ping, Add, Increase, Remove, RemoveRange, Score, Card, Count, ListRange}
 use Rattle.zset_core.specs.Semantics.{outcome_of, counted, count_all, sum_of, remove_all}
+use Rattle.zset_core.specs.declared.command.limit.Limit.{Limit}
 use Rattle.zset_core.specs.declared.set.pair_outcome.Flags.{Flags}
-
--- a column has at most this number of pivots
-abbrev pub most_pivots : ℕ
-most_pivots = 4096
 
 -- whether a command changes members that it names: ZADD and ZREM. ZREMRANGEBYSCORE changes a set too, but names a range
 abbrev pub changes_named : Meaning → Bool
@@ -46,46 +42,19 @@ edit_count members (Card key) = 0
 edit_count members (Count key range) = 0
 edit_count members (ListRange key range with_scores limit) = 0
 
--- a range was asked for: what waits outside it goes on waiting, and its cuts are pivots beside those that were, or alone where
--- there would be too many; a range that is empty by its cuts changes nothing
-pub record Selects (range : Range) (old new : ColumnState) : Type 0 where
-  pub waiting_insertions : SameOutside range old.insertions new.insertions
-  pub waiting_deletions : SameOutside range old.deletions new.deletions
-  pub pivots : is_before (low_cut range) (high_cut range) ≡ true → AddsCuts range old.pivots new.pivots
-  pub empty : is_before (low_cut range) (high_cut range) ≡ false → IsUnchanged old new
-  -- with nothing to merge and no pivot dropped, a row moves only within a piece that is cracked
-  pub still : pivots_with_cuts range old.pivots ≤ most_pivots → NoneIn range old.insertions → NoneIn range old.deletions → StandsStill range old new
-
--- the rows of a range leave a column that has its answer for it: the rows behind them and the pivots close up, and what waits
--- goes on waiting
-pub record TakesOut (range : Range) (old new : ColumnState) : Type 0 where
-  pub ready : HasAnswer old range
-  pub rows : (answer : ℕ × ℕ) → IsAnswer old range answer → SameBag new.rows (closed_up_rows answer.0 answer.1 old.rows)
-  pub pivots : (answer : ℕ × ℕ) → IsAnswer old range answer → new.pivots ≡ closed_up_pivots answer.0 answer.1 old.pivots
-  pub insertions : new.insertions ≡ old.insertions
-  pub deletions : new.deletions ≡ old.deletions
-
--- a window of a range is to be listed: the column gets its answer for the range, as where the range is asked for, and rows may
--- move between the pivots
-pub record Narrows (range : Range) (old new : ColumnState) : Type 0 where
+-- a window of a range is to be listed: the column gets its answer for the range, as where the range alone is asked for, and rows
+-- may move between the pivots
+pub record SelectsWindow (range : Range) (old new : ColumnState) : Type 0 where
   pub answer : HasAnswer new range
   pub waiting_insertions : SameOutside range old.insertions new.insertions
   pub waiting_deletions : SameOutside range old.deletions new.deletions
   pub pivots : is_before (low_cut range) (high_cut range) ≡ true → AddsCuts range old.pivots new.pivots
   pub empty : is_before (low_cut range) (high_cut range) ≡ false → IsUnchanged old new
 
--- what is done to a column before a window of a command is listed: nothing where it asks for none
-abbrev pub NarrowsFor : Meaning → ColumnState → ColumnState → Type 0
-NarrowsFor (Ping text) old new = IsUnchanged old new
-NarrowsFor (Add key flags changed pairs) old new = IsUnchanged old new
-NarrowsFor (Increase key flags given member) old new = IsUnchanged old new
-NarrowsFor (Remove key members) old new = IsUnchanged old new
-NarrowsFor (RemoveRange key range) old new = IsUnchanged old new
-NarrowsFor (Score key member) old new = IsUnchanged old new
-NarrowsFor (Card key) old new = IsUnchanged old new
-NarrowsFor (Count key range) old new = IsUnchanged old new
-NarrowsFor (ListRange key range with_scores None) old new = IsUnchanged old new
-NarrowsFor (ListRange key range with_scores (Some limit)) old new = Narrows range old new
+-- a range is to be listed, all of it or the window that LIMIT asks for
+abbrev pub SelectsListed : Option Limit → Range → ColumnState → ColumnState → Type 0
+SelectsListed None range old new = Selects range old new
+SelectsListed (Some limit) range old new = SelectsWindow range old new
 
 -- what a command that reads a set does to its column: only one that names a range changes it
 abbrev pub Reads : Meaning → ColumnState → ColumnState → Type 0
@@ -97,4 +66,4 @@ Reads (RemoveRange key range) old new = IsUnchanged old new
 Reads (Score key member) old new = IsUnchanged old new
 Reads (Card key) old new = IsUnchanged old new
 Reads (Count key range) old new = Selects range old new
-Reads (ListRange key range with_scores limit) old new = Selects range old new
+Reads (ListRange key range with_scores limit) old new = SelectsListed limit range old new

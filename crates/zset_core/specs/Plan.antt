@@ -1,5 +1,5 @@
 -- What a set has prepared, and what callers see of it.
-use Rattle.std.specs.Prelude.{◌≡◌, ◌≤◌, ◌+◌, ◌++◌, ℕ, List, length, take, Option, None, Some}
+use Rattle.std.specs.Prelude.{◌≡◌, ◌≤◌, ◌+◌, ◌++◌, ℕ, List, length, take, Option, None, Some, option_map}
 use Rattle.std.specs.List.{range_with_len}
 use Rattle.resp_wire.specs.Response.{Response, response_of}
 use Rattle.zset_core.specs.ChangeEffect.{moved_names}
@@ -10,6 +10,7 @@ use Rattle.zset_core.specs.MembersWithStagedScores.{Entry, current_score, staged
 use Rattle.zset_core.specs.ChangeOutline.{IsOutline}
 use Rattle.zset_core.specs.RowEdits.{Turns, most_edits}
 use Rattle.zset_core.specs.declared.set.draft.Draft.{Draft}
+use Rattle.zset_core.specs.declared.set.plan.LeavingRange.{LeavingRange}
 use Rattle.zset_core.specs.declared.set.plan.Plan.{Plan}
 
 -- the set without the members of a range, if one is given
@@ -17,13 +18,17 @@ abbrev pub without_given : Option Range → Members → Members
 without_given None members = members
 without_given (Some range) members = without_range range members
 
+-- the range whose members a plan takes out, if it is one
+abbrev pub range_of : {A : Type 0} → Plan A → Option Range
+range_of plan = option_map (λ (leaving : LeavingRange). leaving.range) plan.range
+
 -- the set once the members that a plan names came, moved and left
 abbrev pub edited_by : {A : Type 0} → List Entry → Plan A → Members
 edited_by entries plan = remove_all (members_by staged_score entries) (names_at entries plan.removed.keys)
 
 -- the set that a commit leaves
 abbrev pub left_by : {A : Type 0} → List Entry → Plan A → Members
-left_by entries plan = without_given plan.range (edited_by entries plan)
+left_by entries plan = without_given (range_of plan) (edited_by entries plan)
 
 -- how many rows a plan's commit puts among the pending insertions at most, and among the pending deletions
 abbrev pub rows_coming : {A : Type 0} → Plan A → ℕ

@@ -4,12 +4,13 @@ use Rattle.std.specs.FinMap as fin
 use Rattle.resp_wire.specs.Response.{response_of}
 use Rattle.zset_core.specs.MembersWithStagedScores.{Entry, current_score, names_at, rows_by, staged_score, members_by, IsSettled, IsWaiting, IsWithin}
 use Rattle.ripple_column.specs.Content.{ColumnState, Holds}
-use Rattle.ripple_column.specs.RangeAnswer.{HasAnswer}
+use Rattle.ripple_column.specs.RangeAnswer.{HoldsRange, IsAnswer}
 use Rattle.zset_core.specs.AbstractCommand.{Meaning, range_to_remove}
 use Rattle.zset_core.specs.RowEdits.{TurnsInto}
 use Rattle.zset_core.specs.ChangeEffect.{moved_names, names_in}
-use Rattle.zset_core.specs.Plan.{IsCounted, NeedsAtMost, left_by, moved_places, rows_coming, rows_leaving}
+use Rattle.zset_core.specs.Plan.{IsCounted, NeedsAtMost, left_by, moved_places, range_of, rows_coming, rows_leaving}
 use Rattle.zset_core.specs.SortedSet.{pairs}
+use Rattle.zset_core.specs.declared.set.plan.LeavingRange.{LeavingRange}
 use Rattle.zset_core.specs.declared.set.plan.Plan.{Plan}
 use Rattle.zset_core.specs.SetAndOwnerViews.{SetView, Next}
 use Rattle.zset_core.specs.declared.set.Prepared.{Prepared}
@@ -31,10 +32,15 @@ pub record HasRoom {A : Type 0} (column : ColumnState) (plan : Plan A) : Type 0 
   pub coming : rows_coming plan ≤ column.insert_spare
   pub leaving : rows_leaving plan ≤ column.delete_spare
 
--- a column is ready for a plan: it has room for its rows; where a range leaves it has its answer for that, and nothing is named
+-- the rows of a range that leaves stand at its places, and nothing waits in it
+pub record StandsIn (column : ColumnState) (leaving : LeavingRange) : Type 0 where
+  pub answer : IsAnswer column leaving.range (leaving.from, leaving.to)
+  pub rows : HoldsRange column leaving.range (leaving.from, leaving.to)
+
+-- a column is ready for a plan: it has room for its rows; where a range leaves its rows stand there, and nothing is named
 pub record IsReadyForPlan {A : Type 0} (column : ColumnState) (plan : Plan A) : Type 0 where
   pub room : HasRoom column plan
-  pub answer : IfSome plan.range (HasAnswer column)
+  pub stands : IfSome plan.range (StandsIn column)
   pub alone : OnSome plan.range (NeedsAtMost 0 plan)
 
 -- a set with a plan for a command: the content is the bag of the pairs from before, and the edits turn it into the bag of those
@@ -47,7 +53,7 @@ pub record IsPlanned {A : Type 0} (entries : List Entry) (column : ColumnState) 
   pub turns : TurnsInto column (members_by staged_score entries) plan.draft.edits
   pub removed : IsWithin (length entries) plan.removed.keys
   pub ready : IsReadyForPlan column plan
-  pub range : plan.range ≡ range_to_remove meaning
+  pub range : range_of plan ≡ range_to_remove meaning
   pub counted : IsCounted plan.draft entries
   pub moved : names_at entries (moved_places plan.draft)
       ≡ moved_names (fin.from_entries (take plan.draft.kept (rows_by current_score entries))) (left_by entries plan) (names_in meaning)

@@ -1,5 +1,5 @@
 //! One sorted set.
-ghost use Rattle.std.specs.Prelude.{◌≡◌, ◌+◌, ◌<◌, ◌≤◌, ◌^◌, ◌⊎◌, ◌↔◌, length, slice_get, true, false, Some, None, IsSome, IfSome, IfOk, IfErr, OnOk, OnErr, IsTrue, take, option_map};
+ghost use Rattle.std.specs.Prelude.{◌≡◌, ◌+◌, ◌<◌, ◌≤◌, ◌^◌, ◌⊎◌, ◌↔◌, length, slice_get, true, false, Some, None, IsSome, IfNone, IfSome, IfOk, IfErr, OnOk, OnErr, IsTrue, take, option_map};
 ghost use Rattle.std.specs.FinMap as map;
 ghost use Rattle.indexmap.specs.IndexMap.{IsUnique};
 ghost use Rattle.zset_core.specs.MembersWithStagedScores.{current_score, slot_at, same_bytes};
@@ -10,7 +10,8 @@ ghost use Rattle.zset_core.specs.ChangeOutline.{IsOutline};
 ghost use Rattle.zset_core.specs.Refusal.{IsRefused};
 ghost use Rattle.ripple_column.specs.Content.{Holds, IsUnchanged, most_pending};
 ghost use Rattle.ripple_column.specs.CutPivots.{values};
-ghost use Rattle.zset_core.specs.CommandEffectsOnColumn.{NarrowsFor, Reads, Selects, TakesOut, changes_named, edit_count};
+ghost use Rattle.ripple_column.specs.RangeEffects.{Selects, TakesOut};
+ghost use Rattle.zset_core.specs.CommandEffectsOnColumn.{Reads, changes_named, edit_count};
 ghost use Rattle.zset_core.specs.RowEdits.{most_edits};
 ghost use Rattle.zset_core.specs.AnswerableAsItStands.{IsReadyFor, ListsWindow};
 ghost use Rattle.zset_core.specs.SortedSet.{pairs, whole};
@@ -31,7 +32,7 @@ pub mod range_removal;
 pub mod row_edits;
 
 use crate::command::Command;
-use crate::query::answer::{answer_from, is_wide_for, narrow_for, ready_from};
+use crate::query::answer::{answer_from, ready_from};
 use crate::query::listing::all_rows;
 use crate::refusal::Refusal;
 use crate::set::change_effect::effect_entry;
@@ -124,31 +125,9 @@ impl<H: BuildHasher, A: Allocator + Copy> ZSet<H, A> {
         self.prepared.is_some()
     }
 
-    /// Makes the set ready for ZRANGEBYSCORE with LIMIT, and cracks its column so that mostly few rows
-    /// stand in the pieces round the window that it asks for: `answer` and `ready` reply the same without
-    /// it, but may read many rows each time. Owners call it before `answer`. For any other command it
-    /// changes nothing. Refused only when out of memory.
-    pub fn narrow(&mut self, command: &Command<A>) -> Result<(), AllocError>
-        requires idle { self.old.next ≡ None }
-        ensures members { self.new.members ≡ self.old.members }
-        ensures idle { self.new.next ≡ None }
-        ensures column { OnOk result (NarrowsFor command.now.meaning self.old.column self.new.column) }
-        ensures refused { OnErr result (IsUnchanged self.old.column self.new.column) }
-    {
-        narrow_for(&mut self.column, command)
-    }
-
-    /// Whether `ready` would read many rows for a window that `narrow` would let be listed by few. It
-    /// is a hint: no reply depends on it. Only ZRANGEBYSCORE with LIMIT asks for such a window, and
-    /// only where `ready` answers it is there a choice.
-    pub fn is_wide(&self, command: &Command<A>) -> bool
-        ensures { IsTrue result → ListsWindow self.now.column command.now.meaning }
-    {
-        is_wide_for(&self.column, command)
-    }
-
     /// Answers a command that reads the set of its key: ZSCORE, ZCARD, ZCOUNT, ZRANGEBYSCORE. Then
-    /// the set is ready for it. Refused only when out of memory.
+    /// the set is ready for it. For LIMIT its column is cracked so that mostly few rows stand in the pieces round the
+    /// window that is asked for. Refused only when out of memory.
     pub fn answer(&mut self, command: &Command<A>) -> Result<Reply<A>, AllocError>
         requires idle { self.old.next ≡ None }
         requires reading { is_writing command.now.meaning ≡ false }
@@ -180,7 +159,23 @@ impl<H: BuildHasher, A: Allocator + Copy> ZSet<H, A> {
             ≡ Some (self.now.members, response_of reply))) }
         ensures exact { IsSome result ↔ IsReadyFor self.now.column command.now.meaning }
     {
-        ready_from(self.alloc, &self.members, &self.column, command)
+        ready_from(self.alloc, &self.members, &self.column, command, true)
+    }
+
+    /// The reply as `ready` gives it, where it needs no more than few rows: None too where `ready` would read many for a
+    /// window that `answer` would let be listed by few. Only ZRANGEBYSCORE with LIMIT asks for a window. How many rows
+    /// are many is a hint, which no reply depends on.
+    pub fn ready_by_few(&self, command: &Command<A>) -> Option<Result<Reply<A>, AllocError>>
+        requires idle { self.now.next ≡ None }
+        requires keyed { IsSome (key_of command.now.meaning) }
+        ensures reply { IfSome result
+            (λ answer. IfOk answer (λ reply. step self.now.members command.now.meaning
+            ≡ Some (self.now.members, response_of reply))) }
+        ensures ready { IsSome result → IsReadyFor self.now.column command.now.meaning }
+        ensures window { IfNone result (IsReadyFor self.now.column command.now.meaning
+            → ListsWindow self.now.column command.now.meaning) }
+    {
+        ready_from(self.alloc, &self.members, &self.column, command, false)
     }
 
     /// The column of the members' rows. Its content is the bag of their pairs, also while a command

@@ -110,7 +110,6 @@ fn read<H: BuildHasher, A: Allocator + Copy>(
     ensures ok { IfOk result (λ done. Stepped set.old.members set.old.members command.now
         (response_of done.0) done.1) }
 {
-    set.narrow(command)?;
     let reply = set.answer(command)?;
     Ok((reply, OwnCounts::none()))
 }

@@ -33,7 +33,6 @@ pub fn run_set<H: BuildHasher, A: Allocator + Copy>(
         set.prepare(command)?;
         return Ok(set.commit());
     }
-    set.narrow(command)?;
     Ok(set.answer(command)?)
 }
 

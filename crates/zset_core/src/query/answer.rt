@@ -1,10 +1,10 @@
 //! Commands that read a set.
-ghost use Rattle.std.specs.Prelude.{◌≡◌, ◌≤◌, ◌↔◌, ◌⊎◌, ℤ, pos, Bool, Some, None, false, length, filter, slice_get, slice_range, IfOk, IfSome, IsSome, IsTrue, OnErr, OnOk};
+ghost use Rattle.std.specs.Prelude.{◌≡◌, ◌≤◌, ◌⊎◌, ℤ, pos, Bool, Some, None, false, length, filter, slice_get, slice_range, IfOk, IfNone, IfSome, IsSome, OnErr, OnOk};
 ghost use Rattle.crack_kernel.specs.RowBag.{SameBag};
 ghost use Rattle.resp_wire.specs.Response.{Array, Integer, response_of};
 ghost use Rattle.ripple_column.specs.Content.{Holds, IsUnchanged, SameContent};
 ghost use Rattle.zset_core.specs.AbstractCommand.{is_writing, key_of};
-ghost use Rattle.zset_core.specs.CommandEffectsOnColumn.{NarrowsFor, Reads};
+ghost use Rattle.zset_core.specs.CommandEffectsOnColumn.{Reads};
 ghost use Rattle.zset_core.specs.AnswerableAsItStands.{IsReadyFor, ListsWindow};
 ghost use Rattle.zset_core.specs.SortedSet.{Members, listing, pairs};
 ghost use Rattle.zset_core.specs.Semantics.{elements, apply_limit, step};
@@ -15,7 +15,7 @@ use crate::command::limit::Limit;
 use crate::command::parsed_arguments::Form;
 use crate::query::listing::elements_of;
 use crate::query::window::{
-    is_wide_window, least_rows, narrow_window, piece_end, piece_start, ranks_of, window_of,
+    is_wide, least_rows, piece_end, piece_start, ranks_of, select_listed, window_of,
 };
 use crate::score_and_count_replies::{count_reply, score_reply};
 use crate::set::members_with_staged_scores::{MemberMap, card_of, score_of};
@@ -55,55 +55,29 @@ pub fn answer_from<H: BuildHasher, A: Allocator + Copy>(
             with_scores,
             limit,
         } => {
-            let rows = column.select(range)?;
+            let rows = select_listed(column, range, limit)?;
             list_rows(alloc, column, rows, limit, *with_scores)
         }
         _ => unreachable!(),
     }
 }
 
-/// Makes the column ready for the window of ZRANGEBYSCORE with LIMIT, and its pieces short there. For
-/// any other command it changes nothing.
-pub fn narrow_for<A: Allocator + Copy>(
-    column: &mut Column<A>,
-    command: &Command<A>,
-) -> Result<(), AllocError>
-    ensures content { SameContent column.old column.new }
-    ensures column { OnOk result (NarrowsFor command.now.meaning column.old column.new) }
-    ensures refused { OnErr result (IsUnchanged column.old column.new) }
-{
-    match command.form() {
-        Form::ListRange { range, limit, .. } if limit.is_some() => {
-            narrow_window(column, range, limit)
-        }
-        _ => Ok(()),
-    }
-}
-
-/// Whether `narrow_for` would make a piece shorter for a command for which the column is ready.
-pub fn is_wide_for<A: Allocator + Copy>(column: &Column<A>, command: &Command<A>) -> bool
-    ensures { IsTrue result → ListsWindow column.now command.now.meaning }
-{
-    match command.form() {
-        Form::ListRange { range, limit, .. } if limit.is_some() => {
-            is_wide_window(column, range, limit)
-        }
-        _ => false,
-    }
-}
-
-/// The reply to a command that reads the set of its key, where the column need not change for it.
+/// The reply to a command that reads the set of its key, where the column need not change for it. Where many rows may
+/// not be read, it is none too for a window that `answer_from` would let be listed by few.
 pub fn ready_from<H: BuildHasher, A: Allocator + Copy>(
     alloc: A,
     members: &MemberMap<H, A>,
     column: &Column<A>,
     command: &Command<A>,
+    may_read_many: bool,
 ) -> Option<Result<Reply<A>, AllocError>>
     requires content { Holds column.now (pairs (members_by current_score members.now.entries)) }
     ensures reply { IfSome result
         (λ answer. IfOk answer (λ reply. step (members_by current_score members.now.entries)
         command.now.meaning ≡ Some (members_by current_score members.now.entries, response_of reply))) }
-    ensures exact { IsSome result ↔ IsReadyFor column.now command.now.meaning }
+    ensures ready { IsSome result → IsReadyFor column.now command.now.meaning }
+    ensures none { IfNone result (IsReadyFor column.now command.now.meaning
+        → (may_read_many ≡ false) × ListsWindow column.now command.now.meaning) }
 {
     let words = command.request().words();
     match command.form() {
@@ -119,6 +93,9 @@ pub fn ready_from<H: BuildHasher, A: Allocator + Copy>(
             limit,
         } => {
             let rows = column.ready(range)?;
+            if !may_read_many && is_wide(column, rows, limit) {
+                return None;
+            }
             Some(list_rows(alloc, column, rows, limit, *with_scores))
         }
         _ => None,

@@ -1,9 +1,9 @@
 //! Windows of a listing: which ranks LIMIT asks for, and the rows that stand there.
-ghost use Rattle.std.specs.Prelude.{◌≡◌, ◌+◌, ◌≤◌, ℕ, ℤ, List, length, take, drop, slice_range, IfOk, IsTrue, OnErr, OnOk};
+ghost use Rattle.std.specs.Prelude.{◌≡◌, ◌+◌, ◌≤◌, ℕ, ℤ, List, length, take, drop, slice_range, IfOk, IsSome, IsTrue, OnErr, OnOk};
 ghost use Rattle.std.specs.List.Sorted.{IsNonDecreasingBy, IsSorted};
 ghost use Rattle.ripple_column.specs.Content.{IsUnchanged, SameContent};
-ghost use Rattle.ripple_column.specs.RangeAnswer.{HasAnswer};
-ghost use Rattle.zset_core.specs.CommandEffectsOnColumn.{Narrows};
+ghost use Rattle.ripple_column.specs.RangeAnswer.{HoldsRange, IsAnswer};
+ghost use Rattle.zset_core.specs.CommandEffectsOnColumn.{SelectsListed};
 ghost use Rattle.zset_core.specs.SortedSet.{Pair};
 ghost use Rattle.zset_core.specs.Semantics.{from_offset, at_most, apply_limit};
 ghost use Rattle.zset_core.specs.BorrowedListingPairs.{pairs_of, shown_cmp};
@@ -49,41 +49,43 @@ pub fn ranks_of(limit: &Option<Limit>, len: usize) -> (usize, usize)
     }
 }
 
-/// Makes a column ready for a range, and the pieces short around the window that LIMIT asks for in it:
-/// to list that window then reads few rows.
-pub fn narrow_window<A: Allocator + Copy>(
+/// Where the rows of a range stand that is to be listed. With LIMIT the pieces around the window that it asks for are
+/// made short: to list that window then reads few rows.
+pub fn select_listed<A: Allocator + Copy>(
     column: &mut Column<A>,
     range: &Range,
     limit: &Option<Limit>,
-) -> Result<(), AllocError>
+) -> Result<(usize, usize), AllocError>
     ensures content { SameContent column.old column.new }
-    ensures narrows { OnOk result (Narrows range.now column.old column.new) }
+    ensures answer { IfOk result (λ answer. IsAnswer column.new range.now answer) }
+    ensures rows { IfOk result (λ answer. HoldsRange column.new range.now answer) }
+    ensures listed { OnOk result (SelectsListed limit.now range.now column.old column.new) }
     ensures refused { OnErr result (IsUnchanged column.old column.new) }
 {
     let (from, to) = column.select(range)?;
-    if from < to {
+    if limit.is_some() && from < to {
         let (start, end) = ranks_of(limit, to - from);
-        column.narrow(range, from + start, from + end);
+        column.narrow(from + start, from + end);
     }
-    Ok(())
+    Ok((from, to))
 }
 
-/// Whether a column is ready for a range, and the pieces around the window that LIMIT asks for in it are
-/// longer than `narrow_window` would leave them.
-pub fn is_wide_window<A: Allocator + Copy>(
+/// Whether the pieces around the window that LIMIT asks for among the rows at these places are longer than
+/// `select_listed` would leave them.
+pub fn is_wide<A: Allocator + Copy>(
     column: &Column<A>,
-    range: &Range,
+    rows: (usize, usize),
     limit: &Option<Limit>,
 ) -> bool
-    ensures { IsTrue result → HasAnswer column.now range.now }
+    requires { rows.0 ≤ rows.1 }
+    ensures { IsTrue result → IsSome limit.now }
 {
-    match column.ready(range) {
-        Some((from, to)) if from < to => {
-            let (start, end) = ranks_of(limit, to - from);
-            column.is_wide(from + start, from + end)
-        }
-        _ => false,
+    let (from, to) = rows;
+    if limit.is_none() {
+        return false;
     }
+    let (start, end) = ranks_of(limit, to - from);
+    column.is_wide(from + start, from + end)
 }
 
 /// The greatest place of a pivot that is at most `first`, or `from` where no such place is greater.

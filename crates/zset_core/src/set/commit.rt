@@ -1,9 +1,9 @@
 //! What becomes of a plan: it is committed or discarded.
 ghost use Rattle.std.specs.Prelude.{◌≡◌, None, IfSome, length, take};
 ghost use Rattle.ripple_column.specs.Content.{Holds};
-ghost use Rattle.zset_core.specs.CommandEffectsOnColumn.{TakesOut};
+ghost use Rattle.ripple_column.specs.RangeEffects.{TakesOut};
 ghost use Rattle.zset_core.specs.MembersWithStagedScores.{current_score, staged_score, rows_by, members_by, names_at, IsSettled, IsWaiting, IsWithin};
-ghost use Rattle.zset_core.specs.Plan.{left_by, without_given};
+ghost use Rattle.zset_core.specs.Plan.{left_by, range_of, without_given};
 ghost use Rattle.zset_core.specs.RowEdits.{TurnsInto};
 ghost use Rattle.zset_core.specs.Semantics.{remove_all};
 ghost use Rattle.zset_core.specs.SetViewAndInvariant.{IsReadyForPlan};
@@ -41,13 +41,13 @@ fn change_column<H: BuildHasher, A: Allocator + Copy>(
     requires removed { IsWithin (length members.old.entries) plan.removed.keys }
     requires turns { TurnsInto column.old (members_by current_score members.old.entries) plan.draft.edits }
     ensures members { members_by current_score members.new.entries
-        ≡ without_given plan.range (remove_all (members_by current_score members.old.entries)
+        ≡ without_given (range_of plan) (remove_all (members_by current_score members.old.entries)
         (names_at members.old.entries plan.removed.keys)) }
     ensures settled { IsSettled members.new.entries }
     ensures content { Holds column.new (pairs (members_by current_score members.new.entries)) }
     ensures rows { plan.range ≡ None → column.new.rows ≡ column.old.rows }
     ensures pivots { plan.range ≡ None → column.new.pivots ≡ column.old.pivots }
-    ensures range { IfSome plan.range (λ range. TakesOut range column.old column.new) }
+    ensures range { IfSome plan.range (λ leaving. TakesOut leaving.range column.old column.new) }
     ensures reply { result ≡ plan.reply }
 {
     let draft = plan.draft;
@@ -59,7 +59,7 @@ fn change_column<H: BuildHasher, A: Allocator + Copy>(
             remove_members(members, column, removed);
             column.give_back_room();
         }
-        Some(range) => remove_range(members, column, &range),
+        Some(leaving) => remove_range(members, column, leaving),
     }
     plan.reply
 }
@@ -79,7 +79,7 @@ pub fn apply_plan<H: BuildHasher, A: Allocator + Copy>(
     ensures content { Holds column.new (pairs (left_by members.old.entries plan)) }
     ensures rows { plan.range ≡ None → column.new.rows ≡ column.old.rows }
     ensures pivots { plan.range ≡ None → column.new.pivots ≡ column.old.pivots }
-    ensures range { IfSome plan.range (λ range. TakesOut range column.old column.new) }
+    ensures range { IfSome plan.range (λ leaving. TakesOut leaving.range column.old column.new) }
     ensures reply { result ≡ plan.reply }
 {
     adopt_staged(members, plan.draft.touched.as_slice());

@@ -2,7 +2,8 @@
 ghost use Rattle.std.specs.Prelude.{◌≡◌, ◌+◌, ◌-◌, ◌<◌, ◌≤◌, ◌∷◌, [], true, max, length, take, pos, IfOk, IfErr, IfSome, None, OnOk, OnErr, IsTrue};
 ghost use Rattle.std.specs.FinMap as map;
 ghost use Rattle.resp_wire.specs.Response.{Integer, response_of};
-ghost use Rattle.zset_core.specs.CommandEffectsOnColumn.{Selects, changes_named, edit_count, increase_edits};
+ghost use Rattle.ripple_column.specs.RangeEffects.{Selects};
+ghost use Rattle.zset_core.specs.CommandEffectsOnColumn.{changes_named, edit_count, increase_edits};
 ghost use Rattle.zset_core.specs.Semantics.{counted, outcome_of, put_one, put_all, count_all, remove_all, increase_reply, increase, step};
 ghost use Rattle.zset_core.specs.AbstractCommand.{is_writing, range_to_remove};
 ghost use Rattle.zset_core.specs.ParsedArguments.{given_pairs};
@@ -12,7 +13,7 @@ ghost use Rattle.zset_core.specs.RowEdits.{most_edits};
 ghost use Rattle.zset_core.specs.MembersWithStagedScores.{current_score, staged_score, rows_by, members_by, IsSettled, IsBack, IsWaiting, Grows};
 ghost use Rattle.zset_core.specs.SortedSet.{names_of, pairs};
 ghost use Rattle.zset_core.specs.ChangeEffect.{names_in};
-ghost use Rattle.zset_core.specs.Plan.{NeedsAtMost, Prepares, Plans, Moves, MovesTo, IsCounted, moved_places, rows_coming, rows_leaving};
+ghost use Rattle.zset_core.specs.Plan.{NeedsAtMost, Prepares, Plans, Moves, MovesTo, IsCounted, moved_places, range_of, rows_coming, rows_leaving};
 ghost use Rattle.zset_core.specs.SetViewAndInvariant.{HasRoom, IsReadyForPlan};
 ghost use Rattle.zset_core.specs.Refusal.{IsRefused};
 
@@ -34,14 +35,22 @@ use std::alloc::{AllocError, Allocator};
 use std::collections::BTreeSet;
 use std::hash::BuildHasher;
 
+/// A range whose members leave. The column's rows tell which these are: from the first place on and before the second.
+#[derive(Clone, Copy)]
+pub struct LeavingRange {
+    pub range: Range,
+    pub from: usize,
+    pub to: usize,
+}
+
 /// What a commit does to the entries of a set.
 #[derive(Drop)]
 pub struct Plan<A: Allocator + Copy> {
     pub draft: Draft<A>,
     /// The places of the members that leave by their names.
     pub removed: BTreeSet<usize, A>,
-    /// The range whose members leave, if it is one: the column's rows tell which these are.
-    pub range: Option<Range>,
+    /// The range whose members leave, if it is one.
+    pub range: Option<LeavingRange>,
     pub reply: Reply<A>,
     pub outline: Outline,
 }
@@ -320,7 +329,7 @@ pub fn make_plan<H: BuildHasher, A: Allocator + Copy>(
     ensures ok { IfOk result (λ plan. Plans members.old.entries members.new.entries plan
         (step (members_by current_score members.old.entries) command.now.meaning)) }
     ensures ready { IfOk result (λ plan. IsReadyForPlan column.new plan) }
-    ensures range { IfOk result (λ plan. plan.range ≡ range_to_remove command.now.meaning) }
+    ensures range { IfOk result (λ plan. range_of plan ≡ range_to_remove command.now.meaning) }
     ensures moved { IfOk result (λ plan. Moves members.old.entries members.new.entries plan
         (names_in command.now.meaning)
         (step (members_by current_score members.old.entries) command.now.meaning)) }

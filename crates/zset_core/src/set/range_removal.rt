@@ -1,21 +1,21 @@
 //! The removal of a range: planned, and made once it is committed. No member is named or copied on the
 //! way: the column's rows in the range tell which leave.
-ghost use Rattle.std.specs.Prelude.{◌≡◌, [], Some, pos, length, IfOk, OnOk, OnErr};
+ghost use Rattle.std.specs.Prelude.{◌≡◌, [], Some, pos, length, IfOk, IfSome, OnOk, OnErr};
 ghost use Rattle.resp_wire.specs.Response.{Integer};
 ghost use Rattle.score_bounds.specs.Bounds.{is_in};
 ghost use Rattle.ripple_column.specs.Content.{Holds, IsUnchanged, SameContent};
-ghost use Rattle.ripple_column.specs.RangeAnswer.{HasAnswer};
-ghost use Rattle.zset_core.specs.CommandEffectsOnColumn.{Selects, TakesOut};
+ghost use Rattle.ripple_column.specs.RangeEffects.{Selects, TakesOut};
 ghost use Rattle.zset_core.specs.MembersWithStagedScores.{current_score, members_by, IsSettled};
-ghost use Rattle.zset_core.specs.Plan.{IsCounted, NeedsAtMost, Prepares, moved_places};
+ghost use Rattle.zset_core.specs.Plan.{IsCounted, NeedsAtMost, Prepares, moved_places, range_of};
 ghost use Rattle.zset_core.specs.Semantics.{without_range};
+ghost use Rattle.zset_core.specs.SetViewAndInvariant.{StandsIn};
 ghost use Rattle.zset_core.specs.SortedSet.{listing, pairs};
 
 use crate::score_and_count_replies::count_reply;
 use crate::set::change_outline::Outline;
 use crate::set::draft::Draft;
 use crate::set::members_with_staged_scores::{MemberMap, take_out_rows};
-use crate::set::plan::Plan;
+use crate::set::plan::{LeavingRange, Plan};
 use ripple_column::Column;
 use score_bounds::Range;
 use std::alloc::{AllocError, Allocator};
@@ -35,11 +35,11 @@ pub fn plan_range<H: BuildHasher, A: Allocator + Copy>(
     ensures ok { IfOk result (λ plan. Prepares members.now.entries members.now.entries plan
         (without_range range.now (members_by current_score members.now.entries))
         (Integer (pos (length (listing (is_in range.now) (members_by current_score members.now.entries)))))) }
-    ensures range { IfOk result (λ plan. plan.range ≡ Some range.now) }
+    ensures range { IfOk result (λ plan. range_of plan ≡ Some range.now) }
     ensures counted { IfOk result (λ plan. IsCounted plan.draft members.now.entries) }
     ensures moved { IfOk result (λ plan. moved_places plan.draft ≡ []) }
     ensures alone { IfOk result (λ plan. NeedsAtMost 0 plan) }
-    ensures answer { OnOk result (HasAnswer column.new range.now) }
+    ensures answer { IfOk result (λ plan. IfSome plan.range (StandsIn column.new)) }
     ensures content { SameContent column.old column.new }
     ensures selected { OnOk result (Selects range.now column.old column.new) }
     ensures refused { OnErr result (IsUnchanged column.old column.new) }
@@ -49,7 +49,11 @@ pub fn plan_range<H: BuildHasher, A: Allocator + Copy>(
     Ok(Plan {
         draft: Draft::new(alloc, members.len()),
         removed: BTreeSet::new(alloc),
-        range: Some(*range),
+        range: Some(LeavingRange {
+            range: *range,
+            from,
+            to,
+        }),
         reply: count_reply(count),
         outline: Outline {
             added: 0,
@@ -63,23 +67,19 @@ pub fn plan_range<H: BuildHasher, A: Allocator + Copy>(
 pub fn remove_range<H: BuildHasher, A: Allocator + Copy>(
     members: &mut MemberMap<H, A>,
     column: &mut Column<A>,
-    range: &Range,
+    leaving: LeavingRange,
 )
     requires settled { IsSettled members.old.entries }
     requires content { Holds column.old (pairs (members_by current_score members.old.entries)) }
-    requires ready { HasAnswer column.old range.now }
+    requires stands { StandsIn column.old leaving }
     ensures members { members_by current_score members.new.entries
-        ≡ without_range range.now (members_by current_score members.old.entries) }
+        ≡ without_range leaving.range (members_by current_score members.old.entries) }
     ensures settled { IsSettled members.new.entries }
     ensures content { Holds column.new
-        (pairs (without_range range.now (members_by current_score members.old.entries))) }
-    ensures column { TakesOut range.now column.old column.new }
+        (pairs (without_range leaving.range (members_by current_score members.old.entries))) }
+    ensures column { TakesOut leaving.range column.old column.new }
 {
-    match column.ready(range) {
-        None => unreachable!(),
-        Some((from, to)) => {
-            take_out_rows(members, column.rows(from, to));
-            column.remove_rows(range);
-        }
-    }
+    let LeavingRange { range: _, from, to } = leaving;
+    take_out_rows(members, column.rows(from, to));
+    column.remove_rows(from, to);
 }

@@ -1,4 +1,4 @@
-use Rattle.std.proofs.Common.{◌≡◌, ℕ, pos, length, get_or, arith}
+use Rattle.std.proofs.Common.{◌≡◌, pos, length, get_or, arith}
 use Rattle.ripple_column.proofs.Gaps.{HasGap-empty}
 use Rattle.ripple_column.proofs.range_removal.gap_to_carry.Goals as goal
 

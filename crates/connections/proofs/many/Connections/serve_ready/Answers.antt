@@ -16,8 +16,12 @@ loop-place-init g c =
     }
 
 pub loop-place-preserved : goal.loop-place-preserved
-loop-place-preserved g c = record {
-  settled = c.serve.ensures.settled;
-  moves = moves-trans g.E.Exec.allows _ _ _ c.loop-place.invariant.moves c.serve.ensures.moves;
-  goes_on = all_go_on_trans g.E.Exec.allows _ _ _ _ _ _ c.loop-place.invariant.goes_on c.serve.ensures.goes_on;
-}
+loop-place-preserved g c =
+    let allows = g.E.Exec.allows in
+    let before = c.loop-place.invariant in
+    let woken = rw c.wait.ensures.same at c.serve_woken.ensures.goes_on in
+    record {
+      settled = c.serve.ensures.settled;
+      moves = moves-trans allows _ _ _ (moves-trans allows _ _ _ before.moves c.serve_woken.ensures.moves) c.serve.ensures.moves;
+      goes_on = all_go_on_trans allows _ _ _ _ _ _ (all_go_on_trans allows _ _ _ _ _ _ before.goes_on woken) c.serve.ensures.goes_on;
+    }

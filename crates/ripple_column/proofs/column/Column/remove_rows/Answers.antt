@@ -1,10 +1,20 @@
-use Rattle.std.proofs.Common.{◌≡◌, ◌∙◌, ℕ, Some, sym, subst, refl, ap}
+use Rattle.std.proofs.Common.{ℕ, sym, subst, refl}
+use Rattle.score_bounds.specs.declared.bounds.Range.{Range}
 use Rattle.ripple_column.specs.Content.{ColumnState}
-use Rattle.ripple_column.specs.ColumnViewAndInvariant.{state}
+use Rattle.ripple_column.specs.ColumnViewAndInvariant.{ColumnViewAndInvariant, state}
 use Rattle.ripple_column.specs.RangeAnswer.{HoldsRange, IsAnswer}
+use Rattle.ripple_column.specs.RangeEffects.{TakesOut}
+use Rattle.ripple_column.specs.declared.column.Column.TheInside.{Inside}
+use Rattle.ripple_column.proofs.InnerPivots.{among_found}
 use Rattle.ripple_column.proofs.Merged.{IsScored-less}
 use Rattle.ripple_column.proofs.Removal.{IsAnswer-closed_up, IsClosedUp, content_closed_up, none_closed_up, part_closed_up, rows_closed_up}
+use Rattle.ripple_column.proofs.Selection.{CutsPart-any, HoldsRange-answer, IsAnswer-one}
 use Rattle.ripple_column.proofs.column.Column.remove_rows.Goals as goal
+
+-- the rows between the places of an answer are those of its range
+holds : {A : Type 0} (inside : Inside A) (range : Range) (a : ℕ × ℕ) → ColumnViewAndInvariant (state inside) → IsAnswer (state inside) range a → HoldsRange (state inside) range a
+holds inside range a inv is =
+    HoldsRange-answer (state inside) inside.pieces.cracked.pivots.list range a (CutsPart-any range) (among_found _ _ inside.pieces.among) inside.pieces.cracked.law inv.scored_rows inv.scored_insertions is
 
 -- the column before and after
 abbrev before : (g : _) (c : goal.After-remove_between g) → ColumnState
@@ -13,7 +23,10 @@ before g c = state {A = g.row.A.Denot} c.self.inside
 abbrev after : (g : _) (c : goal.After-remove_between g) → ColumnState
 after g c = state {A = g.row.A.Denot} (record { pieces = c.remove_between.new.pieces; pending = c.self.inside.pending })
 
-gone : (g : _) (c : goal.After-remove_between g) → IsClosedUp (before g c) (after g c) (c.in-Some.from, c.in-Some.to)
+abbrev places : (g : _) (c : goal.After-remove_between g) → ℕ × ℕ
+places g c = (c.args.from, c.args.to)
+
+gone : (g : _) (c : goal.After-remove_between g) → IsClosedUp (before g c) (after g c) (places g c)
 gone g c = record {
   rows = c.remove_between.ensures.rows;
   pivots = c.remove_between.ensures.shown;
@@ -21,35 +34,62 @@ gone g c = record {
   deletions = refl;
 }
 
-answered : (g : _) (c : goal.After-remove_between g) → IsAnswer (before g c) c.args.range.now (c.in-Some.from, c.in-Some.to)
-answered g c = subst (λ (v : ColumnState). IsAnswer v c.args.range.now (c.in-Some.from, c.in-Some.to)) (sym c.self.view_is) c.in-Some.ensures.answer
+answered : (g : _) (c : goal.After-remove_between g) (range : Range) → IsAnswer c.args.self.now range (places g c) → IsAnswer (before g c) range (places g c)
+answered g c range is = subst (λ (v : ColumnState). IsAnswer v range (places g c)) (sym c.self.view_is) is
 
-held : (g : _) (c : goal.After-remove_between g) → HoldsRange (before g c) c.args.range.now (c.in-Some.from, c.in-Some.to)
-held g c = subst (λ (v : ColumnState). HoldsRange v c.args.range.now (c.in-Some.from, c.in-Some.to)) (sym c.self.view_is) c.in-Some.ensures.rows
+held : (g : _) (c : goal.After-remove_between g) (range : Range) → IsAnswer c.args.self.now range (places g c) → HoldsRange (before g c) range (places g c)
+held g c range is = holds c.self.inside range (places g c) c.self.invariant (answered g c range is)
 
 pub invariant_of-self : goal.invariant_of-self
 invariant_of-self g c =
     let inv = c.self.invariant in
     let old = c.self.inside in
+    let range = c.requires.answer.0 in
+    let is = c.requires.answer.1 in
     record {
-      part = part_closed_up (before g c) (after g c) c.args.range.now (c.in-Some.from, c.in-Some.to) (gone g c) (held g c) inv.part (answered g c);
-      scored_rows = IsScored-less c.remove_between.new.pieces.cracked.rows.items old.pieces.cracked.rows.items (rows_closed_up (before g c) (after g c) c.args.range.now (c.in-Some.from, c.in-Some.to) (gone g c) (held g c)) inv.scored_rows;
+      part = part_closed_up (before g c) (after g c) range (places g c) (gone g c) (held g c range is) inv.part (answered g c range is);
+      scored_rows = IsScored-less c.remove_between.new.pieces.cracked.rows.items old.pieces.cracked.rows.items (rows_closed_up (before g c) (after g c) range (places g c) (gone g c) (held g c range is)) inv.scored_rows;
       scored_insertions = inv.scored_insertions;
       few_insertions = inv.few_insertions;
       few_deletions = inv.few_deletions;
     }
 
-pub returns-in-Some-clause-content : goal.returns-in-Some-clause-content
-returns-in-Some-clause-content g c p =
-    rw (← c.self.view_is) (content_closed_up (before g c) (after g c) c.args.range.now (c.in-Some.from, c.in-Some.to) (gone g c) (held g c) c.self.invariant.part p)
+pub returns-clause-content : goal.returns-clause-content
+returns-clause-content g c range is p =
+    rw (← c.self.view_is) (content_closed_up (before g c) (after g c) range (places g c) (gone g c) (held g c range is) c.self.invariant.part p)
 
-pub returns-in-Some-clause-none_left : goal.returns-in-Some-clause-none_left
-returns-in-Some-clause-none_left g c p =
-    none_closed_up (before g c) (after g c) c.args.range.now (c.in-Some.from, c.in-Some.to) (gone g c) (held g c) c.self.invariant.part p
+pub returns-clause-none_left : goal.returns-clause-none_left
+returns-clause-none_left g c range is p =
+    none_closed_up (before g c) (after g c) range (places g c) (gone g c) (held g c range is) c.self.invariant.part p
 
-pub returns-in-Some-clause-answer : goal.returns-in-Some-clause-answer
-returns-in-Some-clause-answer g c answer is =
-    let found : Some (c.in-Some.from, c.in-Some.to) ≡ Some answer = sym c.in-Some.is ∙ c.ready.ensures.exact answer is in
-    let same : (c.in-Some.from, c.in-Some.to) ≡ answer = cc in
-    let first : c.in-Some.from ≡ answer.0 = ap (λ (a : ℕ × ℕ). a.0) same in
-    rw (← first) (IsAnswer-closed_up (before g c) (after g c) c.args.range.now (c.in-Some.from, c.in-Some.to) (gone g c) (held g c) (answered g c))
+pub returns-clause-answer : goal.returns-clause-answer
+returns-clause-answer g c range is =
+    IsAnswer-closed_up (before g c) (after g c) range (places g c) (gone g c) (held g c range is) (answered g c range is)
+
+pub remove_between-requires-clause-order : goal.remove_between-requires-clause-order
+remove_between-requires-clause-order g c =
+    let range = c.requires.answer.0 in
+    let places : ℕ × ℕ = (c.args.from, c.args.to) in
+    (holds c.self.inside range places c.self.invariant (subst (λ (v : ColumnState). IsAnswer v range places) (sym c.self.view_is) c.requires.answer.1)).order
+
+pub remove_between-requires-clause-within : goal.remove_between-requires-clause-within
+remove_between-requires-clause-within g c =
+    let range = c.requires.answer.0 in
+    let places : ℕ × ℕ = (c.args.from, c.args.to) in
+    (holds c.self.inside range places c.self.invariant (subst (λ (v : ColumnState). IsAnswer v range places) (sym c.self.view_is) c.requires.answer.1)).within
+
+pub returns-clause-takes_out : goal.returns-clause-takes_out
+returns-clause-takes_out g c range is =
+    let pieces = c.self.inside.pieces in
+    let one = λ (answer : ℕ × ℕ) (there : IsAnswer (before g c) range answer).
+    IsAnswer-one (before g c) pieces.cracked.pivots.list range answer (places g c) (among_found _ _ pieces.among) pieces.cracked.law.rising there (answered g c range is) in
+    let takes : TakesOut range (before g c) (after g c) = record {
+      ready = (places g c, answered g c range is);
+      rows = λ answer there. rw ((one answer there).0, (one answer there).1) (gone g c).rows;
+      pivots = λ answer there. rw ((one answer there).0, (one answer there).1) (gone g c).pivots;
+      insertions = refl;
+      deletions = refl;
+      spare_insertions = refl;
+      spare_deletions = refl;
+    } in
+    rw (← c.self.view_is) takes

@@ -1,11 +1,11 @@
-use Rattle.std.proofs.Common.{arith}
+use Rattle.std.proofs.Common.{inl, arith}
 use Rattle.ripple_column.specs.Content.{ColumnState}
 use Rattle.ripple_column.specs.ColumnViewAndInvariant.{state}
 use Rattle.ripple_column.proofs.Counts.{length-sub_bag}
 use Rattle.ripple_column.specs.InnerCrackEffects.{shown}
 use Rattle.ripple_column.proofs.InnerPivots.{among_found}
 use Rattle.ripple_column.proofs.Merged.{IsScored-merged}
-use Rattle.ripple_column.proofs.Selection.{CutsPart, IsSettled-selected, IsAnswer-selected, HoldsRange-selected, AddsCuts-selected}
+use Rattle.ripple_column.proofs.Selection.{CutsPart, IsSettled-selected, IsAnswer-selected, HoldsRange-selected, AddsCuts-selected, Selects-selected}
 use Rattle.ripple_column.proofs.column.Column.select.Goals as goal
 
 pub invariant_of-self : goal.invariant_of-self
@@ -52,20 +52,17 @@ returns-clause-rows g c =
     let parts : CutsPart c.args.range.now = rw (cuts.first, cuts.second) at cuts.between in
     HoldsRange-selected c.select_between.result now new.pieces.cracked.pivots.list c.args.range.now parts (among_found _ _ new.pieces.among) new.pieces.cracked.law scored.0 scored.1 (returns-clause-answer g c)
 
-pub returns-clause-waiting_insertions : goal.returns-clause-waiting_insertions
-returns-clause-waiting_insertions g c p = rw (← c.self.view_is) (c.select_between.ensures.waiting.1 p)
-
-pub returns-clause-waiting_deletions : goal.returns-clause-waiting_deletions
-returns-clause-waiting_deletions g c p = rw (← c.self.view_is) (c.select_between.ensures.waiting.0 p)
-
-pub returns-clause-pivots : goal.returns-clause-pivots
-returns-clause-pivots g c =
+pub returns-clause-selects : goal.returns-clause-selects
+returns-clause-selects g c =
     let cuts = c.cuts-first.ensures in
-    let kept = rw (cuts.first, cuts.second) at c.select_between.ensures.values_kept in
-    let cleared = rw (cuts.first, cuts.second) at c.select_between.ensures.values_cleared in
-    rw (← c.self.view_is) (AddsCuts-selected c.select_between.result c.args.range.now (shown c.self.inside.pieces) (shown c.select_between.new.pieces) kept cleared)
-
-pub returns-clause-still : goal.returns-clause-still
-returns-clause-still g c =
-    let cuts = c.cuts-first.ensures in
-    rw (← c.self.view_is) (rw (cuts.first, cuts.second) at c.select_between.ensures.still)
+    let range = c.args.range.now in
+    let e = c.select_between.ensures in
+    let old : ColumnState = state {A = g.row.A.Denot} c.self.inside in
+    let new : ColumnState = state {A = g.row.A.Denot} (record { pieces = c.select_between.new.pieces; pending = c.select_between.new.pending }) in
+    let kept = rw (cuts.first, cuts.second) at e.values_kept in
+    let cleared = rw (cuts.first, cuts.second) at e.values_cleared in
+    let still = rw (cuts.first, cuts.second) at e.still in
+    let same = rw (cuts.first, cuts.second) at e.same in
+    rw (← c.self.view_is) (Selects-selected c.select_between.result old new range e.waiting.1 e.waiting.0
+    (AddsCuts-selected c.select_between.result range (shown c.self.inside.pieces) (shown c.select_between.new.pieces) kept cleared)
+    (λ none. let s = same (inl none) in record { rows = s.rows; pivots = s.pivots; insertions = s.insertions; deletions = s.deletions }) still)

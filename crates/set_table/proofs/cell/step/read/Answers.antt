@@ -4,4 +4,4 @@ use Rattle.set_table.proofs.cell.step.read.Goals as goal
 
 pub returns-clause-ok : goal.returns-clause-ok
 returns-clause-ok g c = read_step c.args.set.now.members c.args.command.now (response_of c.in_ok-reply.reply) c.none.result c.none.ensures
-    (rw c.narrow.ensures.members at c.in_ok-reply.ensures.reply)
+    c.in_ok-reply.ensures.reply

@@ -15,8 +15,8 @@ returns-in_ok-rows-in-Count-clause-reply g c =
     count_reply m c.args.command.now.meaning (word_at words 1) range (response_of c.count_rows.result)
     (c.form.ensures.meaning ∙ ap (meaning_of words) c.in-Count.is) (c.count_rows.ensures (is_in range) m bag)
 
-pub returns-in_ok-rows-in-ListRange-clause-reply : goal.returns-in_ok-rows-in-ListRange-clause-reply
-returns-in_ok-rows-in-ListRange-clause-reply g c =
+pub returns-else-not-may_read_many-clause-reply : goal.returns-else-not-may_read_many-clause-reply
+returns-else-not-may_read_many-clause-reply g c =
     let m = members_by current_score c.args.members.now.entries in
     let words = c.args.command.now.words in
     let range = c.in-ListRange.range in

@@ -3,7 +3,7 @@ use Rattle.std.specs.FinMap as fin
 use Rattle.zset_core.specs.SortedSet.{Members, pairs}
 use Rattle.zset_core.specs.Semantics.{remove_all}
 use Rattle.zset_core.specs.MembersWithStagedScores.{Entry, IsSettled, current_score, staged_score, rows_by, members_by, names_at}
-use Rattle.zset_core.specs.Plan.{without_given}
+use Rattle.zset_core.specs.Plan.{range_of, without_given}
 use Rattle.zset_core.specs.RowEdits.{TurnsInto}
 use Rattle.zset_core.proofs.MemberRemoval.{names_same}
 use Rattle.zset_core.proofs.Staging.{members_same}
@@ -26,10 +26,10 @@ change_column-requires-clause-turns g c =
 pub returns-clause-members : goal.returns-clause-members
 returns-clause-members g c =
     c.change_column.ensures.members
-    ∙ ap (without_given c.args.plan.range) (without c.args.members.now.entries c.adopt_staged.new.members.entries c.args.plan.removed.keys c.adopt_staged.ensures.staged c.adopt_staged.ensures.settled)
+    ∙ ap (without_given (range_of c.args.plan)) (without c.args.members.now.entries c.adopt_staged.new.members.entries c.args.plan.removed.keys c.adopt_staged.ensures.staged c.adopt_staged.ensures.settled)
 
 pub returns-clause-content : goal.returns-clause-content
 returns-clause-content g c =
     let left = c.change_column.ensures.members
-    ∙ ap (without_given c.args.plan.range) (without c.args.members.now.entries c.adopt_staged.new.members.entries c.args.plan.removed.keys c.adopt_staged.ensures.staged c.adopt_staged.ensures.settled) in
+    ∙ ap (without_given (range_of c.args.plan)) (without c.args.members.now.entries c.adopt_staged.new.members.entries c.args.plan.removed.keys c.adopt_staged.ensures.staged c.adopt_staged.ensures.settled) in
     λ p. c.change_column.ensures.content p ∙ ap (λ (m : Members). count_by p (pairs m)) left

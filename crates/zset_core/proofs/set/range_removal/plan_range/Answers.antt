@@ -41,20 +41,6 @@ returns-clause-ok g c =
 pub returns-clause-alone : goal.returns-clause-alone
 returns-clause-alone g c = NeedsAtMost-removed 0 _ c.new.ensures.coming c.new.ensures.leaving (omega (arith, ap length c.new-2.ensures.empty))
 
-pub returns-clause-answer : goal.returns-clause-answer
-returns-clause-answer g c = ((c.in_ok-from.from, c.in_ok-from.to), c.in_ok-from.ensures.answer)
-
-pub returns-clause-selected : goal.returns-clause-selected
-returns-clause-selected g c =
-    let selected = c.in_ok-from.ensures in
-    record {
-      waiting_insertions = selected.waiting_insertions;
-      waiting_deletions = selected.waiting_deletions;
-      pivots = selected.pivots;
-      empty = λ none. (selected.empty none).0;
-      still = selected.still;
-    }
-
 pub returns-clause-counted : goal.returns-clause-counted
 returns-clause-counted g c = IsCounted-none c.new.result c.args.members.now.entries (c.new.ensures.kept ∙ c.len.ensures.len) c.new.ensures.leading c.new.ensures.moved
 

@@ -7,16 +7,23 @@ use Rattle.zset_core.proofs.RangeRows.{SameBag-range}
 use Rattle.zset_core.proofs.RangeRemoval.{Holds-left, removed_rows}
 use Rattle.zset_core.proofs.set.range_removal.remove_range.Goals as goal
 
+pub remove_rows-requires : goal.remove_rows-requires
+remove_rows-requires g c = record { answer = (c.args.leaving.range, c.requires.stands.answer) }
+
 pub returns-clause-members : goal.returns-clause-members
 returns-clause-members g c =
     let m = members_by current_score c.args.members.now.entries in
-    let range = c.args.range.now in
+    let leaving = c.args.leaving in
     let old = c.args.column.now in
-    let places : ℕ × ℕ = (c.in-Some.from, c.in-Some.to) in
-    let bag = SameBag-range old m range places c.requires.content c.in-Some.ensures.rows in
+    let places : ℕ × ℕ = (leaving.from, leaving.to) in
+    let bag = SameBag-range old m leaving.range places c.requires.content c.requires.stands.rows in
     c.take_out_rows.ensures.members ∙ ap (λ (l : List Pair). remove_all m (names_of l)) c.rows.ensures
-    ∙ removed_rows range m (slice_range old.rows c.in-Some.from c.in-Some.to) bag
+    ∙ removed_rows leaving.range m (slice_range old.rows leaving.from leaving.to) bag
 
 pub returns-clause-content : goal.returns-clause-content
 returns-clause-content g c =
-    Holds-left c.args.column.now c.remove_rows.new.self (members_by current_score c.args.members.now.entries) c.args.range.now c.requires.content c.remove_rows.ensures.content
+    let range = c.args.leaving.range in
+    Holds-left c.args.column.now c.remove_rows.new.self (members_by current_score c.args.members.now.entries) range c.requires.content (c.remove_rows.ensures.content range c.requires.stands.answer)
+
+pub returns-clause-column : goal.returns-clause-column
+returns-clause-column g c = c.remove_rows.ensures.takes_out c.args.leaving.range c.requires.stands.answer

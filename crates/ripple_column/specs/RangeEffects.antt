@@ -1,0 +1,39 @@
+-- What the calls that have to do with ranges do to a column.
+use Rattle.std.specs.Prelude.{◌≡◌, ◌≤◌, ℕ, true, false, IsPermutation}
+use Rattle.score_bounds.specs.declared.bounds.Range.{Range}
+use Rattle.crack_kernel.specs.PivotList.{max_pivots}
+use Rattle.crack_kernel.specs.RowBag.{SameBag}
+use Rattle.ripple_column.specs.ClosedUp.{closed_up_pivots, closed_up_rows}
+use Rattle.ripple_column.specs.Content.{ColumnState, IsUnchanged, NoneIn, SameOutside}
+use Rattle.ripple_column.specs.CutPivots.{is_before}
+use Rattle.ripple_column.specs.RangeAnswer.{AddsCuts, HasAnswer, IsAnswer, StandsStill, low_cut, high_cut, pivots_with_cuts}
+
+-- a range was asked for: what waits outside it goes on waiting, and its cuts are pivots beside those that were, or alone where
+-- there would be too many; a range that is empty by its cuts changes nothing
+pub record Selects (range : Range) (old new : ColumnState) : Type 0 where
+  pub waiting_insertions : SameOutside range old.insertions new.insertions
+  pub waiting_deletions : SameOutside range old.deletions new.deletions
+  pub pivots : is_before (low_cut range) (high_cut range) ≡ true → AddsCuts range old.pivots new.pivots
+  pub empty : is_before (low_cut range) (high_cut range) ≡ false → IsUnchanged old new
+  -- with nothing to merge and no pivot dropped, a row moves only within a piece that is cracked
+  pub still : pivots_with_cuts range old.pivots ≤ max_pivots → NoneIn range old.insertions → NoneIn range old.deletions → StandsStill range old new
+
+-- the rows of a range leave a column that has its answer for it: the rows behind them and the pivots close up, and what waits
+-- goes on waiting
+pub record TakesOut (range : Range) (old new : ColumnState) : Type 0 where
+  pub ready : HasAnswer old range
+  pub rows : (answer : ℕ × ℕ) → IsAnswer old range answer → SameBag new.rows (closed_up_rows answer.0 answer.1 old.rows)
+  pub pivots : (answer : ℕ × ℕ) → IsAnswer old range answer → new.pivots ≡ closed_up_pivots answer.0 answer.1 old.pivots
+  pub insertions : new.insertions ≡ old.insertions
+  pub deletions : new.deletions ≡ old.deletions
+  pub spare_insertions : new.insert_spare ≡ old.insert_spare
+  pub spare_deletions : new.delete_spare ≡ old.delete_spare
+
+-- pieces are cracked further: rows move between the pivots that are shown, and all else is what it was
+pub record Narrows (old new : ColumnState) : Type 0 where
+  pub rows : IsPermutation old.rows new.rows
+  pub pivots : new.pivots ≡ old.pivots
+  pub insertions : new.insertions ≡ old.insertions
+  pub deletions : new.deletions ≡ old.deletions
+  pub spare_insertions : new.insert_spare ≡ old.insert_spare
+  pub spare_deletions : new.delete_spare ≡ old.delete_spare
