@@ -2,8 +2,9 @@
 //! among those of the prefixes of the changes that were sent: `crash_test PROGRAM FILE ROUNDS SEED`.
 //!
 //! In even rounds the changes are pipelined: the prefix has to hold each change whose reply came. In odd rounds
-//! one change is under way at a time: it holds at most one more. In every third round the records are long, so
-//! that some are cut apart. Five rounds in turn go on with one file.
+//! one change is under way at a time: it holds at most one more. Of each four rounds two sync each change alone, and
+//! two many together. In every third round the records are long, so that some are cut apart. Five rounds in turn go on
+//! with one file.
 #[path = "../bench/client.rs"]
 #[allow(dead_code)]
 mod client;
@@ -171,7 +172,7 @@ fn main() -> io::Result<()> {
     let given: Vec<String> = std::env::args().collect();
     let (program, file) = (&given[1], &given[2]);
     let (rounds, seed) = (given[3].parse::<u64>().unwrap(), given[4].parse().unwrap());
-    let arguments = ["stdio".to_string(), "--file".to_string(), file.clone()];
+    let arguments = ["stdio", "--file", file, "--sync"].map(str::to_string);
     let mut random = Random(seed);
     let mut world = World::new();
     let (mut acknowledged, mut kept_more, mut torn_ends) = (0, 0, 0);
@@ -183,8 +184,10 @@ fn main() -> io::Result<()> {
         }
         let sent = changes(&mut random, &world, round);
         let after = Duration::from_micros(1_000 + random.below(100_000));
-        let server = Server::start(program, &arguments)?;
         let pipelined = round % 2 == 0;
+        let mode = if round / 2 % 2 == 0 { "each" } else { "group" };
+        let arguments = [&arguments[..], &[mode.to_string()]].concat();
+        let server = Server::start(program, &arguments)?;
         let answered =
             if pipelined { crash_pipelined(server, &sent, after) } else { crash_in_turn(server, &sent, after) };
         let (found, torn) = reopened(program, &arguments)?;

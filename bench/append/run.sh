@@ -2,7 +2,7 @@
 # The append file beside Redis's on one disk, in turns, with the same changes: changes a second that are on the
 # device before they are answered, one under way at a time and pipelined, the reload of 1,000,000 changes in
 # milliseconds, and the bytes of a file of counters and best scores. Pipelined, Redis syncs once for all changes that it
-# read at once, `zcrackd stdio` once for each. Prints medians and their ratio (zcrackd to Redis), and how long a file of
+# read at once, and so does `zcrackd stdio` with `--sync group`; without that it syncs once for each. Prints medians and their ratio (zcrackd to Redis), and how long a file of
 # version 1 takes, which is renewed. Redis is Debian's: apt-get install redis-server. ROUNDS is 5 if not given.
 set -eu
 source "$(dirname "$0")/../common.sh"
@@ -20,12 +20,15 @@ fill_redis() {
     redis-cli -p "$port" --pipe < "$1" > /dev/null
     stop_redis
 }
+# of_a_group: the same lines under other names
+of_a_group() { sed 's/ /_group /'; }
 for round in $(seq "${ROUNDS:-5}"); do
-    rm -rf "$work/ours.append" "$work/redis" && mkdir "$work/redis"
+    rm -rf "$work/ours.append" "$work/grouped.append" "$work/redis" && mkdir "$work/redis"
     "$work/drive" run 2000 20000 stdio "$server" stdio --file "$work/ours.append" >> "$work/ours"
+    "$work/drive" run 2000 20000 stdio "$server" stdio --file "$work/grouped.append" --sync group | of_a_group >> "$work/ours"
     start_logging always
     await_redis "$port"
-    "$work/drive" run 2000 20000 tcp "$port" "$redis" >> "$work/theirs"
+    "$work/drive" run 2000 20000 tcp "$port" "$redis" | tee >(of_a_group >> "$work/theirs") >> "$work/theirs"
     stop_redis
 done
 "$work/drive" changes "${CHANGES:-1000000}" > "$work/changes.append"
@@ -45,5 +48,5 @@ fill_redis "$work/counters"
 "$server" stdio --file "$work/counted.append" < "$work/counters" > /dev/null
 echo "file_of_counters $(stat -c %s "$work/counted.append")" >> "$work/ours"
 echo "file_of_counters $(cat "$work/redis"/appendonlydir/*incr* | wc -c)" >> "$work/theirs"
-ratios in_turn pipelined reload members file_of_counters
+ratios in_turn in_turn_group pipelined pipelined_group reload members file_of_counters
 echo "renewed: $(awk '$1 == "renewed" { print $2 }' "$work/renewed" | median) ms"

@@ -1,4 +1,5 @@
 """Servers that are ended by signals under clients that change sets."""
+import itertools
 import os
 import random
 import signal
@@ -14,6 +15,7 @@ CLIENTS = 4
 SHARED = 3
 # A file is begun anew after so many rounds, so that a late one takes no longer than an early one.
 ROUNDS_OF_A_FILE = 10
+MODES = itertools.cycle(("each", "group"))
 
 
 def changes(chance, members, first):
@@ -120,8 +122,9 @@ def kept_by(keys):
 
 
 def run_and_end(make, number, seconds):
-    """A server is ended by a signal after so many seconds, while each of the clients that `make` makes of it goes on."""
-    with Server("--workers", CLIENTS, "--file", "kept") as server:
+    """A server is ended by a signal after so many seconds, while each of the clients that `make` makes of it goes on. Every
+    second server syncs many changes together."""
+    with Server("--workers", CLIENTS, "--file", "kept", "--sync", next(MODES)) as server:
         clients = make(server)
         for client in clients:
             client.start()

@@ -107,9 +107,9 @@ no_record : (records : List Record) → length records ≡ 0 → records ≡ []
 no_record [] e = refl
 no_record (entry ∷ records) e = absurd (omega (arith, e))
 
-fresh : (log : LogView) (records : List Record) (told : Option (List ℕ)) → IfSome told (λ bytes. Ends bytes records log.synced log.appended log.written log.broken) → log.appended ≡ 0 → IfSome told (λ bytes. Ends bytes [] log.synced log.appended log.written log.broken)
+fresh : (log : LogView) (records : List Record) (told : Option (List ℕ)) → IfSome told (λ bytes. Ends bytes records log.synced log.settled log.appended log.written log.broken) → log.appended ≡ 0 → IfSome told (λ bytes. Ends bytes [] log.synced log.settled log.appended log.written log.broken)
 fresh log records None stand none = tt
-fresh log records (Some bytes) stand none = subst (λ (l : List Record). Ends bytes l log.synced log.appended log.written log.broken) (no_record records (stand.count ∙ none)) stand
+fresh log records (Some bytes) stand none = subst (λ (l : List Record). Ends bytes l log.synced log.settled log.appended log.written log.broken) (no_record records (stand.count ∙ none)) stand
 
 -- a log of no records replays from a world to itself
 pub Replays-fresh : (state : LoggedView) → IsLog state.log → state.log.appended ≡ 0 → Replays state.world state

@@ -110,8 +110,8 @@ module _ (whole : (text : List ℕ) → (text ≡ flat_map encoding_of (items te
         reaches = p.reaches;
       }
 
-  readable : (bytes : List ℕ) (records : List Record) (synced appended written : ℕ) (broken : Bool) → Ends bytes records synced appended written broken → Readable bytes synced appended written
-  readable bytes records synced appended written false s =
+  readable : (bytes : List ℕ) (records : List Record) (synced settled appended written : ℕ) (broken : Bool) → Ends bytes records synced settled appended written broken → Readable bytes synced settled appended written
+  readable bytes records synced settled appended written false s =
       let last = text_of records ++ s.tail in
       let flat : last ≡ text_of records = ap (λ (t : List ℕ). text_of records ++ t) s.rest ∙ append-nil (text_of records) in
       let all : records ++ [] ≡ records = append-nil records in
@@ -126,9 +126,9 @@ module _ (whole : (text : List ℕ) → (text ≡ flat_map encoding_of (items te
         at_most_one = omega arith;
         each = rw all s.each;
         prefixes = λ n le. rw (all, flat) (reads_front records (requests_of records s.each) n (omega (arith, le, s.size, ap length flat)));
-        durable = λ some n reach. omega (arith, reach, s.durable some, length-append s.before (text_of records));
+        durable = λ some n reach. omega (arith, reach, s.durable some, length-append s.before (text_of (take settled records)));
       }
-  readable bytes records synced appended written true s =
+  readable bytes records synced settled appended written true s =
       let last = text_of records ++ s.tail in
       let front = s.rest in
       let all = records ++ front.record_of ∷ [] in
@@ -148,12 +148,12 @@ module _ (whole : (text : List ℕ) → (text ≡ flat_map encoding_of (items te
         at_most_one = omega arith;
         each = each;
         prefixes = λ n le. subst (λ (l : List ℕ). ReadsPrefix l all) (sym (inside n le)) (reads_front all (requests_of all each) n (omega (arith, le, s.size, ap length whole_text, length-append last front.more)));
-        durable = λ some n reach. omega (arith, reach, s.durable some, length-append s.before (text_of records));
+        durable = λ some n reach. omega (arith, reach, s.durable some, length-append s.before (text_of (take settled records)));
       }
 
-  from_told : (told : Option (List ℕ)) (synced appended written : ℕ) (broken : Bool) (records : List Record) → IfSome told (λ bytes. Ends bytes records synced appended written broken) → IfSome told (λ bytes. Readable bytes synced appended written)
-  from_told None synced appended written broken records s = tt
-  from_told (Some bytes) synced appended written broken records s = readable bytes records synced appended written broken s
+  from_told : (told : Option (List ℕ)) (synced settled appended written : ℕ) (broken : Bool) (records : List Record) → IfSome told (λ bytes. Ends bytes records synced settled appended written broken) → IfSome told (λ bytes. Readable bytes synced settled appended written)
+  from_told None synced settled appended written broken records s = tt
+  from_told (Some bytes) synced settled appended written broken records s = readable bytes records synced settled appended written broken s
 
-  pub readable_told : (log : LogView) → IsLog log → IfSome log.told (λ bytes. Readable bytes log.synced log.appended log.written)
-  readable_told log is = from_told log.told log.synced log.appended log.written log.broken is.records is.stands
+  pub readable_told : (log : LogView) → IsLog log → IfSome log.told (λ bytes. Readable bytes log.synced log.settled log.appended log.written)
+  readable_told log is = from_told log.told log.synced log.settled log.appended log.written log.broken is.records is.stands

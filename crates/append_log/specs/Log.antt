@@ -1,5 +1,5 @@
 -- What a log is seen as, and what holds of every log.
-use Rattle.std.specs.Prelude.{◌≡◌, ℕ, ◌+◌, ◌*◌, ◌^◌, ◌<◌, ◌≤◌, Bool, true, false, List, [], ◌∷◌, ◌++◌, length, take, Option, IfSome, Result, Ok, Err}
+use Rattle.std.specs.Prelude.{◌≡◌, ◌≢◌, if◌then◌else◌, ℕ, ◌+◌, ◌*◌, ◌^◌, ◌<◌, ◌≤◌, Bool, true, false, List, [], ◌∷◌, ◌++◌, length, take, Option, IfSome, Result, Ok, Err}
 use Rattle.std.specs.Io.KnownBytes.{append_known}
 use Rattle.append_log.specs.Records.{Record, text_of, AreRecords, IsRecordPrefix, ReadsPrefix}
 
@@ -10,11 +10,15 @@ pub record LogView : Type 0 where
   pub synced : ℕ
   pub calls : ℕ
   pub failures : ℕ
-  -- how many records were appended, how many bytes the sink took for them, how many records may be appended
+  -- how many records were appended, how many of these the last good sync came behind, how many bytes the sink took for them, how
+  -- many records may be appended
   pub appended : ℕ
+  pub settled : ℕ
   pub written : ℕ
   pub limit : ℕ
-  -- whether an append failed
+  -- whether appends leave their records to a later sync
+  pub deferred : Bool
+  -- whether an append or a sync failed
   pub broken : Bool
   -- how many shares it can still give away
   pub parts : ℕ
@@ -25,7 +29,7 @@ IsTail false tail = tail ≡ []
 IsTail true tail = IsRecordPrefix tail
 
 -- the last `written` bytes are the text of these `appended` records, and the tail
-pub record Ends (bytes : List ℕ) (records : List Record) (synced appended written : ℕ) (broken : Bool) : Type 0 where
+pub record Ends (bytes : List ℕ) (records : List Record) (synced settled appended written : ℕ) (broken : Bool) : Type 0 where
   pub before : List ℕ
   pub tail : List ℕ
   pub whole : bytes ≡ before ++ (text_of records ++ tail)
@@ -33,28 +37,38 @@ pub record Ends (bytes : List ℕ) (records : List Record) (synced appended writ
   pub count : length records ≡ appended
   pub size : length (text_of records ++ tail) ≡ written
   pub rest : IsTail broken tail
-  -- the last good sync came behind them
-  pub durable : 0 < appended → length (before ++ text_of records) ≤ synced
+  -- the last good sync came behind those that are settled
+  pub durable : 0 < settled → length (before ++ text_of (take settled records)) ≤ synced
 
 -- a log's sink ends with these records, where it tells its bytes
 abbrev pub HasRecords : LogView → List Record → Type 0
-HasRecords log records = IfSome log.told (λ bytes. Ends bytes records log.synced log.appended log.written log.broken)
+HasRecords log records = IfSome log.told (λ bytes. Ends bytes records log.synced log.settled log.appended log.written log.broken)
 
 -- what holds of every log
 pub record IsLog (log : LogView) : Type 0 where
   pub records : List Record
   pub stands : HasRecords log records
   pub within : log.appended ≤ log.limit
+  pub settled_within : log.settled ≤ log.appended
+  -- where no sync is deferred each append settles its record
+  pub at_once : log.deferred ≡ false → log.settled ≡ log.appended
   pub limited : log.limit ≤ 2 ^ 40
   pub small : log.written ≤ 2 ^ 64 * (log.appended + 1)
   pub small_whole : log.broken ≡ false → log.written ≤ 2 ^ 64 * log.appended
   pub has_part : 0 < log.parts
 
--- bytes were written out and synced
+-- how many records are settled once one more was appended
+abbrev pub settled_with : Bool → ℕ → ℕ → ℕ
+settled_with deferred settled appended = if deferred then settled else appended
+
+-- bytes were written out, and synced unless that is deferred
 pub record Appends (old new : LogView) (bytes : List ℕ) : Type 0 where
   pub told : new.told ≡ append_known old.told bytes
-  pub synced : IfSome new.told (λ all. new.synced ≡ length all)
+  pub synced : old.deferred ≡ false → IfSome new.told (λ all. new.synced ≡ length all)
+  pub unsynced : old.deferred ≡ true → new.synced ≡ old.synced
   pub appended : new.appended ≡ old.appended + 1
+  pub settled : new.settled ≡ settled_with old.deferred old.settled (old.appended + 1)
+  pub deferred : new.deferred ≡ old.deferred
   pub written : new.written ≡ old.written + length bytes
   pub limit : new.limit ≡ old.limit
   pub broken : new.broken ≡ old.broken
@@ -68,7 +82,37 @@ pub record Breaks (old new : LogView) (bytes : List ℕ) : Type 0 where
   pub told : new.told ≡ append_known old.told (take out bytes)
   pub synced : new.synced ≡ old.synced
   pub appended : new.appended ≡ old.appended
+  pub settled : new.settled ≡ old.settled
+  pub deferred : new.deferred ≡ old.deferred
   pub written : new.written ≡ old.written + out
+  pub limit : new.limit ≡ old.limit
+  pub broken : new.broken ≡ true
+  pub parts : new.parts ≡ old.parts
+
+-- all records are settled, by a sync where one was not; no byte was written
+pub record Settles (old new : LogView) : Type 0 where
+  pub told : new.told ≡ old.told
+  pub settled : new.settled ≡ old.appended
+  pub synced : old.settled ≢ old.appended → IfSome new.told (λ all. new.synced ≡ length all)
+  -- where none was waiting the sink was not asked
+  pub unasked : old.settled ≡ old.appended → new ≡ old
+  pub appended : new.appended ≡ old.appended
+  pub written : new.written ≡ old.written
+  pub limit : new.limit ≡ old.limit
+  pub deferred : new.deferred ≡ old.deferred
+  pub broken : new.broken ≡ old.broken
+  pub parts : new.parts ≡ old.parts
+  pub failures : new.failures ≡ old.failures
+
+-- a sync failed: no record that waited is settled, and the log is broken
+pub record Unsettled (old new : LogView) : Type 0 where
+  pub waited : old.settled ≢ old.appended
+  pub told : new.told ≡ old.told
+  pub synced : new.synced ≡ old.synced
+  pub appended : new.appended ≡ old.appended
+  pub settled : new.settled ≡ old.settled
+  pub deferred : new.deferred ≡ old.deferred
+  pub written : new.written ≡ old.written
   pub limit : new.limit ≡ old.limit
   pub broken : new.broken ≡ true
   pub parts : new.parts ≡ old.parts
@@ -85,7 +129,7 @@ records_after records entry (Err _) = records
 
 -- behind `before` stand the bytes that a log wrote. `records` are those that were appended, and `one` is at
 -- most one more
-pub record Readable (bytes : List ℕ) (synced appended written : ℕ) : Type 0 where
+pub record Readable (bytes : List ℕ) (synced settled appended written : ℕ) : Type 0 where
   pub before : List ℕ
   pub last : List ℕ
   pub records : List Record
@@ -96,5 +140,5 @@ pub record Readable (bytes : List ℕ) (synced appended written : ℕ) : Type 0 
   pub at_most_one : length one ≤ 1
   pub each : AreRecords (records ++ one)
   pub prefixes : (n : ℕ) → n ≤ written → ReadsPrefix (take n last) (records ++ one)
-  -- a prefix that reaches the last good sync has all appended records
-  pub durable : 0 < appended → (n : ℕ) → synced ≤ length before + n → length (text_of records) ≤ n
+  -- a prefix that reaches the last good sync has all settled records
+  pub durable : 0 < settled → (n : ℕ) → synced ≤ length before + n → length (text_of (take settled records)) ≤ n

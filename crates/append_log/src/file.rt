@@ -5,6 +5,7 @@ ghost use Rattle.resp_wire.specs.Device.{saturating_succ};
 ghost use Rattle.append_log.specs.FileOpening.{IsOfLock};
 
 use crate::sink::{LogSink, SinkFault};
+use crate::syncing::SyncHandle;
 use resp_wire::{ATTEMPTS, is_interrupted, write_uninterrupted};
 use std::fs::{File, Metadata, OpenFile, TryLockError};
 use std::io::{Result as IoResult, Write};
@@ -124,6 +125,19 @@ impl<F: Write + OpenFile> FileSink<F> {
         }
     }
 
+    /// A second way to the file, by which its data are brought to the device while records are appended.
+    ///
+    /// # Errors
+    ///
+    /// The system gave none, as where no more files may be open.
+    pub fn handle(&self) -> IoResult<FileHandle<F>> {
+        Ok(FileHandle {
+            file: self.file.try_clone()?,
+            calls: 0,
+            failures: 0,
+        })
+    }
+
     /// The file, for a sink that counts anew.
     pub(crate) fn into_file(self) -> F {
         self.file
@@ -161,5 +175,29 @@ impl<F: Write + OpenFile> LogSink for FileSink<F> {
             Ok(()) => Ok(()),
             Err(_) => Err(self.fail()),
         }
+    }
+}
+
+/// A second way to an append file. A sync asks the system to bring the file's data to the device, as a sink's sync
+/// does.
+#[derive(Drop)]
+pub struct FileHandle<F> {
+    file: F,
+    calls: u64,
+    failures: u64,
+}
+
+impl<F: OpenFile> SyncHandle for FileHandle<F> {
+    ghost calls = { λ h. h.calls };
+
+    ghost failures = { λ h. h.failures };
+
+    fn sync(&mut self) -> Result<(), SinkFault> {
+        self.calls = self.calls.saturating_add(1);
+        if sync_uninterrupted(&self.file).is_err() {
+            self.failures = self.failures.saturating_add(1);
+            return Err(SinkFault);
+        }
+        Ok(())
     }
 }

@@ -2,8 +2,9 @@
 //!
 //! A record is the request of a command that changes sets, in RESP2. In a file of version 1 it is
 //! the command as it was given; in one of version 2, which begins with a header, it is what the
-//! command changed. Records stand one behind the other, and each is synced before its command is
-//! answered, so that a reload after a crash replays to all that was answered.
+//! command changed. Records stand one behind the other. Each is synced before its command is
+//! answered, or before the answer leaves the process, so that a reload after a crash replays to all
+//! that was answered.
 #![tactic(auto)]
 
 mod drafting;
@@ -18,10 +19,11 @@ mod record;
 mod renewing;
 mod share;
 mod sink;
+mod syncing;
 mod version;
 
 pub use drafting::{RenewFault, write_anew};
-pub use file::{FileFault, FileSink, LockFile};
+pub use file::{FileFault, FileHandle, FileSink, LockFile};
 pub use loading::{Loaded, ReloadFault, reload};
 pub use log::Log;
 pub use logged::LoggedOwner;
@@ -30,4 +32,5 @@ pub use record::Record;
 pub use renewing::{RewriteFault, rewrite};
 pub use share::RecordShare;
 pub use sink::{FuseSink, LogSink, MemorySink, NoSink, SinkFault};
+pub use syncing::{SyncHandle, Syncer};
 pub use version::Version;

@@ -4,7 +4,7 @@ ghost use Rattle.std.specs.Prelude.{◌≡◌, ◌≢◌, ℕ, ◌+◌, ◌≤�
 ghost use Rattle.std.specs.Io.KnownBytes.{append_known};
 ghost use Rattle.resp_wire.specs.Device.{Rose};
 ghost use Rattle.resp_wire.specs.RequestEncoding.{request};
-ghost use Rattle.append_log.specs.Log.{Appends, Breaks, HasRecords, IsLog, Readable, share_after, records_after};
+ghost use Rattle.append_log.specs.Log.{Appends, Breaks, HasRecords, IsLog, Readable, Settles, Unsettled, settled_with, share_after, records_after};
 
 use crate::record::Record;
 use crate::share::RecordShare;
@@ -23,8 +23,10 @@ pub struct Log<S: LogSink, L: Ledger> {
     book: Book<L>,
     rest: Share<L>,
     appended: u64,
+    settled: u64,
     written: u128,
     limit: u64,
+    deferred: bool,
     broken: bool,
 }
 
@@ -40,8 +42,10 @@ impl<S: LogSink, L: Ledger> Model for Log<S, L> {
       calls = S.calls a.sink;
       failures = S.failures a.sink;
       appended = a.appended;
+      settled = a.settled;
       written = a.written;
       limit = a.limit;
+      deferred = a.deferred;
       broken = a.broken;
       parts = a.rest.parts;
     } };
@@ -52,8 +56,10 @@ impl<S: LogSink, L: Ledger> Model for Log<S, L> {
       calls = S.calls a.sink;
       failures = S.failures a.sink;
       appended = a.appended;
+      settled = a.settled;
       written = a.written;
       limit = a.limit;
+      deferred = a.deferred;
       broken = a.broken;
       parts = a.rest.parts;
     }) × (a.book.total ≡ a.appended) };
@@ -111,6 +117,31 @@ pub(crate) fn write_and_sync<S: LogSink>(sink: &mut S, bytes: &[u8]) -> Out
     out
 }
 
+/// Writes all, and then syncs, unless that is deferred.
+fn put<S: LogSink>(sink: &mut S, bytes: &[u8], deferred: bool) -> Out
+    ensures at_most { result.taken ≤ length bytes.now }
+    ensures told { S.told sink.new ≡ append_known (S.told sink.old) (take result.taken bytes.now) }
+    ensures whole { result.whole ≡ true → result.taken ≡ length bytes.now }
+    ensures synced { result.whole ≡ true → deferred ≡ false
+        → IfSome (S.told sink.new) (λ all. S.synced sink.new ≡ length all) }
+    ensures unsynced { deferred ≡ true → S.synced sink.new ≡ S.synced sink.old }
+    ensures not_synced { result.whole ≡ false → S.synced sink.new ≡ S.synced sink.old }
+    ensures good { result.whole ≡ true → S.failures sink.new ≡ S.failures sink.old }
+    ensures cause { result.whole ≡ false → Rose (S.failures sink.old) (S.failures sink.new) }
+{
+    if deferred {
+        return write_out(sink, bytes);
+    }
+    write_and_sync(sink, bytes)
+}
+
+/// How many records are settled once one more was appended.
+fn settled_after(deferred: bool, settled: u64, appended: u64) -> u64
+    ensures { result ≡ settled_with deferred settled appended }
+{
+    if deferred { settled } else { appended }
+}
+
 impl<S: LogSink, L: Ledger> Log<S, L> {
     /// A log of no records, behind whatever its sink holds. At most `max_records` can be appended.
     pub fn new(blank: Blank, sink: S, max_records: u64) -> Self
@@ -125,8 +156,56 @@ impl<S: LogSink, L: Ledger> Log<S, L> {
           calls = S.calls sink;
           failures = S.failures sink;
           appended = 0;
+          settled = 0;
           written = 0;
           limit = max_records;
+          deferred = false;
+          broken = false;
+          parts = blank.parts;
+        } }
+    {
+        Self::begun(blank, sink, max_records, false)
+    }
+
+    /// The same, but its appends leave their records unsynced until [`Log::sync`].
+    pub fn deferred(blank: Blank, sink: S, max_records: u64) -> Self
+        requires name { blank.name ≡ L.name }
+        requires parts { blank.parts ≡ L.parts }
+        requires two { 2 ≤ blank.parts }
+        requires some { 1 ≤ max_records }
+        requires limited { max_records ≤ 2 ^ 40 }
+        ensures { result ≡ record {
+          told = S.told sink;
+          synced = S.synced sink;
+          calls = S.calls sink;
+          failures = S.failures sink;
+          appended = 0;
+          settled = 0;
+          written = 0;
+          limit = max_records;
+          deferred = true;
+          broken = false;
+          parts = blank.parts;
+        } }
+    {
+        Self::begun(blank, sink, max_records, true)
+    }
+
+    fn begun(blank: Blank, sink: S, max_records: u64, deferred: bool) -> Self
+        requires name { blank.name ≡ L.name }
+        requires parts { blank.parts ≡ L.parts }
+        requires two { 2 ≤ blank.parts }
+        requires limited { max_records ≤ 2 ^ 40 }
+        ensures { result ≡ record {
+          told = S.told sink;
+          synced = S.synced sink;
+          calls = S.calls sink;
+          failures = S.failures sink;
+          appended = 0;
+          settled = 0;
+          written = 0;
+          limit = max_records;
+          deferred = deferred;
           broken = false;
           parts = blank.parts;
         } }
@@ -137,8 +216,10 @@ impl<S: LogSink, L: Ledger> Log<S, L> {
             book,
             rest,
             appended: 0,
+            settled: 0,
             written: 0,
             limit: max_records,
+            deferred,
             broken: false,
         }
     }
@@ -209,14 +290,64 @@ impl<S: LogSink, L: Ledger> Log<S, L> {
         if self.appended == self.limit {
             return Err(Refusal::LogFull);
         }
-        let out = write_and_sync(&mut self.sink, entry.text());
+        let out = put(&mut self.sink, entry.text(), self.deferred);
         self.written += out.taken as u128;
         if !out.whole {
             self.broken = true;
             return Err(Refusal::LogRefused);
         }
-        share.rise(&mut self.book);
+        share.rise(&mut self.book, self.appended + 1);
         self.appended += 1;
+        self.settled = settled_after(self.deferred, self.settled, self.appended);
+        Ok(())
+    }
+
+    /// How many of the records are settled: a good sync came behind them.
+    pub fn settled(&self) -> u64
+        ensures settled { result ≡ self.now.settled }
+        ensures within { self.now.settled ≤ self.now.appended }
+        // Where no sync is deferred each append settles its record.
+        ensures at_once { self.now.deferred ≡ false → self.now.settled ≡ self.now.appended }
+    {
+        self.settled
+    }
+
+    /// Breaks the log off: from now on nothing is appended. For one who settles its records beside it, and failed.
+    pub fn break_off(&mut self)
+        ensures { self.new ≡ record self.old { broken = true } }
+    {
+        self.broken = true;
+    }
+
+    /// Settles all records by one sync, where one of them is not settled yet.
+    ///
+    /// # Errors
+    ///
+    /// [`Refusal::LogBroken`] where the log was broken: the sink is not touched. [`Refusal::LogRefused`]
+    /// where the sync failed: no record that waited is settled, and the log is broken for good.
+    pub fn sync(&mut self) -> Result<(), Refusal>
+        ensures ok { OnOk result (Settles self.old self.new) }
+        ensures broken { IsErrOf result Refusal.LogBroken ↔ (self.old.broken ≡ true) }
+        ensures untouched { IsErrOf result Refusal.LogBroken → self.new ≡ self.old }
+        ensures refused { IsErrOf result Refusal.LogRefused → Unsettled self.old self.new }
+        ensures cause { IsErrOf result Refusal.LogRefused
+            → Rose self.old.failures self.new.failures }
+        ensures no_other { IsErr result → IsErrOf result Refusal.LogBroken
+            ⊎ IsErrOf result Refusal.LogRefused }
+        // The records stand as they stood.
+        ensures records { (records : _) → HasRecords self.old records → HasRecords self.new records }
+    {
+        if self.broken {
+            return Err(Refusal::LogBroken);
+        }
+        if self.settled == self.appended {
+            return Ok(());
+        }
+        if self.sink.sync().is_err() {
+            self.broken = true;
+            return Err(Refusal::LogRefused);
+        }
+        self.settled = self.appended;
         Ok(())
     }
 
@@ -227,7 +358,7 @@ impl<S: LogSink, L: Ledger> Log<S, L> {
         ensures synced { S.synced result ≡ self.synced }
         ensures counts { (S.calls result ≡ self.calls) × (S.failures result ≡ self.failures) }
         ensures prefixes { IfSome self.told
-            (λ bytes. Readable bytes self.synced self.appended self.written) }
+            (λ bytes. Readable bytes self.synced self.settled self.appended self.written) }
     {
         // What a log wrote is whole records and a prefix of one more.
         laws::longest();
@@ -238,8 +369,10 @@ impl<S: LogSink, L: Ledger> Log<S, L> {
             book: _,
             rest: _,
             appended: _,
+            settled: _,
             written: _,
             limit: _,
+            deferred: _,
             broken: _,
         } = self;
         sink

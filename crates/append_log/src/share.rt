@@ -11,6 +11,8 @@ use std::sync::ledger::{Book, Ledger, Share};
 #[derive(Drop)]
 pub struct RecordShare<L: Ledger> {
     count: u64,
+    /// The log's number of the last of them.
+    last: u64,
     share: LedgerShare<L>,
 }
 
@@ -32,6 +34,7 @@ impl<L: Ledger> RecordShare<L> {
     {
         RecordShare {
             count: 0,
+            last: 0,
             share: LedgerShare::new(share),
         }
     }
@@ -43,8 +46,14 @@ impl<L: Ledger> RecordShare<L> {
         self.count
     }
 
-    // One record more, in the share and in the book.
-    pub(crate) fn rise(&mut self, book: &mut Book<L>)
+    /// The log's number of the last of them, counted from 1 on; 0 where there is none. A log's records are settled in
+    /// the order of these numbers. A contract doesn't see it.
+    pub fn last(&self) -> u64 {
+        self.last
+    }
+
+    // One record more, in the share and in the book: the log's record of this number.
+    pub(crate) fn rise(&mut self, book: &mut Book<L>, number: u64)
         requires { book.old.total < 2 ^ 40 }
         ensures share { self.new ≡ self.old + 1 }
         ensures book { book.new.total ≡ book.old.total + 1 }
@@ -52,5 +61,6 @@ impl<L: Ledger> RecordShare<L> {
         self.share.audit(book);
         self.share.add_one(book);
         self.count += 1;
+        self.last = number;
     }
 }

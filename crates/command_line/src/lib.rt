@@ -4,8 +4,8 @@
 
 mod serve;
 
-pub use crate::serve::ServeTask;
-use crate::serve::{asked_serve, file_option, serve_command};
+pub use crate::serve::{ServeTask, SyncMode};
+use crate::serve::{asked_serve, asked_sync, file_option, serve_command, sync_option};
 use clap::error::ErrorKind;
 use clap::{Arg, ArgAction, ArgMatches, Command, Error};
 use std::alloc::{AllocError, Global};
@@ -17,11 +17,18 @@ const VERSION: &str = "0.3.0";
 #[derive(Clone, Copy, Debug, PartialEq, Eq)]
 pub enum Task<'a> {
     /// Serve standard input to standard output, with an append file where one is named.
-    Stdio { file: Option<&'a str> },
+    Stdio {
+        file: Option<&'a str>,
+        /// When the file's changes are brought to the device.
+        sync: SyncMode,
+    },
     /// Serve clients over TCP.
     Serve(ServeTask<'a>),
     /// Write a new append file that replays to the same sets as an old one.
-    Rewrite { old: &'a str, new: &'a str },
+    Rewrite {
+        old: &'a str,
+        new: &'a str,
+    },
 }
 
 /// Why there is nothing to do.
@@ -47,6 +54,7 @@ fn stdio_command<'a>(alloc: Global) -> Result<Command<'a>, AllocError> {
     Command::new(alloc, "stdio")
         .about("Serves standard input to standard output")
         .arg(file_option(alloc))?
+        .arg(sync_option(alloc))?
         .arg(explain_option(alloc))
 }
 
@@ -80,6 +88,7 @@ fn asked<'a>(found: &ArgMatches<'a>) -> Option<Task<'a>> {
     match name {
         "stdio" => Some(Task::Stdio {
             file: words.get_str("file"),
+            sync: asked_sync(words)?,
         }),
         "serve" => Some(Task::Serve(asked_serve(words)?)),
         "rewrite" => Some(Task::Rewrite {

@@ -23,6 +23,18 @@ const MAX_CLIENTS: u64 = 64_000;
 /// Seconds for which a connection may send or take nothing: a day.
 const MAX_TIMEOUT: u64 = 86_400;
 
+/// When the changes that an append file keeps are brought to the device.
+#[derive(Clone, Copy, Debug, PartialEq, Eq)]
+pub enum SyncMode {
+    /// Each change by a sync of its own, before it is made.
+    Each,
+    /// Many changes by one sync, before a reply leaves that may tell of one of them.
+    Group,
+}
+
+/// The words for them.
+const SYNC_MODES: [&str; 2] = ["each", "group"];
+
 /// What a server is asked to do. Each number lies within the range that `--help` tells.
 #[derive(Clone, Copy, Debug, PartialEq, Eq)]
 pub struct ServeTask<'a> {
@@ -30,6 +42,8 @@ pub struct ServeTask<'a> {
     pub listen: &'a str,
     /// The append file that keeps the changes.
     pub file: Option<&'a str>,
+    /// When the file's changes are brought to the device.
+    pub sync: SyncMode,
     /// Workers: 1 to 64.
     pub workers: usize,
     /// Places for keys: 1 to 4,096.
@@ -59,6 +73,17 @@ pub(crate) fn file_option<'a>(alloc: Global) -> Arg<'a> {
         .value_name("PATH")
         .help("Keeps the changes in this append file, which is made where it is missing")
         .action(ArgAction::Set)
+}
+
+pub(crate) fn sync_option<'a>(alloc: Global) -> Arg<'a> {
+    Arg::new(alloc, "sync")
+        .long("sync")
+        .value_name("MODE")
+        .help(
+            "Syncs the append file: each change alone, or a group of them before its replies leave",
+        )
+        .value_parser(ValueParser::Names(&SYNC_MODES))
+        .default_value("each")
 }
 
 /// An option for a whole number from `least` to `most`.
@@ -115,6 +140,7 @@ pub(crate) fn serve_command<'a>(alloc: Global) -> Result<Command<'a>, AllocError
         .about("Serves clients over TCP")
         .arg(listen_option(alloc))?
         .arg(file_option(alloc))?
+        .arg(sync_option(alloc))?
         .arg(workers_option(alloc))?
         .arg(places_option(alloc))?
         .arg(records_option(alloc))?
@@ -124,10 +150,20 @@ pub(crate) fn serve_command<'a>(alloc: Global) -> Result<Command<'a>, AllocError
         .arg(explain_option(alloc))
 }
 
+/// The mode that is asked for. The option takes no other words.
+pub(crate) fn asked_sync(words: &ArgMatches<'_>) -> Option<SyncMode> {
+    match words.get_str("sync")? {
+        "each" => Some(SyncMode::Each),
+        "group" => Some(SyncMode::Group),
+        _ => None,
+    }
+}
+
 pub(crate) fn asked_serve<'a>(words: &ArgMatches<'a>) -> Option<ServeTask<'a>> {
     Some(ServeTask {
         listen: words.get_str("listen")?,
         file: words.get_str("file"),
+        sync: asked_sync(words)?,
         workers: words.get_one("workers")?,
         places: words.get_one("places")?,
         max_records: words.get_one("max-records")?,

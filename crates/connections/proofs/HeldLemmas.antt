@@ -56,6 +56,13 @@ module _ {S : Type 0} (allows : S → Asked → Result Response Refusal → S �
           by_place (inl (place, is)) = (here, source, drain, subst (λ (v : VisitState). Stands allows here source drain v here) (sym is) (law.begins here source drain))
           by_place (inr before) = was_held before
 
+pub none_left : (visits : List (Option VisitState)) → HaveLeft visits visits
+none_left visits place visit at = (visit, at, refl)
+
+pub left_trans : (first second third : List (Option VisitState)) → HaveLeft first second → HaveLeft second third → HaveLeft first third
+left_trans first second third one other =
+    was_trans (λ before after. after ≡ before) (λ before after. after ≡ before) (λ before after. after ≡ before) (λ before middle after then next. next ∙ then) first second third one other
+
 module _ {V : Type 0} (shown : V → VisitState) (slots taken : List (Option V)) (place : ℕ) (before : List (Option VisitState)) (is : all_shown shown slots ≡ before) (out : taken ≡ slice_set slots place None) where
   -- the connection at a place has left
   pub left_by : HaveLeft before (all_shown shown taken)
@@ -67,6 +74,10 @@ module _ {V : Type 0} (shown : V → VisitState) (slots taken : List (Option V))
   pub put_back_by : (final : List (Option V)) (old new : V) → slice_get slots place ≡ Some (Some old) → shown new ≡ shown old → final ≡ slice_set taken place (Some new) → all_shown shown final ≡ before
   put_back_by final old new at alike put =
       ap (all_shown shown) (put ∙ ap (λ (s : List (Option V)). slice_set s place (Some new)) out) ∙ exchanged_alike shown slots place old new at alike ∙ is
+
+  -- so nobody has left
+  pub stays_by : (final : List (Option V)) (old new : V) → slice_get slots place ≡ Some (Some old) → shown new ≡ shown old → final ≡ slice_set taken place (Some new) → HaveLeft before (all_shown shown final)
+  stays_by final old new at alike put = subst (λ (visits : List (Option VisitState)). HaveLeft before visits) (sym (put_back_by final old new at alike put)) (none_left before)
 
   module _ {S : Type 0} (allows : S → Asked → Result Response Refusal → S → Type 0) (law : TakesTurns allows) (here there : S) (moves : Moves allows here there) where
     -- it had its turn

@@ -61,3 +61,7 @@ module _ {S : Type 0} (allows : S → Asked → Result Response Refusal → S �
   -- nothing that is known of a visit moved
   pub same_goes : (old new : VisitState) → new ≡ old → (here : S) → GoesOn allows old here new here
   same_goes old new same here start source₀ drain₀ stands = subst (λ (v : VisitState). Stands allows start source₀ drain₀ v here) (sym same) stands
+
+  -- what the connections share was left as it was
+  pub goes_still : (old new : VisitState) (here there after : S) → after ≡ there → GoesOn allows old here new there → GoesOn allows old here new after
+  goes_still old new here there after same goes = subst (λ (now : S). GoesOn allows old here new now) (sym same) goes

@@ -57,4 +57,11 @@ impl<A: Allocator + Copy> Buffers<A> {
         self.text = kept(self.alloc, text);
         self.replies = kept(self.alloc, replies);
     }
+    /// Takes memory back that replies were held in, where there is less.
+    pub fn take_replies(&mut self, replies: Vec<u8, A>) {
+        let replies = kept(self.alloc, replies);
+        if replies.capacity() > self.replies.capacity() {
+            self.replies = replies;
+        }
+    }
 }

@@ -12,11 +12,19 @@ use std::alloc::Allocator;
 use std::marker::Model;
 use std::time::{Clock, Duration, Instant};
 
+/// When connections have their turns.
+#[derive(Drop)]
+pub struct Moment<'c, C> {
+    pub clock: &'c C,
+    /// When these turns began, where that is asked for.
+    pub now: Option<Instant>,
+}
+
 /// A connection, and what its worker keeps of it beside.
 #[derive(Drop)]
 pub struct Held<S: PolledSource, D: PolledDrain, A: Allocator> {
     visit: Visit<S, D, A>,
-    /// It is among those that are ready.
+    /// It is among those that are ready, or that wait until their records are settled.
     is_queued: bool,
     /// For how long it may send or take nothing.
     silence: Option<Duration>,
@@ -30,7 +38,7 @@ impl<S: PolledSource, D: PolledDrain, A: Allocator> Model for Held<S, D, A> {
 
     ghost Value = { VisitState };
 
-    ghost view = { λ h. state h.visit.stage (S.told h.visit.source) (told_by D.told h.visit.outbox)
+    ghost view = { λ h. state h.visit.stage (S.told h.visit.source) (told_by D.told h.visit.replies.outbox)
         h.visit.session.decoder h.visit.session.progress };
 }
 
@@ -61,12 +69,12 @@ impl<S: PolledSource, D: PolledDrain, A: Allocator + Copy> Held<S, D, A> {
         self.visit.note(is_closed);
     }
 
-    /// Whether it is among those that are ready.
+    /// Whether it is among those that are ready, or that wait until their records are settled.
     pub fn is_queued(&self) -> bool {
         self.is_queued
     }
 
-    /// Says whether it is among those that are ready.
+    /// Says whether it is among those.
     pub fn set_queued(&mut self, is_queued: bool)
         ensures same { self.new ≡ self.old }
     {
@@ -81,24 +89,50 @@ impl<S: PolledSource, D: PolledDrain, A: Allocator + Copy> Held<S, D, A> {
         }
     }
 
-    /// The connection's turn, which begins now, where that is asked for.
+    /// The number of the last record that its replies wait for, 0 for none.
+    pub fn awaited(&self) -> u64 {
+        self.visit.awaited()
+    }
+
+    /// Notes that bytes came or went, where they did.
+    fn note_moved(&mut self, now: Option<Instant>)
+        ensures same { self.new ≡ self.old }
+    {
+        if self.visit.take_moved() {
+            self.moved = now;
+        }
+    }
+
+    /// The connection's turn, as [`Visit::turn`] says.
     pub fn turn<R, C: Clock, E: Exec<R, A>>(
         &mut self,
         rt: &R,
-        clock: &C,
-        now: Option<Instant>,
+        moment: &Moment<'_, C>,
         buffers: &mut Buffers<A>,
         exec: &mut E,
+        settled: u64,
     ) -> Next
         requires settled { E.settled exec.old }
         ensures settled { E.settled exec.new }
         ensures moves { Moves E.allows exec.old exec.new }
         ensures goes_on { GoesOn E.allows self.old exec.old self.new exec.new }
     {
-        let next = self.visit.turn(rt, clock, buffers, exec);
-        if self.visit.take_moved() {
-            self.moved = now;
-        }
+        let next = self.visit.turn(rt, moment.clock, buffers, exec, settled);
+        self.note_moved(moment.now);
+        next
+    }
+
+    /// Sends replies that waited for their records, or ends, as [`Visit::let_go`] says.
+    pub fn let_go(
+        &mut self,
+        now: Option<Instant>,
+        buffers: &mut Buffers<A>,
+        is_settled: bool,
+    ) -> Next
+        ensures same { self.new ≡ self.old }
+    {
+        let next = self.visit.let_go(buffers, is_settled);
+        self.note_moved(now);
         next
     }
 }

@@ -4,11 +4,17 @@
 //! holds up the others: one read, [`MOST_REQUESTS`] requests, [`MOST_HELD`] bytes of replies and
 //! [`MOST_MILLIS`] milliseconds. What a peer does not take is held, and meanwhile nothing is read from it nor run
 //! for it.
+//!
+//! A reply may tell of a record that was appended to a file and is not settled there, as synced. It waits, and at the
+//! end of the round a [`Settle`] settles the records of all that wait.
 #![tactic(auto)]
 
 mod buffers;
 mod held;
 mod many;
+mod queues;
+mod replies;
+mod settle;
 mod slots;
 mod sockets;
 mod visit;
@@ -16,6 +22,7 @@ mod watch;
 
 pub use buffers::Buffers;
 pub use many::Connections;
+pub use settle::{AtOnce, Settle};
 pub use sockets::{descriptor_limit, keep_alive};
 pub use visit::{MOST_HELD, MOST_MILLIS, MOST_REQUESTS, Next, Stage, Visit};
 pub use watch::{Ringer, Watched};

@@ -6,16 +6,16 @@ ghost use Rattle.connections.specs.Places.{IsGrown};
 ghost use Rattle.connections.specs.VisitSteps.{AllGoOn, HaveLeft, IsAdded, new_state};
 
 use crate::buffers::Buffers;
-use crate::held::Held;
+use crate::held::{Held, Moment};
+use crate::queues::{begin, queue, queue_again};
+use crate::settle::{Settle, is_settled};
 use crate::slots::Slots;
-use crate::visit::Next;
 use crate::watch::{Ringer, Watch, Watched};
 use resp_wire::{PolledDrain, PolledSource};
 use session_core::{Exec, takes_turns};
 use std::alloc::{AllocError, Allocator};
 use std::marker::Model;
 use std::net::Net;
-use std::os::fd::RawFd;
 use std::time::{Clock, Duration, Instant};
 use std::{io, mem};
 
@@ -34,6 +34,10 @@ pub struct Connections<S: PolledSource, D: PolledDrain, A: Allocator> {
     ready: Vec<usize, A>,
     /// Those whose turn it is.
     round: Vec<usize, A>,
+    /// The places of those whose replies wait until their records are settled, each once.
+    unsettled: Vec<usize, A>,
+    /// So many records are known to be settled.
+    settled: u64,
     buffers: Buffers<A>,
     /// Some connection is ended if it is silent for too long.
     ends_silent: bool,
@@ -51,51 +55,14 @@ impl<S: PolledSource, D: PolledDrain, A: Allocator> Model for Connections<S, D, 
     ghost view = { λ c. map (option_map box_value) c.slots };
 }
 
-/// Watches a connection that begins; one that can't be watched is always ready. None where there is no
-/// memory for that; else whether it is among those that are ready.
-fn begin<A: Allocator + Copy>(
-    watch: &Watch<A>,
-    ready: &mut Vec<usize, A>,
-    descriptor: Option<RawFd>,
-    place: usize,
-) -> Option<bool> {
-    match descriptor {
-        Some(descriptor) => {
-            watch.add(descriptor, place).ok()?;
-            Some(false)
-        }
-        None => {
-            ready.push(place).ok()?;
-            Some(true)
-        }
-    }
-}
-
-/// Puts a place behind those that have become ready, where it is not queued. Whether it is now.
-fn queue<A: Allocator>(woken: &mut Vec<usize, A>, place: usize, is_queued: bool) -> bool {
-    is_queued || woken.push(place).is_ok()
-}
-
-/// What becomes of a connection after its turn: whether it is among those that are ready again. None: it
-/// leaves.
-fn queue_again<A: Allocator>(ready: &mut Vec<usize, A>, place: usize, next: Next) -> Option<bool> {
-    match next {
-        Next::Ends => None,
-        Next::Waits => Some(false),
-        Next::Again => {
-            ready.push(place).ok()?;
-            Some(true)
-        }
-    }
-}
-
 impl<S: PolledSource + Watched + Drop, D: PolledDrain + Drop, A: Allocator + Copy> Connections<
     S,
     D,
     A,
 > {
-    /// No connection yet.
-    pub fn new<R: Net>(net: &R, alloc: A) -> io::Result<Self>
+    /// No connection yet. So many records are settled, of those that executors tell of: `u64::MAX` where each is
+    /// settled when it is appended, 0 where they are settled later.
+    pub fn new<R: Net>(net: &R, alloc: A, settled: u64) -> io::Result<Self>
         ensures none { IfOk result (λ connections. connections ≡ []) }
     {
         Ok(Connections {
@@ -105,6 +72,8 @@ impl<S: PolledSource + Watched + Drop, D: PolledDrain + Drop, A: Allocator + Cop
             woken: Vec::new(alloc),
             ready: Vec::new(alloc),
             round: Vec::new(alloc),
+            unsettled: Vec::new(alloc),
+            settled,
             buffers: Buffers::new(alloc)?,
             ends_silent: false,
             looked: None,
@@ -130,6 +99,7 @@ impl<S: PolledSource + Watched + Drop, D: PolledDrain + Drop, A: Allocator + Cop
         self.woken.reserve(places)?;
         self.ready.reserve(places)?;
         self.round.reserve(places)?;
+        self.unsettled.reserve(places)?;
         Ok(place)
     }
 
@@ -217,8 +187,7 @@ impl<S: PolledSource + Watched + Drop, D: PolledDrain + Drop, A: Allocator + Cop
     fn serve<R, C: Clock, E: Exec<R, A>>(
         &mut self,
         rt: &R,
-        clock: &C,
-        now: Option<Instant>,
+        moment: &Moment<'_, C>,
         place: usize,
         exec: &mut E,
     )
@@ -234,8 +203,8 @@ impl<S: PolledSource + Watched + Drop, D: PolledDrain + Drop, A: Allocator + Cop
         let Some(mut held) = self.slots.take(place) else {
             return;
         };
-        let next = held.turn(rt, clock, now, &mut self.buffers, exec);
-        match queue_again(&mut self.ready, place, next) {
+        let next = held.turn(rt, moment, &mut self.buffers, exec, self.settled);
+        match queue_again(&mut self.ready, &mut self.unsettled, place, next) {
             Some(is_queued) => {
                 held.set_queued(is_queued);
                 self.slots.put_back(place, held);
@@ -248,8 +217,7 @@ impl<S: PolledSource + Watched + Drop, D: PolledDrain + Drop, A: Allocator + Cop
     fn serve_woken<R, C: Clock, E: Exec<R, A>>(
         &mut self,
         rt: &R,
-        clock: &C,
-        now: Option<Instant>,
+        moment: &Moment<'_, C>,
         exec: &mut E,
     )
         requires settled { E.settled exec.old }
@@ -259,7 +227,7 @@ impl<S: PolledSource + Watched + Drop, D: PolledDrain + Drop, A: Allocator + Cop
     {
         let mut woken = mem::replace(&mut self.woken, Vec::new(self.alloc));
         for place in woken.iter() {
-            self.serve(rt, clock, now, *place, exec);
+            self.serve(rt, moment, *place, exec);
         }
         woken.clear();
         self.woken = woken;
@@ -270,8 +238,7 @@ impl<S: PolledSource + Watched + Drop, D: PolledDrain + Drop, A: Allocator + Cop
     fn serve_ready<R, C: Clock, E: Exec<R, A>>(
         &mut self,
         rt: &R,
-        clock: &C,
-        now: Option<Instant>,
+        moment: &Moment<'_, C>,
         exec: &mut E,
     )
         requires settled { E.settled exec.old }
@@ -283,11 +250,45 @@ impl<S: PolledSource + Watched + Drop, D: PolledDrain + Drop, A: Allocator + Cop
         mem::swap(&mut round, &mut self.ready);
         for place in round.iter() {
             self.wait(Some(Duration::ZERO));
-            self.serve_woken(rt, clock, now, exec);
-            self.serve(rt, clock, now, *place, exec);
+            self.serve_woken(rt, moment, exec);
+            self.serve(rt, moment, *place, exec);
         }
         round.clear();
         self.round = round;
+    }
+
+    /// Sends the replies of one that waited for its records, where these are settled or can be; else it leaves.
+    fn let_go<R, T: Settle<R>>(&mut self, rt: &R, now: Option<Instant>, place: usize, settler: &T)
+        ensures left { HaveLeft self.old self.new }
+    {
+        if place >= self.slots.len() {
+            return;
+        }
+        let Some(mut held) = self.slots.take(place) else {
+            return;
+        };
+        let is_settled = is_settled(rt, settler, &mut self.settled, held.awaited());
+        let next = held.let_go(now, &mut self.buffers, is_settled);
+        match queue_again(&mut self.ready, &mut self.unsettled, place, next) {
+            Some(is_queued) => {
+                held.set_queued(is_queued);
+                self.slots.put_back(place, held);
+            }
+            None => self.slots.let_go(place),
+        }
+    }
+
+    /// Sends the replies of those that waited for their records, once these are settled. Those whose records can't be
+    /// settled leave.
+    fn let_go_settled<R, T: Settle<R>>(&mut self, rt: &R, now: Option<Instant>, settler: &T)
+        ensures left { HaveLeft self.old self.new }
+    {
+        let mut unsettled = mem::replace(&mut self.unsettled, Vec::new(self.alloc));
+        for place in unsettled.iter() {
+            self.let_go(rt, now, *place, settler);
+        }
+        unsettled.clear();
+        self.unsettled = unsettled;
     }
 
     /// Ends the connection at a place.
@@ -335,8 +336,16 @@ impl<S: PolledSource + Watched + Drop, D: PolledDrain + Drop, A: Allocator + Cop
         }
     }
 
-    /// Waits until a connection is ready or the bell is rung, and gives each that is ready a turn.
-    pub fn turn<R, C: Clock, E: Exec<R, A>>(&mut self, rt: &R, clock: &C, exec: &mut E)
+    /// Waits until a connection is ready or the bell is rung, and gives each that is ready a turn. Then the replies
+    /// that tell of records which are not settled wait no longer: the records are settled, and where that can't be, the
+    /// connections whose replies tell of them leave, and their replies don't.
+    pub fn turn<R, C: Clock, E: Exec<R, A>, T: Settle<R>>(
+        &mut self,
+        rt: &R,
+        clock: &C,
+        exec: &mut E,
+        settler: &T,
+    )
         requires settled { E.settled exec.old }
         ensures settled { E.settled exec.new }
         // What the connections share is moved by requests alone.
@@ -347,8 +356,10 @@ impl<S: PolledSource + Watched + Drop, D: PolledDrain + Drop, A: Allocator + Cop
     {
         self.wait(self.patience());
         let now = self.now(clock);
-        self.serve_woken(rt, clock, now, exec);
-        self.serve_ready(rt, clock, now, exec);
+        let moment = Moment { clock, now };
+        self.serve_woken(rt, &moment, exec);
+        self.serve_ready(rt, &moment, exec);
+        self.let_go_settled(rt, now, settler);
         self.look_for_silent(clock);
     }
 }

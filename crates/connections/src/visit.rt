@@ -1,12 +1,14 @@
 //! One connection of many.
 
-ghost use Rattle.std.specs.Prelude.{◌≡◌, ◌≤◌, ◌<◌, ◌^◌, length};
+ghost use Rattle.std.specs.Prelude.{◌≡◌, ◌≤◌, ◌<◌, ◌^◌, false, length};
 ghost use Rattle.session_core.specs.Interleaved.{Moves};
+ghost use Rattle.connections.specs.declared.visit.Next.TheVariants.{Ends, Settles};
 ghost use Rattle.connections.specs.declared.visit.Stage.TheVariants.{Reads, Runs};
 ghost use Rattle.connections.specs.VisitSteps.{IsSound, IsTaken, GoesOn, state, new_state};
 
 use crate::buffers::Buffers;
-use resp_wire::{ByteDrain, ByteSource, MAX_READS, Outbox, PolledDrain, PolledSource};
+use crate::replies::Replies;
+use resp_wire::{ByteDrain, ByteSource, MAX_READS, PolledDrain, PolledSource};
 use session_core::{Ended, Exec, Session, SessionFault, takes_turns};
 use std::alloc::Allocator;
 use std::time::{Clock, Duration, Instant};
@@ -41,6 +43,8 @@ pub enum Next {
     Waits,
     /// More can be done at once.
     Again,
+    /// Its replies wait until their records are settled.
+    Settles,
     /// The connection has ended.
     Ends,
 }
@@ -50,8 +54,11 @@ pub enum Next {
 pub struct Visit<S, D, A: Allocator> {
     session: Session<A>,
     source: S,
-    outbox: Outbox<D, A>,
+    replies: Replies<D, A>,
     stage: Stage,
+    /// The number of the last record that the replies held may tell of, where they wait until it is settled. 0: they
+    /// wait for none.
+    awaited: u64,
     /// How many pieces were read.
     pieces: u64,
     /// It is noted when the device becomes ready.
@@ -70,14 +77,15 @@ impl<S: PolledSource, D: PolledDrain, A: Allocator + Copy> Visit<S, D, A> {
     /// nobody notes when its device becomes ready, is always ready.
     pub fn new(alloc: A, source: S, drain: D, is_watched: bool) -> Self
         ensures { (state result.stage (S.told result.source)
-            (⟦<Outbox<D, A> as ByteDrain>⟧.told result.outbox) result.session.decoder result.session.progress)
+            (⟦<Replies<D, A> as ByteDrain>⟧.told result.replies) result.session.decoder result.session.progress)
             ≡ new_state (S.told source) (D.told drain) }
     {
         Visit {
             session: Session::new(alloc),
             source,
-            outbox: Outbox::new(alloc, drain),
+            replies: Replies::new(alloc, drain),
             stage: Stage::Reads,
+            awaited: 0,
             pieces: 0,
             is_watched,
             is_drained: false,
@@ -89,9 +97,9 @@ impl<S: PolledSource, D: PolledDrain, A: Allocator + Copy> Visit<S, D, A> {
     /// Notes that the device became ready, and whether the peer sends no more.
     pub fn note(&mut self, is_closed: bool)
         ensures same { (state self.new.stage (S.told self.new.source)
-            (⟦<Outbox<D, A> as ByteDrain>⟧.told self.new.outbox) self.new.session.decoder self.new.session.progress)
+            (⟦<Replies<D, A> as ByteDrain>⟧.told self.new.replies) self.new.session.decoder self.new.session.progress)
             ≡ (state self.old.stage (S.told self.old.source)
-            (⟦<Outbox<D, A> as ByteDrain>⟧.told self.old.outbox) self.old.session.decoder self.old.session.progress) }
+            (⟦<Replies<D, A> as ByteDrain>⟧.told self.old.replies) self.old.session.decoder self.old.session.progress) }
     {
         self.is_closed = self.is_closed || is_closed;
         self.is_drained = false;
@@ -100,9 +108,9 @@ impl<S: PolledSource, D: PolledDrain, A: Allocator + Copy> Visit<S, D, A> {
     /// Whether bytes came or went since this was last asked.
     pub fn take_moved(&mut self) -> bool
         ensures same { (state self.new.stage (S.told self.new.source)
-            (⟦<Outbox<D, A> as ByteDrain>⟧.told self.new.outbox) self.new.session.decoder self.new.session.progress)
+            (⟦<Replies<D, A> as ByteDrain>⟧.told self.new.replies) self.new.session.decoder self.new.session.progress)
             ≡ (state self.old.stage (S.told self.old.source)
-            (⟦<Outbox<D, A> as ByteDrain>⟧.told self.old.outbox) self.old.session.decoder self.old.session.progress) }
+            (⟦<Replies<D, A> as ByteDrain>⟧.told self.old.replies) self.old.session.decoder self.old.session.progress) }
     {
         let moved = self.has_moved;
         self.has_moved = false;
@@ -112,13 +120,13 @@ impl<S: PolledSource, D: PolledDrain, A: Allocator + Copy> Visit<S, D, A> {
     /// Sends what is held. None where the drain failed.
     fn send(&mut self) -> Option<bool>
         ensures same { (state self.new.stage (S.told self.new.source)
-            (⟦<Outbox<D, A> as ByteDrain>⟧.told self.new.outbox) self.new.session.decoder self.new.session.progress)
+            (⟦<Replies<D, A> as ByteDrain>⟧.told self.new.replies) self.new.session.decoder self.new.session.progress)
             ≡ (state self.old.stage (S.told self.old.source)
-            (⟦<Outbox<D, A> as ByteDrain>⟧.told self.old.outbox) self.old.session.decoder self.old.session.progress) }
+            (⟦<Replies<D, A> as ByteDrain>⟧.told self.old.replies) self.old.session.decoder self.old.session.progress) }
     {
-        let before = self.outbox.len();
-        let sent = self.outbox.pump();
-        if self.outbox.len() < before {
+        let before = self.replies.len();
+        let sent = self.replies.pump();
+        if self.replies.len() < before {
             self.has_moved = true;
         }
         sent.ok()
@@ -130,7 +138,7 @@ impl<S: PolledSource, D: PolledDrain, A: Allocator + Copy> Visit<S, D, A> {
         requires pieces { self.old.pieces < 2 ^ 40 }
         requires short { length piece.now ≤ 65536 }
         ensures source { S.told self.new.source ≡ S.told self.old.source }
-        ensures drain { ⟦<Outbox<D, A> as ByteDrain>⟧.told self.new.outbox ≡ ⟦<Outbox<D, A> as ByteDrain>⟧.told self.old.outbox }
+        ensures drain { ⟦<Replies<D, A> as ByteDrain>⟧.told self.new.replies ≡ ⟦<Replies<D, A> as ByteDrain>⟧.told self.old.replies }
         ensures taken { IsTaken piece.now self.new.stage self.old.session.decoder
             self.new.session.decoder }
         ensures progress { self.new.session.progress ≡ self.old.session.progress }
@@ -148,8 +156,8 @@ impl<S: PolledSource, D: PolledDrain, A: Allocator + Copy> Visit<S, D, A> {
         requires reads { self.old.stage ≡ Reads }
         requires buffer { (1 ≤ length buffer.old) × (length buffer.old ≤ 65536) }
         ensures goes_on { GoesOn E.allows (state self.old.stage (S.told self.old.source)
-            (⟦<Outbox<D, A> as ByteDrain>⟧.told self.old.outbox) self.old.session.decoder self.old.session.progress) exec.now (state self.new.stage (S.told self.new.source)
-            (⟦<Outbox<D, A> as ByteDrain>⟧.told self.new.outbox) self.new.session.decoder self.new.session.progress) exec.now }
+            (⟦<Replies<D, A> as ByteDrain>⟧.told self.old.replies) self.old.session.decoder self.old.session.progress) exec.now (state self.new.stage (S.told self.new.source)
+            (⟦<Replies<D, A> as ByteDrain>⟧.told self.new.replies) self.new.session.decoder self.new.session.progress) exec.now }
         ensures buffer { length buffer.new ≡ length buffer.old }
     {
         takes_turns::<R, A, E>();
@@ -178,13 +186,13 @@ impl<S: PolledSource, D: PolledDrain, A: Allocator + Copy> Visit<S, D, A> {
         ensures settled { E.settled exec.new }
         ensures moves { Moves E.allows exec.old exec.new }
         ensures goes_on { GoesOn E.allows (state self.old.stage (S.told self.old.source)
-            (⟦<Outbox<D, A> as ByteDrain>⟧.told self.old.outbox) self.old.session.decoder self.old.session.progress) exec.old (state self.new.stage (S.told self.new.source)
-            (⟦<Outbox<D, A> as ByteDrain>⟧.told self.new.outbox) self.new.session.decoder self.new.session.progress) exec.new }
+            (⟦<Replies<D, A> as ByteDrain>⟧.told self.old.replies) self.old.session.decoder self.old.session.progress) exec.old (state self.new.stage (S.told self.new.source)
+            (⟦<Replies<D, A> as ByteDrain>⟧.told self.new.replies) self.new.session.decoder self.new.session.progress) exec.new }
     {
         takes_turns::<R, A, E>();
         let mut begun = None;
         for count in 0..MOST_REQUESTS {
-            match self.session.turn(rt, 1, &mut self.outbox, exec) {
+            match self.session.turn(rt, 1, &mut self.replies, exec) {
                 Err(end) => {
                     self.stage = Stage::Ended(Err(end));
                     return;
@@ -197,7 +205,7 @@ impl<S: PolledSource, D: PolledDrain, A: Allocator + Copy> Visit<S, D, A> {
                 }
             }
             let looks = count % REQUESTS_A_LOOK == 0;
-            if self.outbox.len() >= MOST_HELD || (looks && is_over(clock, &mut begun)) {
+            if self.replies.len() >= MOST_HELD || (looks && is_over(clock, &mut begun)) {
                 return;
             }
         }
@@ -206,8 +214,8 @@ impl<S: PolledSource, D: PolledDrain, A: Allocator + Copy> Visit<S, D, A> {
     /// Reads where all that was read is answered.
     fn read_due<R, E: Exec<R, A>>(&mut self, buffers: &mut Buffers<A>, exec: &E)
         ensures goes_on { GoesOn E.allows (state self.old.stage (S.told self.old.source)
-            (⟦<Outbox<D, A> as ByteDrain>⟧.told self.old.outbox) self.old.session.decoder self.old.session.progress) exec.now (state self.new.stage (S.told self.new.source)
-            (⟦<Outbox<D, A> as ByteDrain>⟧.told self.new.outbox) self.new.session.decoder self.new.session.progress) exec.now }
+            (⟦<Replies<D, A> as ByteDrain>⟧.told self.old.replies) self.old.session.decoder self.old.session.progress) exec.now (state self.new.stage (S.told self.new.source)
+            (⟦<Replies<D, A> as ByteDrain>⟧.told self.new.replies) self.new.session.decoder self.new.session.progress) exec.now }
     {
         if self.stage == Stage::Reads {
             self.read::<R, E>(&mut buffers.input, exec);
@@ -220,8 +228,8 @@ impl<S: PolledSource, D: PolledDrain, A: Allocator + Copy> Visit<S, D, A> {
         ensures settled { E.settled exec.new }
         ensures moves { Moves E.allows exec.old exec.new }
         ensures goes_on { GoesOn E.allows (state self.old.stage (S.told self.old.source)
-            (⟦<Outbox<D, A> as ByteDrain>⟧.told self.old.outbox) self.old.session.decoder self.old.session.progress) exec.old (state self.new.stage (S.told self.new.source)
-            (⟦<Outbox<D, A> as ByteDrain>⟧.told self.new.outbox) self.new.session.decoder self.new.session.progress) exec.new }
+            (⟦<Replies<D, A> as ByteDrain>⟧.told self.old.replies) self.old.session.decoder self.old.session.progress) exec.old (state self.new.stage (S.told self.new.source)
+            (⟦<Replies<D, A> as ByteDrain>⟧.told self.new.replies) self.new.session.decoder self.new.session.progress) exec.new }
     {
         if self.stage == Stage::Runs {
             self.run(rt, clock, exec);
@@ -231,27 +239,30 @@ impl<S: PolledSource, D: PolledDrain, A: Allocator + Copy> Visit<S, D, A> {
     /// Takes the memory for replies that is shared.
     fn lend(&mut self, buffers: &mut Buffers<A>)
         ensures same { (state self.new.stage (S.told self.new.source)
-            (⟦<Outbox<D, A> as ByteDrain>⟧.told self.new.outbox) self.new.session.decoder self.new.session.progress)
+            (⟦<Replies<D, A> as ByteDrain>⟧.told self.new.replies) self.new.session.decoder self.new.session.progress)
             ≡ (state self.old.stage (S.told self.old.source)
-            (⟦<Outbox<D, A> as ByteDrain>⟧.told self.old.outbox) self.old.session.decoder self.old.session.progress) }
+            (⟦<Replies<D, A> as ByteDrain>⟧.told self.old.replies) self.old.session.decoder self.old.session.progress) }
     {
         let (text, replies) = buffers.lend();
         self.session.lend(text);
-        self.outbox.lend(replies);
+        self.replies.lend(replies);
     }
 
     /// Gives the memory for replies back, but for what holds some.
     fn give_back(&mut self, buffers: &mut Buffers<A>)
         ensures same { (state self.new.stage (S.told self.new.source)
-            (⟦<Outbox<D, A> as ByteDrain>⟧.told self.new.outbox) self.new.session.decoder self.new.session.progress)
+            (⟦<Replies<D, A> as ByteDrain>⟧.told self.new.replies) self.new.session.decoder self.new.session.progress)
             ≡ (state self.old.stage (S.told self.old.source)
-            (⟦<Outbox<D, A> as ByteDrain>⟧.told self.old.outbox) self.old.session.decoder self.old.session.progress) }
+            (⟦<Replies<D, A> as ByteDrain>⟧.told self.old.replies) self.old.session.decoder self.old.session.progress) }
+        ensures awaited { self.new.awaited ≡ self.old.awaited }
     {
-        buffers.take_back(self.session.take_memory(), self.outbox.take_memory());
+        buffers.take_back(self.session.take_memory(), self.replies.take_memory());
     }
 
     /// What follows, where this is what the drain took.
-    fn next(&self, sent: Option<bool>) -> Next {
+    fn next(&self, sent: Option<bool>) -> Next
+        ensures sent { result ≡ Settles → ⊥ }
+    {
         match (sent, self.stage) {
             (None, _) => Next::Ends,
             (Some(false), _) => Next::Waits,
@@ -261,14 +272,42 @@ impl<S: PolledSource, D: PolledDrain, A: Allocator + Copy> Visit<S, D, A> {
         }
     }
 
+    /// Sends what is held, where the last record is settled that it may tell of; else it waits for that.
+    fn send_settled(&mut self, told: u64, settled: u64) -> Next
+        ensures same { (state self.new.stage (S.told self.new.source)
+            (⟦<Replies<D, A> as ByteDrain>⟧.told self.new.replies) self.new.session.decoder self.new.session.progress)
+            ≡ (state self.old.stage (S.told self.old.source)
+            (⟦<Replies<D, A> as ByteDrain>⟧.told self.old.replies) self.old.session.decoder self.old.session.progress) }
+        ensures held { settled < told → self.new.replies ≡ self.old.replies }
+        ensures awaited { settled < told → self.new.awaited ≡ told }
+        ensures waits { result ≡ Settles → settled < told }
+    {
+        if told > settled {
+            self.awaited = told;
+            return Next::Settles;
+        }
+        self.awaited = 0;
+        let sent = self.send();
+        self.next(sent)
+    }
+
+    /// The number of the last record that the replies held wait for, 0 for none.
+    pub fn awaited(&self) -> u64
+        ensures awaited { result ≡ self.now.awaited }
+    {
+        self.awaited
+    }
+
     /// One turn: what was held is sent; then one piece is read, or requests that are left from the
-    /// last one are run, and their replies sent.
+    /// last one are run, and their replies sent. They wait where they may tell of a record behind the first `settled`:
+    /// [`Visit::let_go`] sends them.
     pub fn turn<R, C: Clock, E: Exec<R, A>>(
         &mut self,
         rt: &R,
         clock: &C,
         buffers: &mut Buffers<A>,
         exec: &mut E,
+        settled: u64,
     ) -> Next
         requires settled { E.settled exec.old }
         ensures settled { E.settled exec.new }
@@ -276,9 +315,16 @@ impl<S: PolledSource, D: PolledDrain, A: Allocator + Copy> Visit<S, D, A> {
         ensures moves { Moves E.allows exec.old exec.new }
         // they are the connection's own, in turn, and their replies stand behind those before.
         ensures goes_on { GoesOn E.allows (state self.old.stage (S.told self.old.source)
-            (⟦<Outbox<D, A> as ByteDrain>⟧.told self.old.outbox) self.old.session.decoder self.old.session.progress) exec.old (state self.new.stage (S.told self.new.source)
-            (⟦<Outbox<D, A> as ByteDrain>⟧.told self.new.outbox) self.new.session.decoder self.new.session.progress) exec.new }
+            (⟦<Replies<D, A> as ByteDrain>⟧.told self.old.replies) self.old.session.decoder self.old.session.progress) exec.old (state self.new.stage (S.told self.new.source)
+            (⟦<Replies<D, A> as ByteDrain>⟧.told self.new.replies) self.new.session.decoder self.new.session.progress) exec.new }
+        // Where replies wait, they wait for a record that is not settled;
+        ensures waits { result ≡ Settles → settled < self.new.awaited }
+        // and while they do, nothing leaves.
+        ensures held { settled < self.old.awaited → self.new.replies ≡ self.old.replies }
     {
+        if self.awaited > settled {
+            return Next::Settles;
+        }
         let cleared = self.send();
         if cleared != Some(true) || matches!(self.stage, Stage::Ended(_)) {
             return self.next(cleared);
@@ -286,8 +332,29 @@ impl<S: PolledSource, D: PolledDrain, A: Allocator + Copy> Visit<S, D, A> {
         self.lend(buffers);
         self.read_due::<R, E>(buffers, exec);
         self.run_held(rt, clock, exec);
-        let sent = self.send();
+        let told = exec.take_told();
+        let next = self.send_settled(told, settled);
         self.give_back(buffers);
+        next
+    }
+
+    /// Sends replies that waited for their records, where these are settled now. Else nothing leaves, and the
+    /// connection is to end.
+    pub fn let_go(&mut self, buffers: &mut Buffers<A>, is_settled: bool) -> Next
+        ensures same { (state self.new.stage (S.told self.new.source)
+            (⟦<Replies<D, A> as ByteDrain>⟧.told self.new.replies) self.new.session.decoder self.new.session.progress)
+            ≡ (state self.old.stage (S.told self.old.source)
+            (⟦<Replies<D, A> as ByteDrain>⟧.told self.old.replies) self.old.session.decoder self.old.session.progress) }
+        ensures held { is_settled ≡ false → self.new.replies ≡ self.old.replies }
+        ensures ends { is_settled ≡ false → result ≡ Ends }
+        ensures sent { result ≡ Settles → ⊥ }
+    {
+        if !is_settled {
+            return Next::Ends;
+        }
+        self.awaited = 0;
+        let sent = self.send();
+        buffers.take_replies(self.replies.take_memory());
         self.next(sent)
     }
 }

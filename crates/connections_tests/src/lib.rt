@@ -9,6 +9,10 @@ mod model;
 #[cfg(test)]
 mod orders;
 #[cfg(test)]
+mod recorded;
+#[cfg(test)]
 mod scripts;
+#[cfg(test)]
+mod settling;
 #[cfg(test)]
 mod turns;

@@ -68,7 +68,7 @@ fn play<R, E: Exec<R, Global>>(
         let place = order.next();
         let client = clients.get_mut(place).ok_or("no client")?;
         if !client.has_ended {
-            let next = client.visit.turn(rt, &clock, &mut buffers, exec);
+            let next = client.visit.turn(rt, &clock, &mut buffers, exec, u64::MAX);
             client.has_ended = next == Next::Ends;
             *ends.get_mut(place).ok_or("no client")? = turn;
         }

@@ -3,6 +3,8 @@
 #![tactic(auto)]
 
 #[cfg(test)]
+mod deferred;
+#[cfg(test)]
 mod effects;
 #[cfg(test)]
 mod failing;

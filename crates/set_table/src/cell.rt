@@ -225,6 +225,12 @@ impl<H: BuildHasher, L: Ledger, A: Allocator + Copy> Cell<H, L, A> {
         }
     }
 
+    /// The log's number of the last record that was appended for the set's changes, 0 where there is none: what an answer
+    /// may tell of.
+    pub(crate) fn last_record(&self) -> u64 {
+        self.share.last()
+    }
+
     /// A law: what holds of every cell whose lock is free. The rows of its column are those of its members, and each
     /// pivot parts the rows with smaller scores from the others. The body changes nothing.
     pub fn whole(&self)

@@ -11,6 +11,7 @@ use crate::naming::names::Names;
 use crate::shares::Shares;
 use once_cell::race::Note;
 use std::alloc::Allocator;
+use std::cell;
 use std::marker::Model;
 use zset_core::Spare;
 
@@ -23,6 +24,8 @@ pub struct Pass<A: Allocator> {
     pub(crate) shares: Vec<Shares, A>,
     /// What the worker keeps back for removals.
     pub(crate) spare: Spare<A>,
+    /// The log's number of the last record that its answers may tell of, since that was last asked.
+    pub(crate) told: cell::Cell<u64>,
 }
 
 impl<A: Allocator> Model for Pass<A> {
@@ -45,6 +48,21 @@ impl<A: Allocator> Pass<A> {
     /// places costs, of which nothing is promised.
     pub fn compared(&self) -> u64 {
         self.knowledge.compared
+    }
+
+    /// The log's number of the last record that the answers since this was last asked may tell of: the last of any set
+    /// that gave one of them, or refused it. 0 where there is none. A contract doesn't see it.
+    pub fn take_told(&mut self) -> u64
+        ensures same { self.new ≡ self.old }
+    {
+        self.told.replace(0)
+    }
+
+    /// Notes that an answer may tell of the log's record of this number.
+    pub(crate) fn note_told(&self, number: u64) {
+        if number > self.told.get() {
+            self.told.set(number);
+        }
     }
 
     /// What it was answered at a place.

@@ -13,7 +13,7 @@ use crate::cell::Cell;
 use crate::gate::Gate;
 use crate::naming::names::{ClaimFault, Names};
 use crate::pass::Pass;
-use append_log::{Log, LogSink};
+use append_log::{Log, LogSink, SyncHandle, Syncer};
 pub use close::{CloseFault, Totals};
 use resp_wire::Reply;
 use std::alloc::Allocator;
@@ -146,6 +146,19 @@ impl<H: BuildHasher, S: LogSink, L: Ledger, A: Allocator + Copy> Table<H, S, L, 
         }
     }
 
+    /// Settles the log's record of this number and those before it, by the syncer of the log. Gives how many records are
+    /// settled; None where they can't be, and then nothing more is appended.
+    pub fn settle<R: Wait, K: SyncHandle>(
+        &self,
+        rt: &R,
+        syncer: &Mutex<Syncer<K>>,
+        number: u64,
+    ) -> Option<u64>
+        ensures enough { IfSome result (λ settled. number ≤ settled) }
+    {
+        syncer.lock(rt).settle(rt, &self.log, number)
+    }
+
     /// The key's place, which is given one where it has none and the command creates.
     fn place_of(
         &self,
@@ -260,6 +273,7 @@ impl<H: BuildHasher, S: LogSink, L: Ledger, A: Allocator + Copy> Table<H, S, L, 
     {
         let cell = self.cells[place].read(rt);
         gate.inside(place);
+        pass.note_told(cell.last_record());
         cell.read_few(command, &pass.shares[place])
     }
 
@@ -284,6 +298,7 @@ impl<H: BuildHasher, S: LogSink, L: Ledger, A: Allocator + Copy> Table<H, S, L, 
     {
         let cell = self.cells[place].read(rt);
         gate.inside(place);
+        pass.note_told(cell.last_record());
         cell.ready(command, &pass.shares[place])
     }
 
@@ -307,9 +322,10 @@ impl<H: BuildHasher, S: LogSink, L: Ledger, A: Allocator + Copy> Table<H, S, L, 
         ensures err { OnErr result (pass.new.shares ≡ pass.old.shares) }
         ensures refused { IfErr result (IsSetRefusal command.now.meaning) }
     {
-        let shares = &mut pass.shares[place];
         let mut cell = self.cells[place].write(rt);
         gate.inside(place);
-        cell.run(rt, command, shares, &self.log)
+        let ran = cell.run(rt, command, &mut pass.shares[place], &self.log);
+        pass.note_told(cell.last_record());
+        ran
     }
 }

@@ -27,6 +27,8 @@ mod places;
 #[cfg(test)]
 mod runs;
 #[cfg(test)]
+mod settled;
+#[cfg(test)]
 mod sink_sweeps;
 #[cfg(test)]
 mod told_counts;

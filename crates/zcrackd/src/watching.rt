@@ -150,6 +150,16 @@ impl<'p> OpenFile for WatchedFile<'p> {
     fn set_permissions(&self, permissions: Permissions) -> io::Result<()> {
         self.file.set_permissions(permissions)
     }
+
+    fn try_clone(&self) -> io::Result<Self> {
+        Ok(WatchedFile {
+            rt: self.rt,
+            file: self.file.try_clone()?,
+            tells_failure: self.tells_failure,
+            is_ready: Cell::new(self.is_ready.get()),
+            progress: None,
+        })
+    }
 }
 
 impl<'p> LockFile for WatchedFile<'p> {

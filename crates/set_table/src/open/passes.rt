@@ -7,6 +7,7 @@ use crate::naming::knowledge::Knowledge;
 use crate::pass::Pass;
 use crate::shares::Shares;
 use std::alloc::{AllocError, Global};
+use std::cell::Cell;
 use zset_core::Spare;
 
 /// The passes, each with the same knowledge of the names.
@@ -27,6 +28,7 @@ pub(crate) fn new_passes(
             knowledge: knowledge.again(alloc)?,
             shares: new_shares(alloc, number, opened)?,
             spare: Spare::new(alloc),
+            told: Cell::new(0),
         })?;
     }
     Ok(passes)

@@ -5,7 +5,8 @@ ghost use Rattle.set_table.specs.WorkerPasses.{IsPassOf};
 ghost use Rattle.zcrackd.specs.WorkerTurns.{Attends};
 ghost use Rattle.zcrackd.specs.WorkerTurnLaws.{attends_itself, attends_on};
 
-use append_log::LogSink;
+use crate::server::settling::{Settling, settled_at_first};
+use append_log::{LogSink, SyncHandle, Syncer};
 use connections::{Connections, Ringer, Watched};
 use hand_over::{Bell, Handler};
 use resp_wire::{PolledDrain, PolledSource};
@@ -16,8 +17,8 @@ use std::hash::RandomState;
 use std::io;
 use std::marker::Model;
 use std::net::Net;
-use std::sync::Wait;
 use std::sync::ledger::Ledger;
+use std::sync::{Mutex, Wait};
 use std::time::Clock;
 
 /// Wakes a worker that waits for its connections.
@@ -34,15 +35,18 @@ impl Bell for WorkerBell {
 
 /// Serves connections, turn by turn, all by one worker on the server's table.
 #[derive(Drop)]
-pub struct ConnectionHandler<'t, K: LogSink, L: Ledger, S: PolledSource, D: PolledDrain, C> {
+pub struct ConnectionHandler<'t, K: LogSink, L: Ledger, Y, S: PolledSource, D: PolledDrain, C> {
     clock: &'t C,
     worker: Worker<'t, RandomState, K, L, Global, NoGate>,
     connections: Connections<S, D, Global>,
+    /// How its worker settles records.
+    table: &'t Table<RandomState, K, L, Global>,
+    syncer: Option<&'t Mutex<Syncer<Y>>>,
     handled: u64,
 }
 
-impl<'t, K: LogSink, L: Ledger, S: PolledSource, D: PolledDrain, C> Model
-    for ConnectionHandler<'t, K, L, S, D, C> {
+impl<'t, K: LogSink, L: Ledger, Y, S: PolledSource, D: PolledDrain, C> Model
+    for ConnectionHandler<'t, K, L, Y, S, D, C> {
     ghost use Rattle.zcrackd.specs.WorkerTurns.{HandlerView};
 
     ghost Value = { HandlerView };
@@ -50,19 +54,22 @@ impl<'t, K: LogSink, L: Ledger, S: PolledSource, D: PolledDrain, C> Model
     ghost view = { λ h. record { worker = h.worker; handled = h.handled; connections = h.connections } };
 }
 
-impl<'t, K: LogSink, L: Ledger, S: PolledSource, D: PolledDrain, C> ConnectionHandler<
+impl<'t, K: LogSink, L: Ledger, Y, S: PolledSource, D: PolledDrain, C> ConnectionHandler<
     't,
     K,
     L,
+    Y,
     S,
     D,
     C,
 > {
-    /// A handler that has served no connection, with one of the table's passes.
+    /// A handler that has served no connection, with one of the table's passes. Where there is a syncer, replies wait until
+    /// what they tell of is settled by it.
     pub fn new(
         rt: &'t C,
         alloc: Global,
         table: &'t Table<RandomState, K, L, Global>,
+        syncer: Option<&'t Mutex<Syncer<Y>>>,
         pass: Pass<Global>,
     ) -> io::Result<Self>
     where
@@ -75,11 +82,13 @@ impl<'t, K: LogSink, L: Ledger, S: PolledSource, D: PolledDrain, C> ConnectionHa
         ensures handled { IfOk result (λ handler. handler.handled ≡ 0) }
         ensures none { IfOk result (λ handler. handler.connections ≡ []) }
     {
-        let connections = Connections::new(rt, alloc)?;
+        let connections = Connections::new(rt, alloc, settled_at_first(syncer))?;
         Ok(ConnectionHandler {
             clock: rt,
             worker: Worker::new(table, pass, NoGate),
             connections,
+            table,
+            syncer,
             handled: 0,
         })
     }
@@ -96,6 +105,8 @@ impl<'t, K: LogSink, L: Ledger, S: PolledSource, D: PolledDrain, C> ConnectionHa
             clock: _,
             worker,
             connections: _,
+            table: _,
+            syncer: _,
             handled: _,
         } = self;
         worker.into_pass()
@@ -107,10 +118,11 @@ impl<'t, K: LogSink, L: Ledger, S: PolledSource, D: PolledDrain, C> ConnectionHa
 /// its pass is moved by the requests that it ran, as a worker's answers move it. Each connection that
 /// is held stands as one that is served alone: the requests that it sent were run in turn, with those
 /// of others between them, and their replies are what was written.
-impl<'t, K, L, S, D, C> Handler<(S, D)> for ConnectionHandler<'t, K, L, S, D, C>
+impl<'t, K, L, Y, S, D, C> Handler<(S, D)> for ConnectionHandler<'t, K, L, Y, S, D, C>
 where
     K: LogSink,
     L: Ledger,
+    Y: SyncHandle,
     S: PolledSource + Watched + Drop,
     D: PolledDrain + Drop,
     C: Clock,
@@ -143,6 +155,11 @@ where
     }
 
     fn turn<R: Wait>(&mut self, rt: &R) {
-        self.connections.turn(rt, self.clock, &mut self.worker);
+        let settling = Settling {
+            table: self.table,
+            syncer: self.syncer,
+        };
+        self.connections
+            .turn(rt, self.clock, &mut self.worker, &settling);
     }
 }

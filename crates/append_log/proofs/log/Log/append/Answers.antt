@@ -11,15 +11,17 @@ rise-requires g c = omega (arith, c.self.invariant.1, c.self.invariant.0.within,
 
 pub invariant_of-self : goal.invariant_of-self
 invariant_of-self g c =
-    let wrote = rw c.text.ensures.text at c.write_and_sync-out.ensures in
-    let not_whole : c.write_and_sync-out.result.whole ≡ false = search rules in
+    let wrote = rw c.text.ensures.text at c.put-out.ensures in
+    let not_whole : c.put-out.result.whole ≡ false = search rules in
     let fits : length (request c.args.entry.now) < 2 ^ 64 = omega (arith, c.text.type_inv.0, ap length c.text.ensures.text) in (
       is_log_breaks _ _ c.args.entry.now c.self.invariant.0 c.if-self.false c.text.ensures.is_record fits record {
-        out = c.write_and_sync-out.result.taken;
+        out = c.put-out.result.taken;
         at_most = wrote.at_most;
         told = wrote.told;
         synced = wrote.not_synced not_whole;
         appended = refl;
+        settled = refl;
+        deferred = refl;
         written = refl;
         limit = refl;
         broken = refl;
@@ -30,14 +32,16 @@ invariant_of-self g c =
 
 pub returns-then-not-out-clause-refused : goal.returns-then-not-out-clause-refused
 returns-then-not-out-clause-refused g c =
-    let wrote = rw c.text.ensures.text at c.write_and_sync-out.ensures in
-    let not_whole : c.write_and_sync-out.result.whole ≡ false = search rules in
+    let wrote = rw c.text.ensures.text at c.put-out.ensures in
+    let not_whole : c.put-out.result.whole ≡ false = search rules in
     λ _. rw (← c.self.view_is) (record {
-      out = c.write_and_sync-out.result.taken;
+      out = c.put-out.result.taken;
       at_most = wrote.at_most;
       told = wrote.told;
       synced = wrote.not_synced not_whole;
       appended = refl;
+      settled = refl;
+      deferred = refl;
       written = refl;
       limit = refl;
       broken = refl;
@@ -46,8 +50,8 @@ returns-then-not-out-clause-refused g c =
 
 pub invariant_of-self-2 : goal.invariant_of-self-2
 invariant_of-self-2 g c =
-    let wrote = rw c.text.ensures.text at c.write_and_sync-out.ensures in
-    let whole : c.write_and_sync-out.result.whole ≡ true = search rules in
+    let wrote = rw c.text.ensures.text at c.put-out.ensures in
+    let whole : c.put-out.result.whole ≡ true = search rules in
     let all = wrote.whole whole in
     let fits : length (request c.args.entry.now) < 2 ^ 64 = omega (arith, c.text.type_inv.0, ap length c.text.ensures.text) in
     let text = request c.args.entry.now in
@@ -55,7 +59,10 @@ invariant_of-self-2 g c =
       is_log_appends _ _ c.args.entry.now c.self.invariant.0 c.if-self.false (omega (arith, c.self.invariant.0.within, c.if-self-2.false)) c.text.ensures.is_record fits record {
         told = wrote.told ∙ ap (λ n. append_known (g.S.LogSink.told sink) (take n text)) all ∙ ap (append_known (g.S.LogSink.told sink)) (take_all (length text) text (omega arith));
         synced = wrote.synced whole;
+        unsynced = wrote.unsynced;
         appended = refl;
+        settled = c.settled_after-self-inside.ensures;
+        deferred = refl;
         written = ap (λ n. c.self.inside.written + n) all;
         limit = refl;
         broken = refl;
@@ -69,18 +76,20 @@ pub returns-then-not-out-clause-records : goal.returns-then-not-out-clause-recor
 returns-then-not-out-clause-records g c =
     let S = g.S.LogSink in
     let from = c.self.inside in
-    let to = c.write_and_sync-out.new.sink in
-    let out = c.write_and_sync-out.result.taken in
-    let wrote = rw c.text.ensures.text at c.write_and_sync-out.ensures in
-    let not_whole : c.write_and_sync-out.result.whole ≡ false = search rules in
-    let old : LogView = record { told = S.told from.sink; synced = S.synced from.sink; calls = S.calls from.sink; failures = S.failures from.sink; appended = from.appended; written = from.written; limit = from.limit; broken = from.broken; parts = from.rest.parts } in
-    let new : LogView = record { told = S.told to; synced = S.synced to; calls = S.calls to; failures = S.failures to; appended = from.appended; written = from.written + out; limit = from.limit; broken = true; parts = from.rest.parts } in
+    let to = c.put-out.new.sink in
+    let out = c.put-out.result.taken in
+    let wrote = rw c.text.ensures.text at c.put-out.ensures in
+    let not_whole : c.put-out.result.whole ≡ false = search rules in
+    let old : LogView = record { told = S.told from.sink; synced = S.synced from.sink; calls = S.calls from.sink; failures = S.failures from.sink; appended = from.appended; settled = from.settled; written = from.written; limit = from.limit; deferred = from.deferred; broken = from.broken; parts = from.rest.parts } in
+    let new : LogView = record { told = S.told to; synced = S.synced to; calls = S.calls to; failures = S.failures to; appended = from.appended; settled = from.settled; written = from.written + out; limit = from.limit; deferred = from.deferred; broken = true; parts = from.rest.parts } in
     λ records has. has_breaks old new c.args.entry.now records c.if-self.false c.text.ensures.is_record (record {
       out = out;
       at_most = wrote.at_most;
       told = wrote.told;
       synced = wrote.not_synced not_whole;
       appended = refl;
+      settled = refl;
+      deferred = refl;
       written = refl;
       limit = refl;
       broken = refl;
@@ -91,18 +100,21 @@ pub returns-clause-records : goal.returns-clause-records
 returns-clause-records g c =
     let S = g.S.LogSink in
     let from = c.self.inside in
-    let to = c.write_and_sync-out.new.sink in
-    let out = c.write_and_sync-out.result.taken in
+    let to = c.put-out.new.sink in
+    let out = c.put-out.result.taken in
     let text = request c.args.entry.now in
-    let wrote = rw c.text.ensures.text at c.write_and_sync-out.ensures in
-    let whole : c.write_and_sync-out.result.whole ≡ true = search rules in
+    let wrote = rw c.text.ensures.text at c.put-out.ensures in
+    let whole : c.put-out.result.whole ≡ true = search rules in
     let all = wrote.whole whole in
-    let old : LogView = record { told = S.told from.sink; synced = S.synced from.sink; calls = S.calls from.sink; failures = S.failures from.sink; appended = from.appended; written = from.written; limit = from.limit; broken = from.broken; parts = from.rest.parts } in
-    let new : LogView = record { told = S.told to; synced = S.synced to; calls = S.calls to; failures = S.failures to; appended = from.appended + 1; written = from.written + out; limit = from.limit; broken = from.broken; parts = from.rest.parts } in
-    λ records has. has_appends old new c.args.entry.now records c.if-self.false c.text.ensures.is_record (record {
+    let old : LogView = record { told = S.told from.sink; synced = S.synced from.sink; calls = S.calls from.sink; failures = S.failures from.sink; appended = from.appended; settled = from.settled; written = from.written; limit = from.limit; deferred = from.deferred; broken = from.broken; parts = from.rest.parts } in
+    let new : LogView = record { told = S.told to; synced = S.synced to; calls = S.calls to; failures = S.failures to; appended = from.appended + 1; settled = c.settled_after-self-inside.result; written = from.written + out; limit = from.limit; deferred = from.deferred; broken = from.broken; parts = from.rest.parts } in
+    λ records has. has_appends old new c.args.entry.now records c.if-self.false c.self.invariant.0.settled_within c.text.ensures.is_record (record {
       told = wrote.told ∙ ap (λ n. append_known (S.told from.sink) (take n text)) all ∙ ap (append_known (S.told from.sink)) (take_all (length text) text (omega arith));
       synced = wrote.synced whole;
+      unsynced = wrote.unsynced;
       appended = refl;
+      settled = c.settled_after-self-inside.ensures;
+      deferred = refl;
       written = ap (λ n. from.written + n) all;
       limit = refl;
       broken = refl;

@@ -10,6 +10,6 @@ invariant-loop-count g l = record {
   settled : g.E.Exec.settled l.exec;
   runs : l.self.stage ≡ Runs;
   moves : Moves g.E.Exec.allows l.fn.exec l.exec;
-  goes_on : GoesOn g.E.Exec.allows (state l.fn.self.stage (g.S.ByteSource.told l.fn.self.source) (append_known (g.D.ByteDrain.told l.fn.self.outbox.drain) (drop l.fn.self.outbox.sent l.fn.self.outbox.held.items)) l.fn.self.session.decoder l.fn.self.session.progress) l.fn.exec
-      (state l.self.stage (g.S.ByteSource.told l.self.source) (append_known (g.D.ByteDrain.told l.self.outbox.drain) (drop l.self.outbox.sent l.self.outbox.held.items)) l.self.session.decoder l.self.session.progress) l.exec;
+  goes_on : GoesOn g.E.Exec.allows (state l.fn.self.stage (g.S.ByteSource.told l.fn.self.source) (append_known (g.D.ByteDrain.told l.fn.self.replies.outbox.drain) (drop l.fn.self.replies.outbox.sent l.fn.self.replies.outbox.held.items)) l.fn.self.session.decoder l.fn.self.session.progress) l.fn.exec
+      (state l.self.stage (g.S.ByteSource.told l.self.source) (append_known (g.D.ByteDrain.told l.self.replies.outbox.drain) (drop l.self.replies.outbox.sent l.self.replies.outbox.held.items)) l.self.session.decoder l.self.session.progress) l.exec;
 }

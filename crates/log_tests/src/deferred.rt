@@ -1,0 +1,169 @@
+//! Logs whose appends leave their syncs to later: synced by themselves, and by a syncer beside them.
+
+ghost use Rattle.std.specs.Prelude.{◌≡◌};
+
+use crate::records::replies_to;
+use append_log::{FuseSink, Log, LoggedOwner, MemorySink, SinkFault, SyncHandle, Syncer};
+use std::alloc::Global;
+use std::cell::Cell;
+use std::hash::RandomState;
+use std::marker::Brand;
+use std::sync::ledger::{Blank, Ledger};
+use std::sync::{Mutex, Wait};
+use std::test::*;
+use zset_core::{OneOwner, Refusal};
+
+type Sink = FuseSink<MemorySink<Global>>;
+
+/// A log that was left three records, each by one call of a sink that fails at the call of this number.
+fn log_of_three<L: Ledger>(
+    rt: &HostRuntime,
+    blank: Blank,
+    fails_at: u64,
+) -> Result<Log<Sink, L>, Fail>
+    requires name { blank.name ≡ L.name }
+    requires parts { blank.parts ≡ L.parts }
+    requires two { blank.parts ≡ 2 }
+{
+    let alloc = rt.alloc();
+    let sink = FuseSink::new(MemorySink::new(alloc, 64), fails_at);
+    let log = Log::<_, L>::deferred(blank, sink, 10);
+    let mut owner = LoggedOwner::new(alloc, OneOwner::new(alloc, RandomState::new(rt)?), log);
+    let changes = ["ZADD k 1 a", "ZADD k 2 a", "ZCARD k", "ZADD j 1 a"];
+    if replies_to(alloc, &mut owner, &changes)?.as_str() != ":1~ :0~ :1~ :1~ " {
+        return Err("other replies")?;
+    }
+    let (_, log) = owner.into_parts();
+    Ok(log)
+}
+
+/// 0 where it went well, else the number of the refusal.
+fn outcome(synced: Result<(), Refusal>) -> u8 {
+    match synced {
+        Ok(()) => 0,
+        Err(refusal) => refusal.number(),
+    }
+}
+
+/// How many records are settled before, between and behind two syncs, how these went, and how often the sink was called
+/// in all.
+fn synced_twice<L: Ledger>(rt: &HostRuntime, blank: Blank, fails_at: u64) -> Result<[u64; 6], Fail>
+    requires name { blank.name ≡ L.name }
+    requires parts { blank.parts ≡ L.parts }
+    requires two { blank.parts ≡ 2 }
+{
+    let mut log = log_of_three::<L>(rt, blank, fails_at)?;
+    let before = log.settled();
+    let first = outcome(log.sync()) as u64;
+    let between = log.settled();
+    let second = outcome(log.sync()) as u64;
+    let behind = log.settled();
+    Ok([
+        before,
+        first,
+        between,
+        second,
+        behind,
+        log.into_sink().calls(),
+    ])
+}
+
+// Three records, one sync.
+#[test]
+fn one_sync_settles_all_records(rt: HostRuntime) -> Result<(), Fail> {
+    let told = synced_twice::<Brand>(&rt, Blank::new(2), 0)?;
+    assert_eq!(rt; told, [0, 0, 3, 0, 3, 4]);
+    Ok(())
+}
+
+// A sync that fails settles nothing, and the sink is not called again.
+#[test]
+fn a_failed_sync_settles_nothing(rt: HostRuntime) -> Result<(), Fail> {
+    let told = synced_twice::<Brand>(&rt, Blank::new(2), 4)?;
+    assert_eq!(rt; told, [0, 16, 0, 14, 0, 4]);
+    Ok(())
+}
+
+/// A way to bytes that are no file's. It counts its syncs, and one of them fails.
+#[derive(Drop)]
+struct TestHandle<'c> {
+    syncs: &'c Cell<u64>,
+    fails_at: u64,
+    calls: u64,
+    failures: u64,
+}
+
+impl<'c> SyncHandle for TestHandle<'c> {
+    ghost calls = { λ h. h.calls };
+
+    ghost failures = { λ h. h.failures };
+
+    fn sync(&mut self) -> Result<(), SinkFault> {
+        self.calls = self.calls.saturating_add(1);
+        self.syncs.set(self.calls);
+        if self.calls == self.fails_at {
+            self.failures = self.failures.saturating_add(1);
+            return Err(SinkFault);
+        }
+        Ok(())
+    }
+}
+
+/// How many records are settled, 99 where they can't be.
+fn count(settled: Option<u64>) -> u64 {
+    settled.unwrap_or(99)
+}
+
+/// What a syncer tells that settles the second record, then the third, then none, how often it synced, and whether the
+/// log is broken then.
+fn settled_beside<L: Ledger, R: Wait>(
+    rt: &R,
+    log: Log<Sink, L>,
+    fails_at: u64,
+) -> ([u64; 4], bool) {
+    let syncs = Cell::new(0);
+    let handle = TestHandle {
+        syncs: &syncs,
+        fails_at,
+        calls: 0,
+        failures: 0,
+    };
+    let mut syncer = Syncer::new(handle);
+    let log = Mutex::new(log);
+    let second = count(syncer.settle(rt, &log, 2));
+    let third = count(syncer.settle(rt, &log, 3));
+    let none = count(syncer.settle(rt, &log, 0));
+    let is_broken = log.lock(rt).is_broken();
+    ([second, third, none, syncs.get()], is_broken)
+}
+
+/// The same of a log of three records.
+fn three_settled_beside<L: Ledger, R: Wait>(
+    rt: &R,
+    host: &HostRuntime,
+    blank: Blank,
+    fails_at: u64,
+) -> Result<([u64; 4], bool), Fail>
+    requires name { blank.name ≡ L.name }
+    requires parts { blank.parts ≡ L.parts }
+    requires two { blank.parts ≡ 2 }
+{
+    let log = log_of_three::<L>(host, blank, 0)?;
+    Ok(settled_beside(rt, log, fails_at))
+}
+
+// One sync is behind all that were appended before it.
+#[test]
+fn a_syncer_settles_all_records_at_once(rt: HostRuntime) -> Result<(), Fail> {
+    let told = three_settled_beside::<Brand, _>(&rt, &rt, Blank::new(2), 0)?;
+    assert_eq!(rt; told, ([3, 3, 3, 1], false));
+    Ok(())
+}
+
+// Behind a failure it syncs no more, and the log takes no record.
+#[test]
+fn a_syncer_that_failed_settles_nothing(rt: HostRuntime) -> Result<(), Fail> {
+    let told = three_settled_beside::<Brand, _>(&rt, &rt, Blank::new(2), 1)?;
+    assert_eq!(rt; told, ([99, 99, 0, 1], true));
+    Ok(())
+}

@@ -1,0 +1,240 @@
+"""Tests of `--sync group` on the built program, from a recording of its calls: many changes share a sync, and no reply leaves
+before a sync that began behind each record that it may tell of; and what a failing sync leaves.
+
+They are left out, and a line says so, where strace is not installed or may not trace.
+"""
+import random
+import re
+import subprocess
+import threading
+
+from harness import SECONDS, read, same, test, write
+from syncs import RECORDS, REPLIES, WRITES, calls, can_trace, trace, traced
+from tcp import HEADER, Server, read_reply, request
+
+GROUP = ("--file", "kept", "--sync", "group")
+# So many changes come in one read.
+TOGETHER = [request("ZADD", "k", it, f"m{it}") for it in range(64)]
+ANSWERED = b":1\r\n" * len(TOGETHER)
+# Every byte of a call is written down, with the peers' ports.
+WHOLE = f"-yy -s 70000 {WRITES}"
+WRITERS, READERS, ROUNDS = 4, 3, 25
+
+
+def changes_of_a_session_share_a_sync():
+    words = [traced(WRITES), "stdio", *GROUP]
+    session = subprocess.run(words, input=b"".join(TOGETHER), capture_output=True, timeout=SECONDS)
+    same(session.stdout, ANSWERED)
+    same(calls(), ["record"] * len(TOGETHER) + ["sync", "reply"])
+    same(read("kept"), HEADER + b"".join(TOGETHER))
+
+
+def changes_of_a_client_share_a_sync():
+    with Server(*GROUP, "--connections", 1, "--workers", 1, program=traced(WRITES)) as server:
+        client = server.connect()
+        client.send(b"".join(TOGETHER))
+        same(client.finish(), ANSWERED)
+        same(server.ends()[0], 0)
+    # On a busy machine a turn may end after a millisecond, but not before its fourth request.
+    groups = " ".join(calls()).split(" reply")
+    same((len(groups) - 1 <= len(TOGETHER) // 4, groups.pop()), (True, ""))
+    for group in groups:
+        same(re.fullmatch(" ?(record )+sync", group) is not None, True)
+    same(read("kept"), HEADER + b"".join(TOGETHER))
+
+
+class Call:
+    """A call of the trace: what it is, when it began and ended as numbers of lines, its descriptor, bytes and result."""
+
+    def __init__(self, begun, text):
+        self.begun, self.ended, self.text = begun, begun, text
+
+    def finish(self, ended, text):
+        self.ended, self.text = ended, self.text + text
+
+    def peer(self):
+        """The port of the peer whose socket it is, None for another file."""
+        port = re.match(r"\w+\(\d+<TCPv?6?:\[[^]]*->[^]]*:(\d+)\]>", self.text)
+        return port and int(port[1])
+
+    def data(self):
+        """The bytes that it took."""
+        quoted = "".join(re.findall(r'"((?:[^"\\]|\\.)*)"', self.text))
+        taken = int(self.text.rsplit("= ", 1)[1].split()[0])
+        return quoted.encode().decode("unicode_escape").encode("latin-1")[: max(taken, 0)]
+
+
+def calls_in_order():
+    """The calls of the trace, in the order in which they ended."""
+    open_calls, found = {}, []
+    for number, line in enumerate(trace()):
+        thread, text = re.match(r"(\d+) +(.*)", line).groups()
+        resumed = re.match(r"<\.\.\. \w+ resumed>(.*)", text)
+        if resumed:
+            open_calls[thread].finish(number, resumed[1])
+            found.append(open_calls.pop(thread))
+        elif text.endswith("<unfinished ...>"):
+            open_calls[thread] = Call(number, text.removesuffix("<unfinished ...>"))
+        elif re.match(r"\w+\(", text):
+            found.append(Call(number, text))
+    return found
+
+
+def is_on_file(call, *names):
+    return call.text.split("(", 1)[0] in names and "/kept>" in call.text
+
+
+class Clients:
+    """Writers with a member each, on so many keys, and readers of all members: what each connection was told, by its port."""
+
+    def __init__(self, server, keys):
+        self.server, self.keys, self.told, self.threads = server, keys, {}, []
+
+    def words(self, number):
+        """The key and the member of a writer."""
+        return f"key{number % self.keys}", f"m{number}"
+
+    def start(self, use, *given):
+        client = self.server.connect()
+        told = self.told[client.socket.getsockname()[1]] = []
+        thread = threading.Thread(target=use, args=(client, told, *given))
+        thread.start()
+        self.threads.append((thread, client))
+
+    def write(self, client, told, number):
+        """Gives a member scores that rise, some of them sent together. A reply tells of the change that it answers."""
+        key, member = self.words(number)
+        pipelined = 1 + number
+        for score in range(1, ROUNDS * pipelined + 1, pipelined):
+            scores = range(score, score + pipelined)
+            client.send(b"".join(request("ZADD", key, it, member) for it in scores))
+            told += [(member, it, read_reply(client.file)) for it in scores]
+
+    def read(self, client, told, chance):
+        """Asks for scores. A reply tells of the change that made the score."""
+        for _ in range(ROUNDS * 4):
+            key, member = self.words(chance.randrange(WRITERS))
+            reply = client.ask("ZSCORE", key, member)
+            told.append((member, 0 if reply == b"$-1\r\n" else int(reply.split(b"\r\n")[1]), reply))
+
+    def finish(self):
+        for thread, client in self.threads:
+            thread.join(SECONDS)
+            client.close()
+
+
+def sent_at(found):
+    """For each connection the calls that sent its bytes: how many bytes had left behind each, and when it began."""
+    sent = {}
+    for call in found:
+        if call.peer() is not None and call.text.startswith(("sendto(", "write(", "writev(", "sendmsg(")):
+            parts = sent.setdefault(call.peer(), [(0, 0)])
+            parts.append((parts[-1][0] + len(call.data()), call.begun))
+    return sent
+
+
+def records_at(found):
+    """When each record was written, by its member and score."""
+    written = {}
+    for call in found:
+        words = call.data().split(b"\r\n") if is_on_file(call, "write") else []
+        if words[2:3] == [b"ZADD"]:
+            written[words[8].decode(), int(words[6])] = call.ended
+    return written
+
+
+def no_reply_leaves_before_what_it_tells_of_is_synced(workers, keys):
+    chance = random.Random(workers)
+    with Server(*GROUP, "--connections", WRITERS + READERS, "--workers", workers, program=traced(WHOLE)) as server:
+        clients = Clients(server, keys)
+        for number in range(WRITERS):
+            clients.start(clients.write, number)
+        for number in range(READERS):
+            clients.start(clients.read, random.Random(chance.random()))
+        clients.finish()
+        same(server.ends()[0], 0)
+    found = calls_in_order()
+    syncs = [call for call in found if is_on_file(call, "fdatasync", "fsync") and call.text.endswith("= 0")]
+    written, sent = records_at(found), sent_at(found)
+    told = 0
+    for port, replies in clients.told.items():
+        left = 0
+        for member, score, reply in replies:
+            left += len(reply)
+            begun = next(begun for count, begun in sent[port] if count >= left)
+            if score:
+                told += 1
+                if not any(written[member, score] < it.begun and it.ended < begun for it in syncs):
+                    raise AssertionError(f"a reply left before the record of {member} with {score} was synced")
+    same(told >= WRITERS * ROUNDS, True)
+
+
+def no_reply_of_one_worker_leaves_before_its_sync():
+    for keys in (1, WRITERS):
+        no_reply_leaves_before_what_it_tells_of_is_synced(1, keys)
+
+
+def no_reply_of_four_workers_leaves_before_its_sync():
+    for keys in (1, WRITERS):
+        no_reply_leaves_before_what_it_tells_of_is_synced(4, keys)
+
+
+def failing(which):
+    """A thread's syncs of these numbers fail. The first of the main thread is the opening's."""
+    write("kept", HEADER)
+    return f"-P kept -e trace=fdatasync -e inject=fdatasync:error=EIO:when={which}"
+
+
+def a_failing_sync_ends_those_who_wait_for_it():
+    # The worker's first sync is that of key j.
+    with Server(*GROUP, "--connections", 4, "--workers", 1, program=traced(failing("2+"))) as server:
+        settled, changing, reading, later = [server.connect() for _ in range(4)]
+        same(settled.ask("ZADD", "j", 1, "a"), b":1\r\n")
+        changing.send(request("ZADD", "k", 1, "a"))
+        same(changing.file.read(), b"")
+        same(settled.ask("ZCARD", "j"), b":1\r\n")
+        same(settled.ask("ZADD", "j", 2, "b"), b"-ERR 14 append file failed earlier\r\n")
+        reading.send(request("ZCARD", "k"))
+        same(reading.file.read(), b"")
+        same(later.ask("PING"), b"+PONG\r\n")
+        same(settled.ask("ZSCORE", "j", "a"), b"$1\r\n1\r\n")
+        for client in (settled, changing, reading, later):
+            client.close()
+        same(server.ends()[0], 0)
+
+
+def each_failing_sync_keeps_its_reply_back():
+    for which in range(2, 6):
+        words = [traced(failing(which)), "stdio", *GROUP]
+        with subprocess.Popen(words, stdin=subprocess.PIPE, stdout=subprocess.PIPE, stderr=subprocess.PIPE, bufsize=0) as session:
+            replies = b""
+            for record, reply in zip(RECORDS, REPLIES):
+                try:
+                    session.stdin.write(record)
+                except BrokenPipeError:
+                    break
+                got = session.stdout.read(len(reply))
+                if not got:
+                    break
+                replies += got
+            session.stdin.close()
+            same(replies, b"".join(REPLIES[: which - 2]))
+            same(session.wait(SECONDS), 1)
+            lines = session.stderr.read()
+        same(lines, b"zcrackd: write fault after %d bytes\n" % len(replies))
+        # What was answered is in the file, and what was not may be.
+        same(read("kept").startswith(HEADER + b"".join(RECORDS[: which - 2])), True)
+
+
+if can_trace():
+    for function in (
+        changes_of_a_session_share_a_sync,
+        changes_of_a_client_share_a_sync,
+        no_reply_of_one_worker_leaves_before_its_sync,
+        no_reply_of_four_workers_leaves_before_its_sync,
+        a_failing_sync_ends_those_who_wait_for_it,
+        each_failing_sync_keeps_its_reply_back,
+    ):
+        test(function)
+else:
+    print("strace may not trace: the tests of shared syncs are left out")
