@@ -3,14 +3,15 @@ before a sync that began behind each record that it may tell of; and what a fail
 
 They are left out, and a line says so, where strace is not installed or may not trace.
 """
+import os
 import random
 import re
 import subprocess
 import threading
 
-from harness import SECONDS, read, same, test, write
+from harness import SECONDS, read, run, same, test, write
 from syncs import RECORDS, REPLIES, WRITES, calls, can_trace, trace, traced
-from tcp import HEADER, Server, read_reply, request
+from tcp import HEADER, Server, flat, read_reply, request, totals
 
 GROUP = ("--file", "kept", "--sync", "group")
 # So many changes come in one read.
@@ -19,6 +20,9 @@ ANSWERED = b":1\r\n" * len(TOGETHER)
 # Every byte of a call is written down, with the peers' ports.
 WHOLE = f"-yy -s 70000 {WRITES}"
 WRITERS, READERS, ROUNDS = 4, 3, 25
+BROKEN = b"-ERR 14 append file failed earlier\r\n"
+# So many sets are changed in turn. A worker's sync fails: its first, its second and so on, so many times.
+SETS, FAILURES = 3, 5
 
 
 def changes_of_a_session_share_a_sync():
@@ -193,7 +197,7 @@ def a_failing_sync_ends_those_who_wait_for_it():
         changing.send(request("ZADD", "k", 1, "a"))
         same(changing.file.read(), b"")
         same(settled.ask("ZCARD", "j"), b":1\r\n")
-        same(settled.ask("ZADD", "j", 2, "b"), b"-ERR 14 append file failed earlier\r\n")
+        same(settled.ask("ZADD", "j", 2, "b"), BROKEN)
         reading.send(request("ZCARD", "k"))
         same(reading.file.read(), b"")
         same(later.ask("PING"), b"+PONG\r\n")
@@ -226,6 +230,98 @@ def each_failing_sync_keeps_its_reply_back():
         same(read("kept").startswith(HEADER + b"".join(RECORDS[: which - 2])), True)
 
 
+def change(number):
+    """A change by its number: each set gets a member of its own in turn."""
+    return request("ZADD", f"key{number % SETS}", number, f"m{number}")
+
+
+def asked(key):
+    """The words that ask for a whole set."""
+    return "ZRANGEBYSCORE", f"key{key}", "-inf", "+inf", "WITHSCORES"
+
+
+def listing(key, count):
+    """The reply that lists a set, where so many changes were made."""
+    return request(*[word for it in range(key, count, SETS) for word in (f"m{it}", it)])
+
+
+def answered_until_a_sync_fails(clients, most):
+    """Makes changes, a client for each set, until one of so many has no reply, and gives how many had theirs."""
+    for number in range(most):
+        client = clients[number % SETS]
+        client.send(change(number))
+        reply = client.file.read(len(b":1\r\n"))
+        if not reply:
+            return number
+        same(reply, b":1\r\n")
+    raise AssertionError(f"each of {most} changes was answered")
+
+
+def only_settled_sets_are_answered(server, clients, answered):
+    """Behind a failed sync: who asks or changes its set is ended, other sets are read as before, and nothing is changed."""
+    unsettled = answered % SETS
+    for words in (asked(unsettled), ("ZADD", f"key{unsettled}", 0, "late")):
+        client = server.connect()
+        client.send(request(*words))
+        same(client.finish(), b"")
+    for key in {*range(SETS)} - {unsettled}:
+        for _ in range(2):
+            same(flat(clients[key].ask(*asked(key))), listing(key, answered))
+            same(clients[key].ask("ZADD", f"key{key}", 0, "late"), BROKEN)
+    client = server.connect()
+    same((client.ask("ZADD", "new", 0, "late"), client.ask("PING")), (BROKEN, b"+PONG\r\n"))
+    client.close()
+
+
+def answered_before_a_failing_sync(workers, which):
+    """Gives how many changes a server answered of which a worker's sync of this number fails, and ends it in good order."""
+    # A new file is synced under another name, so that only the workers' syncs count. Each thread counts its own.
+    watched = f"-P {os.path.abspath('kept')} -e trace=write,fdatasync -e inject=fdatasync:error=EIO:when={which}"
+    with Server(*GROUP, "--connections", SETS + 3, "--workers", workers, program=traced(watched)) as server:
+        clients = [server.connect() for _ in range(SETS)]
+        answered = answered_until_a_sync_fails(clients, workers * which)
+        only_settled_sets_are_answered(server, clients, answered)
+        for client in clients:
+            client.close()
+        made = answered + 1
+        same(server.ends(), (0, totals(SETS + 3, min(made, SETS), made, made, 0, made), b""))
+    return answered
+
+
+def lists_what_was_answered(path, answered):
+    """A file is loaded: it has the changes that were answered, and of others at most the one whose sync failed."""
+    sets = range(SETS)
+    status, replies, lines = run("stdio", "--file", path, given=b"".join(request(*asked(it)) for it in sets))
+    same((status, lines), (0, b""))
+    wanted = [b"".join(listing(it, count) for it in sets) for count in (answered, answered + 1)]
+    same(replies in wanted, True)
+
+
+def each_failing_sync_loses_no_answered_change(workers):
+    for which in range(1, FAILURES + 1):
+        answered = answered_before_a_failing_sync(workers, which)
+        # Each change that was answered had a good sync behind its record, and nothing came behind the one that failed.
+        same(calls(), ["record", "sync"] * answered + ["record", "failed sync"])
+        threads = [line.split()[0] for line in trace() if "fdatasync(" in line]
+        same(threads.count(threads[-1]), which)
+        # On the disk are the records that were synced, with or without the last one.
+        synced = HEADER + b"".join(change(it) for it in range(answered))
+        same(read("kept"), synced + change(answered))
+        write("synced", synced)
+        for path in ("kept", "synced"):
+            lists_what_was_answered(path, answered)
+        os.remove("kept")
+        os.remove("trace")
+
+
+def each_failing_sync_of_one_worker_loses_nothing():
+    each_failing_sync_loses_no_answered_change(1)
+
+
+def each_failing_sync_of_four_workers_loses_nothing():
+    each_failing_sync_loses_no_answered_change(4)
+
+
 if can_trace():
     for function in (
         changes_of_a_session_share_a_sync,
@@ -234,6 +330,8 @@ if can_trace():
         no_reply_of_four_workers_leaves_before_its_sync,
         a_failing_sync_ends_those_who_wait_for_it,
         each_failing_sync_keeps_its_reply_back,
+        each_failing_sync_of_one_worker_loses_nothing,
+        each_failing_sync_of_four_workers_loses_nothing,
     ):
         test(function)
 else:
