@@ -130,7 +130,10 @@ impl<F: Write + OpenFile> FileSink<F> {
     /// # Errors
     ///
     /// The system gave none, as where no more files may be open.
-    pub fn handle(&self) -> IoResult<FileHandle<F>> {
+    pub fn handle(&self) -> IoResult<FileHandle<F>>
+        ensures calls { IfOk result (λ handle. ⟦<FileHandle<F> as SyncHandle>⟧.calls handle ≡ 0) }
+        ensures failures { IfOk result (λ handle. ⟦<FileHandle<F> as SyncHandle>⟧.failures handle ≡ 0) }
+    {
         Ok(FileHandle {
             file: self.file.try_clone()?,
             calls: 0,

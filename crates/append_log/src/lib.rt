@@ -32,5 +32,5 @@ pub use record::Record;
 pub use renewing::{RewriteFault, rewrite};
 pub use share::RecordShare;
 pub use sink::{FuseSink, LogSink, MemorySink, NoSink, SinkFault};
-pub use syncing::{SyncHandle, Syncer};
+pub use syncing::{FuseHandle, SyncHandle, Syncer};
 pub use version::Version;

@@ -1,4 +1,4 @@
-//! The log: records one behind the other, each synced before the next.
+//! The log: records one behind the other, each synced before the next, or many by one sync.
 
 ghost use Rattle.std.specs.Prelude.{◌≡◌, ◌≢◌, ℕ, ◌+◌, ◌≤◌, ◌^◌, ◌↔◌, ◌⊎◌, length, take, true, false, OnOk, IsErrOf, IsErr, IfSome, IsTrue};
 ghost use Rattle.std.specs.Io.KnownBytes.{append_known};
@@ -15,8 +15,9 @@ use std::marker::Model;
 use std::sync::ledger::{Blank, Book, Ledger, Share};
 use zset_core::Refusal;
 
-/// An append file that is being written: records one behind the other in a sink, each synced before
-/// its append is answered. It counts its records and gives away shares of that count.
+/// An append file that is being written: records one behind the other in a sink. Each is synced before its append is
+/// answered, or, in a log that is deferred, when [`Log::sync`] is called. It counts its records and gives away shares of
+/// that count.
 #[derive(Drop)]
 pub struct Log<S: LogSink, L: Ledger> {
     sink: S,
@@ -167,7 +168,7 @@ impl<S: LogSink, L: Ledger> Log<S, L> {
         Self::begun(blank, sink, max_records, false)
     }
 
-    /// The same, but its appends leave their records unsynced until [`Log::sync`].
+    /// The same, but deferred: its appends leave their records unsynced until [`Log::sync`].
     pub fn deferred(blank: Blank, sink: S, max_records: u64) -> Self
         requires name { blank.name ≡ L.name }
         requires parts { blank.parts ≡ L.parts }
@@ -235,7 +236,7 @@ impl<S: LogSink, L: Ledger> Log<S, L> {
         RecordShare::new(self.rest.split_off(1, 0))
     }
 
-    /// Whether an append failed. It is so for good.
+    /// Whether an append or a sync failed. It is so for good.
     pub fn is_broken(&self) -> bool
         ensures { IsTrue result ↔ (self.now.broken ≡ true) }
     {
@@ -249,12 +250,12 @@ impl<S: LogSink, L: Ledger> Log<S, L> {
         self.appended
     }
 
-    /// Writes a record out whole, and syncs it; `share` counts it for its holder. Takes no memory of
-    /// its own.
+    /// Writes a record out whole, and syncs it, unless the log is deferred; `share` counts it for its holder. Takes no
+    /// memory of its own.
     ///
     /// # Errors
     ///
-    /// [`Refusal::LogBroken`] where an earlier append failed, and [`Refusal::LogFull`] where as
+    /// [`Refusal::LogBroken`] where an earlier append or sync failed, and [`Refusal::LogFull`] where as
     /// many records were appended as may be: the sink is not touched. [`Refusal::LogRefused`] where
     /// the sink failed in this call: the record may stand there in part or whole, and the log is
     /// broken for good.

@@ -1,13 +1,14 @@
 //! An owner of sets whose changes are logged.
 
-ghost use Rattle.std.specs.Prelude.{◌≡◌, ◌≢◌, ℕ, List, IfSome, ◌+◌, ◌≤◌, None, Some, true, false, IfOk, IfErr, OnOk, IsTrue};
+ghost use Rattle.std.specs.Prelude.{◌≡◌, ◌≢◌, ◌↔◌, ◌⊎◌, ℕ, List, IfSome, ◌+◌, ◌≤◌, None, Some, true, false, IfOk, IfErr, OnOk, IsTrue, IsErr, IsErrOf};
+ghost use Rattle.resp_wire.specs.Device.{Rose};
 ghost use Rattle.resp_wire.specs.Response.{response_of};
 ghost use Rattle.resp_wire.specs.RequestEncoding.{request};
 ghost use Rattle.zset_core.specs.AbstractCommand.{is_writing, key_of};
 ghost use Rattle.zset_core.specs.SetAndOwnerViews.{IsPreparedAt, IsPreparedFor};
 ghost use Rattle.zset_core.specs.World.{World as WorldType, put_set, set_at};
 ghost use Rattle.append_log.specs.EffectRecords.{next_record, prepared_record};
-ghost use Rattle.append_log.specs.Log.{LogView, Appends, HasRecords, records_after, share_after};
+ghost use Rattle.append_log.specs.Log.{LogView, Appends, HasRecords, Settles, Unsettled, records_after, share_after};
 ghost use Rattle.append_log.specs.Replay.{after};
 ghost use Rattle.append_log.specs.declared.version.Version.TheVariants.{Effects};
 ghost use Rattle.append_log.specs.LoggedOwner.{LoggedView, AreSame, Replays, NotAppended, Ran, Refused};
@@ -176,9 +177,9 @@ fn run_reading<H: BuildHasher + Clone + Drop, A: Allocator + Copy>(
     }
 }
 
-/// An owner of sets whose changes are logged: a command that changes a set is answered once its
-/// record was written and synced. A contract sees the sets, the log, and how many records it
-/// appended.
+/// An owner of sets whose changes are logged: a command that changes a set is answered once its record was appended, so
+/// that it is synced then, or, where the log is deferred, when [`LoggedOwner::sync`] is called. A contract sees the sets,
+/// the log, and how many records it appended.
 #[derive(Drop)]
 pub struct LoggedOwner<H: BuildHasher, S: LogSink, L: Ledger, A: Allocator + Copy> {
     alloc: A,
@@ -264,6 +265,34 @@ impl<H: BuildHasher + Clone + Drop, S: LogSink, L: Ledger, A: Allocator + Copy> 
         } else {
             run_reading(&mut self.owner, command)
         }
+    }
+
+    /// Settles the records of a deferred log, as [`Log::sync`] does. No set changes.
+    ///
+    /// # Errors
+    ///
+    /// Those of [`Log::sync`].
+    pub fn sync(&mut self) -> Result<(), Refusal>
+        ensures sets { (self.new.world ≡ self.old.world) × (self.new.share ≡ self.old.share) }
+        ensures ok { OnOk result (Settles self.old.log self.new.log) }
+        ensures broken { IsErrOf result Refusal.LogBroken ↔ (self.old.log.broken ≡ true) }
+        ensures untouched { IsErrOf result Refusal.LogBroken → self.new ≡ self.old }
+        ensures refused { IsErrOf result Refusal.LogRefused → Unsettled self.old.log self.new.log }
+        ensures cause { IsErrOf result Refusal.LogRefused
+            → Rose self.old.log.failures self.new.log.failures }
+        ensures no_other { IsErr result → IsErrOf result Refusal.LogBroken
+            ⊎ IsErrOf result Refusal.LogRefused }
+        ensures replays { (start : WorldType) → Replays start self.old → Replays start self.new }
+    {
+        self.log.sync()
+    }
+
+    /// Whether all records are settled.
+    pub fn is_settled(&self) -> bool
+        ensures settled { IsTrue result ↔ (self.now.log.settled ≡ self.now.log.appended) }
+        ensures within { self.now.log.settled ≤ self.now.log.appended }
+    {
+        self.log.settled() == self.log.appended()
     }
 
     /// The owner and the log. The share of the records that were appended here is discarded.

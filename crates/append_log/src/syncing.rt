@@ -5,6 +5,7 @@ ghost use Rattle.resp_wire.specs.Device.{saturating_succ, failures_after, Rose};
 
 use crate::log::Log;
 use crate::sink::{LogSink, SinkFault};
+use std::cell::Cell;
 use std::sync::ledger::Ledger;
 use std::sync::{Mutex, Wait};
 
@@ -20,6 +21,46 @@ pub trait SyncHandle {
     fn sync(&mut self) -> Result<(), SinkFault>
         ensures calls { calls self.new ≡ saturating_succ (calls self.old) }
         ensures failures { failures self.new ≡ failures_after (failures self.old) result };
+}
+
+/// Syncs nothing, counts its calls where others see them, and fails at one of them. For tests.
+#[derive(Drop)]
+pub struct FuseHandle<'c> {
+    seen: &'c Cell<u64>,
+    fails_at: u64,
+    calls: u64,
+    failures: u64,
+}
+
+impl<'c> FuseHandle<'c> {
+    /// Its call number `fails_at`, counted from 1, will fail; at 0 none.
+    pub fn new(seen: &'c Cell<u64>, fails_at: u64) -> Self
+        ensures calls { ⟦<FuseHandle<'c> as SyncHandle>⟧.calls result ≡ 0 }
+        ensures failures { ⟦<FuseHandle<'c> as SyncHandle>⟧.failures result ≡ 0 }
+    {
+        FuseHandle {
+            seen,
+            fails_at,
+            calls: 0,
+            failures: 0,
+        }
+    }
+}
+
+impl<'c> SyncHandle for FuseHandle<'c> {
+    ghost calls = { λ h. h.calls };
+
+    ghost failures = { λ h. h.failures };
+
+    fn sync(&mut self) -> Result<(), SinkFault> {
+        self.calls = self.calls.saturating_add(1);
+        self.seen.set(self.calls);
+        if self.calls == self.fails_at {
+            self.failures = self.failures.saturating_add(1);
+            return Err(SinkFault);
+        }
+        Ok(())
+    }
 }
 
 /// Settles the records of a log whose appends leave their syncs to it: it knows how many a good sync came behind. One

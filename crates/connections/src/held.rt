@@ -123,15 +123,10 @@ impl<S: PolledSource, D: PolledDrain, A: Allocator + Copy> Held<S, D, A> {
     }
 
     /// Sends replies that waited for their records, or ends, as [`Visit::let_go`] says.
-    pub fn let_go(
-        &mut self,
-        now: Option<Instant>,
-        buffers: &mut Buffers<A>,
-        is_settled: bool,
-    ) -> Next
+    pub fn let_go(&mut self, now: Option<Instant>, buffers: &mut Buffers<A>, settled: u64) -> Next
         ensures same { self.new ≡ self.old }
     {
-        let next = self.visit.let_go(buffers, is_settled);
+        let next = self.visit.let_go(buffers, settled);
         self.note_moved(now);
         next
     }

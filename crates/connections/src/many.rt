@@ -8,7 +8,7 @@ ghost use Rattle.connections.specs.VisitSteps.{AllGoOn, HaveLeft, IsAdded, new_s
 use crate::buffers::Buffers;
 use crate::held::{Held, Moment};
 use crate::queues::{begin, queue, queue_again};
-use crate::settle::{Settle, is_settled};
+use crate::settle::{Settle, settle_to};
 use crate::slots::Slots;
 use crate::watch::{Ringer, Watch, Watched};
 use resp_wire::{PolledDrain, PolledSource};
@@ -267,8 +267,8 @@ impl<S: PolledSource + Watched + Drop, D: PolledDrain + Drop, A: Allocator + Cop
         let Some(mut held) = self.slots.take(place) else {
             return;
         };
-        let is_settled = is_settled(rt, settler, &mut self.settled, held.awaited());
-        let next = held.let_go(now, &mut self.buffers, is_settled);
+        settle_to(rt, settler, &mut self.settled, held.awaited());
+        let next = held.let_go(now, &mut self.buffers, self.settled);
         match queue_again(&mut self.ready, &mut self.unsettled, place, next) {
             Some(is_queued) => {
                 held.set_queued(is_queued);

@@ -1,6 +1,6 @@
 //! Records that are settled later than they are appended.
 
-ghost use Rattle.std.specs.Prelude.{◌≡◌, ◌≤◌, true, IfSome};
+ghost use Rattle.std.specs.Prelude.{◌≡◌, ◌≢◌, ◌≤◌, IfSome};
 
 /// Settles records, which are numbered from 1 on: until a record is settled, no reply leaves that may tell of it.
 /// `R` is the runtime, for those that wait for others.
@@ -21,16 +21,16 @@ impl<R> Settle<R> for AtOnce {
     }
 }
 
-/// Whether the record of this number is settled. Where that many are not known to be, it is settled now, if it can be.
-pub fn is_settled<R, T: Settle<R>>(rt: &R, settler: &T, settled: &mut u64, number: u64) -> bool
-    // A record counts as settled only where that many are.
-    ensures enough { result ≡ true → number ≤ settled.new }
+/// Settles the record of this number, if it can be, where no more than the first `settled` are known to be. Then as many
+/// are known to be as the settler tells.
+pub fn settle_to<R, T: Settle<R>>(rt: &R, settler: &T, settled: &mut u64, number: u64)
     ensures more { settled.old ≤ settled.new }
+    ensures known { number ≤ settled.old → settled.new ≡ settled.old }
+    ensures some { settled.new ≢ settled.old → number ≤ settled.new }
 {
     if number > *settled {
         if let Some(all) = settler.settle(rt, number) {
             *settled = all;
         }
     }
-    number <= *settled
 }

@@ -338,18 +338,18 @@ impl<S: PolledSource, D: PolledDrain, A: Allocator + Copy> Visit<S, D, A> {
         next
     }
 
-    /// Sends replies that waited for their records, where these are settled now. Else nothing leaves, and the
-    /// connection is to end.
-    pub fn let_go(&mut self, buffers: &mut Buffers<A>, is_settled: bool) -> Next
+    /// Sends replies that waited for their records, where these are among the first `settled`. Else nothing leaves, and
+    /// the connection is to end.
+    pub fn let_go(&mut self, buffers: &mut Buffers<A>, settled: u64) -> Next
         ensures same { (state self.new.stage (S.told self.new.source)
             (⟦<Replies<D, A> as ByteDrain>⟧.told self.new.replies) self.new.session.decoder self.new.session.progress)
             ≡ (state self.old.stage (S.told self.old.source)
             (⟦<Replies<D, A> as ByteDrain>⟧.told self.old.replies) self.old.session.decoder self.old.session.progress) }
-        ensures held { is_settled ≡ false → self.new.replies ≡ self.old.replies }
-        ensures ends { is_settled ≡ false → result ≡ Ends }
+        ensures held { settled < self.old.awaited → self.new.replies ≡ self.old.replies }
+        ensures ends { settled < self.old.awaited → result ≡ Ends }
         ensures sent { result ≡ Settles → ⊥ }
     {
-        if !is_settled {
+        if self.awaited > settled {
             return Next::Ends;
         }
         self.awaited = 0;

@@ -2,8 +2,8 @@
 
 ghost use Rattle.std.specs.Prelude.{◌≡◌};
 
-use crate::records::replies_to;
-use append_log::{FuseSink, Log, LoggedOwner, MemorySink, SinkFault, SyncHandle, Syncer};
+use crate::records::{Logged, replies_to};
+use append_log::{FuseHandle, FuseSink, Log, LoggedOwner, MemorySink, Syncer};
 use std::alloc::Global;
 use std::cell::Cell;
 use std::hash::RandomState;
@@ -15,12 +15,12 @@ use zset_core::{OneOwner, Refusal};
 
 type Sink = FuseSink<MemorySink<Global>>;
 
-/// A log that was left three records, each by one call of a sink that fails at the call of this number.
-fn log_of_three<L: Ledger>(
+/// An owner whose log has three records, each by one call of a sink that fails at the call of this number.
+fn owner_of_three<L: Ledger>(
     rt: &HostRuntime,
     blank: Blank,
     fails_at: u64,
-) -> Result<Log<Sink, L>, Fail>
+) -> Result<Logged<Sink, L>, Fail>
     requires name { blank.name ≡ L.name }
     requires parts { blank.parts ≡ L.parts }
     requires two { blank.parts ≡ 2 }
@@ -33,7 +33,20 @@ fn log_of_three<L: Ledger>(
     if replies_to(alloc, &mut owner, &changes)?.as_str() != ":1~ :0~ :1~ :1~ " {
         return Err("other replies")?;
     }
-    let (_, log) = owner.into_parts();
+    Ok(owner)
+}
+
+/// Its log alone.
+fn log_of_three<L: Ledger>(
+    rt: &HostRuntime,
+    blank: Blank,
+    fails_at: u64,
+) -> Result<Log<Sink, L>, Fail>
+    requires name { blank.name ≡ L.name }
+    requires parts { blank.parts ≡ L.parts }
+    requires two { blank.parts ≡ 2 }
+{
+    let (_, log) = owner_of_three::<L>(rt, blank, fails_at)?.into_parts();
     Ok(log)
 }
 
@@ -84,29 +97,40 @@ fn a_failed_sync_settles_nothing(rt: HostRuntime) -> Result<(), Fail> {
     Ok(())
 }
 
-/// A way to bytes that are no file's. It counts its syncs, and one of them fails.
-#[derive(Drop)]
-struct TestHandle<'c> {
-    syncs: &'c Cell<u64>,
+/// Whether an owner's records are settled before and behind a sync, how that went, and what a change and a reading are
+/// answered then.
+fn owner_synced<L: Ledger>(
+    rt: &HostRuntime,
+    blank: Blank,
     fails_at: u64,
-    calls: u64,
-    failures: u64,
+) -> Result<([bool; 2], u8, String), Fail>
+    requires name { blank.name ≡ L.name }
+    requires parts { blank.parts ≡ L.parts }
+    requires two { blank.parts ≡ 2 }
+{
+    let mut owner = owner_of_three::<L>(rt, blank, fails_at)?;
+    let before = owner.is_settled();
+    let synced = outcome(owner.sync());
+    let behind = owner.is_settled();
+    let replies = replies_to(rt.alloc(), &mut owner, &["ZADD k 3 b", "ZCARD k"])?;
+    Ok(([before, behind], synced, replies))
 }
 
-impl<'c> SyncHandle for TestHandle<'c> {
-    ghost calls = { λ h. h.calls };
+/// The same, with a ledger of its own.
+fn owner_told(rt: &HostRuntime, fails_at: u64) -> Result<([bool; 2], u8, String), Fail> {
+    owner_synced::<Brand>(rt, Blank::new(2), fails_at)
+}
 
-    ghost failures = { λ h. h.failures };
-
-    fn sync(&mut self) -> Result<(), SinkFault> {
-        self.calls = self.calls.saturating_add(1);
-        self.syncs.set(self.calls);
-        if self.calls == self.fails_at {
-            self.failures = self.failures.saturating_add(1);
-            return Err(SinkFault);
-        }
-        Ok(())
-    }
+// An owner syncs its log; behind a failure it changes nothing more, and still answers what it holds.
+#[test]
+fn an_owner_settles_its_records(rt: HostRuntime) -> Result<(), Fail> {
+    let (settled, synced, replies) = owner_told(&rt, 0)?;
+    assert_eq!(rt; (settled, synced), ([false, true], 0));
+    assert_eq!(rt; replies.as_str(), ":1~ :2~ ");
+    let (settled, synced, replies) = owner_told(&rt, 4)?;
+    assert_eq!(rt; (settled, synced), ([false, false], 16));
+    assert_eq!(rt; replies.as_str(), "r14 :1~ ");
+    Ok(())
 }
 
 /// How many records are settled, 99 where they can't be.
@@ -122,12 +146,7 @@ fn settled_beside<L: Ledger, R: Wait>(
     fails_at: u64,
 ) -> ([u64; 4], bool) {
     let syncs = Cell::new(0);
-    let handle = TestHandle {
-        syncs: &syncs,
-        fails_at,
-        calls: 0,
-        failures: 0,
-    };
+    let handle = FuseHandle::new(&syncs, fails_at);
     let mut syncer = Syncer::new(handle);
     let log = Mutex::new(log);
     let second = count(syncer.settle(rt, &log, 2));

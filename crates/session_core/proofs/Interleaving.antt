@@ -1,5 +1,6 @@
--- Sessions that share an executor: each goes on as if it were served alone, among the others.
-use Rattle.std.proofs.Common.{◌≡◌, ℕ, List, [], ◌∷◌, ◌++◌, refl, sym, Bool, true, false, Result, Option, Some, None, Ok, Err, MatchResult, ◌⊎◌, inl, inr}
+-- Sessions between whose exchanges the state goes on: others share the executor, or its log is synced. Each goes on as if it were
+-- served alone.
+use Rattle.std.proofs.Common.{◌≡◌, ℕ, List, [], ◌∷◌, ◌++◌, refl, sym, subst, Bool, true, false, Result, Option, Some, None, Ok, Err, MatchResult, ◌⊎◌, inl, inr}
 use Rattle.std.specs.Io.KnownBytes.{prepend_known}
 use Rattle.resp_wire.specs.declared.fault.ProtocolFault.{ProtocolFault}
 use Rattle.resp_wire.specs.Stream.{requests, rest, fault}
@@ -14,56 +15,47 @@ use Rattle.session_core.specs.declared.fault.SessionFault.TheVariants.{NoMemory,
 use Rattle.session_core.specs.Exchange.{Exchanges}
 use Rattle.session_core.specs.SessionEnd.{Replied, Broken, Finished, Served, Ends}
 use Rattle.session_core.specs.ServeSteps.{Underway, fed}
-use Rattle.session_core.specs.Interleaved.{Moves, Talk, Turn, Follows, PartWay, TakesTurns}
+use Rattle.session_core.specs.Interleaved.{Moves, Talk, TalkBetween, Turn, Follows, PartWay, TakesTurns}
 use Rattle.session_core.proofs.ExchangeLemmas.{exchanges-append}
 use Rattle.session_core.proofs.HeldRequests.{halted_unfed}
 use Rattle.session_core.proofs.ServeProgress.{begins, finishes}
 use Rattle.session_core.proofs.TurnProgress.{reads, answered, halfway, halted, breaks}
 
-module _ {S : Type 0} (allows : S → Asked → Result Response Refusal → S → Type 0) where
-  pub moves-refl : (s : S) → Moves allows s s
-  moves-refl s = record { requests = []; replies = []; exchanges = refl }
-
-  pub moves-trans : (a b c : S) → Moves allows a b → Moves allows b c → Moves allows a c
-  moves-trans a b c x y = record {
-    requests = x.requests ++ y.requests;
-    replies = x.replies ++ y.replies;
-    exchanges = exchanges-append allows a b c x.requests x.replies y.requests y.replies x.exchanges y.exchanges;
-  }
-
-  -- others were served first
-  moved-first : (s m t : S) (qs : List (List (List ℕ))) (rs : List Response) → Moves allows s m → Talk allows m qs rs t → Talk allows s qs rs t
-  moved-first s m t [] [] moves talk = moves-trans s m t moves talk
-  moved-first s m t (q ∷ qs) (r ∷ rs) moves (before, after, first, exchange, others) = (before, after, moves-trans s m before moves first, exchange, others)
+-- what may go on between the exchanges of a session
+module _ {S : Type 0} (allows : S → Asked → Result Response Refusal → S → Type 0) (between : S → S → Type 0) (refl_at : (s : S) → between s s) (trans : (a b c : S) → between a b → between b c → between a c) where
+  -- the state went on first
+  moved-first : (s m t : S) (qs : List (List (List ℕ))) (rs : List Response) → between s m → TalkBetween allows between m qs rs t → TalkBetween allows between s qs rs t
+  moved-first s m t [] [] moves talk = trans s m t moves talk
+  moved-first s m t (q ∷ qs) (r ∷ rs) moves (before, after, first, exchange, others) = (before, after, trans s m before moves first, exchange, others)
   moved-first s m t [] (r ∷ rs) moves talk = absurd talk
   moved-first s m t (q ∷ qs) [] moves talk = absurd talk
 
-  -- others were served last
-  moved-last : (s m t : S) (qs : List (List (List ℕ))) (rs : List Response) → Talk allows s qs rs m → Moves allows m t → Talk allows s qs rs t
-  moved-last s m t [] [] talk moves = moves-trans s m t talk moves
+  -- the state went on last
+  pub moved-last : (s m t : S) (qs : List (List (List ℕ))) (rs : List Response) → TalkBetween allows between s qs rs m → between m t → TalkBetween allows between s qs rs t
+  moved-last s m t [] [] talk moves = trans s m t talk moves
   moved-last s m t (q ∷ qs) (r ∷ rs) (before, after, first, exchange, others) moves = (before, after, first, exchange, moved-last after m t qs rs others moves)
   moved-last s m t [] (r ∷ rs) talk moves = absurd talk
   moved-last s m t (q ∷ qs) [] talk moves = absurd talk
 
-  talk-append : (s m t : S) (qs : List (List (List ℕ))) (rs : List Response) (more : List (List (List ℕ))) (others : List Response) → Talk allows s qs rs m → Talk allows m more others t → Talk allows s (qs ++ more) (rs ++ others) t
+  talk-append : (s m t : S) (qs : List (List (List ℕ))) (rs : List Response) (more : List (List (List ℕ))) (others : List Response) → TalkBetween allows between s qs rs m → TalkBetween allows between m more others t → TalkBetween allows between s (qs ++ more) (rs ++ others) t
   talk-append s m t [] [] more others moves talk = moved-first s m t more others moves talk
   talk-append s m t (q ∷ qs) (r ∷ rs) more others (before, after, first, exchange, behind) talk = (before, after, first, exchange, talk-append after m t qs rs more others behind talk)
   talk-append s m t [] (r ∷ rs) more others none talk = absurd none
   talk-append s m t (q ∷ qs) [] more others none talk = absurd none
 
-  -- exchanges with no others between them
-  undisturbed : (s t : S) (qs : List (List (List ℕ))) (rs : List Response) → Exchanges allows s qs rs t → Talk allows s qs rs t
-  undisturbed s t [] [] same = record { requests = []; replies = []; exchanges = same }
-  undisturbed s t (q ∷ qs) (r ∷ rs) h = (s, h.0, moves-refl s, h.1, undisturbed h.0 t qs rs h.2)
+  -- exchanges with nothing between them
+  undisturbed : (s t : S) (qs : List (List (List ℕ))) (rs : List Response) → Exchanges allows s qs rs t → TalkBetween allows between s qs rs t
+  undisturbed s t [] [] same = subst (between s) (sym same) (refl_at s)
+  undisturbed s t (q ∷ qs) (r ∷ rs) h = (s, h.0, refl_at s, h.1, undisturbed h.0 t qs rs h.2)
   undisturbed s t [] (r ∷ rs) h = absurd h
   undisturbed s t (q ∷ qs) [] h = absurd h
 
-  talk-on : (s m t : S) (qs : List (List (List ℕ))) (rs : List Response) (more : List (List (List ℕ))) (others : List Response) → Talk allows s qs rs m → Exchanges allows m more others t → Talk allows s (qs ++ more) (rs ++ others) t
+  pub talk-on : (s m t : S) (qs : List (List (List ℕ))) (rs : List Response) (more : List (List (List ℕ))) (others : List Response) → TalkBetween allows between s qs rs m → Exchanges allows m more others t → TalkBetween allows between s (qs ++ more) (rs ++ others) t
   talk-on s m t qs rs more others talk exchanges = talk-append s m t qs rs more others talk (undisturbed m t more others exchanges)
 
-  -- others were served, and the session is under way as before
-  pub still : (start : S) (source₀ source₁ drain₀ drain₁ : Option (List ℕ)) (before here : S) (wire : DecoderView) (progress : Progress) → Underway (Talk allows) start source₀ source₁ drain₀ drain₁ before wire progress → Moves allows before here
-      → Underway (Talk allows) start source₀ source₁ drain₀ drain₁ here wire progress
+  -- the state went on, and the session is under way as before
+  pub still : (start : S) (source₀ source₁ drain₀ drain₁ : Option (List ℕ)) (before here : S) (wire : DecoderView) (progress : Progress) → Underway (TalkBetween allows between) start source₀ source₁ drain₀ drain₁ before wire progress → between before here
+      → Underway (TalkBetween allows between) start source₀ source₁ drain₀ drain₁ here wire progress
   still start source₀ source₁ drain₀ drain₁ before here wire progress way moves = record {
     read = way.read;
     written = way.written;
@@ -81,8 +73,8 @@ module _ {S : Type 0} (allows : S → Asked → Result Response Refusal → S �
     count_is = way.count_is;
   }
 
-  still_part : (start before here : S) (source₀ source₁ drain₀ drain₁ : Option (List ℕ)) (wire : DecoderView) (progress : Progress) → PartWay (Talk allows) start source₀ source₁ drain₀ drain₁ before wire progress → Moves allows before here
-      → PartWay (Talk allows) start source₀ source₁ drain₀ drain₁ here wire progress
+  pub still_part : (start before here : S) (source₀ source₁ drain₀ drain₁ : Option (List ℕ)) (wire : DecoderView) (progress : Progress) → PartWay (TalkBetween allows between) start source₀ source₁ drain₀ drain₁ before wire progress → between before here
+      → PartWay (TalkBetween allows between) start source₀ source₁ drain₀ drain₁ here wire progress
   still_part start before here source₀ source₁ drain₀ drain₁ wire progress part moves = record {
     read = part.read;
     written = part.written;
@@ -102,12 +94,12 @@ module _ {S : Type 0} (allows : S → Asked → Result Response Refusal → S �
     count_is = part.count_is;
   }
 
-  -- others were served, and the session has ended as before
-  module _ (start before here : S) (moves : Moves allows before here) where
-    still_replied : (asked : List (List (List ℕ))) (written : List ℕ) → Replied (Talk allows) start asked written before → Replied (Talk allows) start asked written here
+  -- the state went on, and the session has ended as before
+  module _ (start before here : S) (moves : between before here) where
+    still_replied : (asked : List (List (List ℕ))) (written : List ℕ) → Replied (TalkBetween allows between) start asked written before → Replied (TalkBetween allows between) start asked written here
     still_replied asked written r = record { replies = r.replies; exchanges = moved-last start before here asked r.replies r.exchanges moves; written_is = r.written_is }
 
-    still_broken : (kept : List Response → List ℕ → Type 0) (asked : List (List (List ℕ))) (written : List ℕ) → Broken (Talk allows) kept start asked written before → Broken (Talk allows) kept start asked written here
+    still_broken : (kept : List Response → List ℕ → Type 0) (asked : List (List (List ℕ))) (written : List ℕ) → Broken (TalkBetween allows between) kept start asked written before → Broken (TalkBetween allows between) kept start asked written here
     still_broken kept asked written b = record {
       run = b.run;
       left = b.left;
@@ -117,7 +109,7 @@ module _ {S : Type 0} (allows : S → Asked → Result Response Refusal → S �
       cut = b.cut;
     }
 
-    still_faulted : (asked : List (List (List ℕ))) (behind : Option ProtocolFault) (so_far : ℕ) (end : SessionFault) (written : List ℕ) → Ends (Talk allows) start asked behind so_far end written before → Ends (Talk allows) start asked behind so_far end written here
+    still_faulted : (asked : List (List (List ℕ))) (behind : Option ProtocolFault) (so_far : ℕ) (end : SessionFault) (written : List ℕ) → Ends (TalkBetween allows between) start asked behind so_far end written before → Ends (TalkBetween allows between) start asked behind so_far end written here
     still_faulted asked behind so_far NoMemory written e = still_broken _ asked written e
     still_faulted asked behind so_far ReadFault written e = (still_replied asked written e.0, e.1)
     still_faulted asked behind so_far TooManyReads written e = (still_replied asked written e.0, e.1)
@@ -139,7 +131,7 @@ module _ {S : Type 0} (allows : S → Asked → Result Response Refusal → S �
       }),
     )
 
-    still_finished : (read : List ℕ) (ended : Ended) (written : List ℕ) → Finished (Talk allows) start read ended written before → Finished (Talk allows) start read ended written here
+    still_finished : (read : List ℕ) (ended : Ended) (written : List ℕ) → Finished (TalkBetween allows between) start read ended written before → Finished (TalkBetween allows between) start read ended written here
     still_finished read ended written f = record {
       replied = still_replied (requests read) written f.replied;
       unfaulted = f.unfaulted;
@@ -147,7 +139,7 @@ module _ {S : Type 0} (allows : S → Asked → Result Response Refusal → S �
       rest_is = f.rest_is;
     }
 
-    still_ended : (source₀ source₁ drain₀ drain₁ : Option (List ℕ)) (result : Result Ended SessionFault) → Served (Talk allows) start source₀ source₁ drain₀ drain₁ result before → Served (Talk allows) start source₀ source₁ drain₀ drain₁ result here
+    pub still_ended : (source₀ source₁ drain₀ drain₁ : Option (List ℕ)) (result : Result Ended SessionFault) → Served (TalkBetween allows between) start source₀ source₁ drain₀ drain₁ result before → Served (TalkBetween allows between) start source₀ source₁ drain₀ drain₁ result here
     still_ended source₀ source₁ drain₀ drain₁ result served = record {
       read = served.read;
       written = served.written;
@@ -158,17 +150,31 @@ module _ {S : Type 0} (allows : S → Asked → Result Response Refusal → S �
     }
       where
         line : (result : Result Ended SessionFault)
-            → MatchResult result (λ ended. Finished (Talk allows) start served.read ended served.written before) (λ end. Ends (Talk allows) start (requests served.read) (fault served.read) 0 end served.written before)
-            → MatchResult result (λ ended. Finished (Talk allows) start served.read ended served.written here) (λ end. Ends (Talk allows) start (requests served.read) (fault served.read) 0 end served.written here)
+            → MatchResult result (λ ended. Finished (TalkBetween allows between) start served.read ended served.written before) (λ end. Ends (TalkBetween allows between) start (requests served.read) (fault served.read) 0 end served.written before)
+            → MatchResult result (λ ended. Finished (TalkBetween allows between) start served.read ended served.written here) (λ end. Ends (TalkBetween allows between) start (requests served.read) (fault served.read) 0 end served.written here)
         line (Ok ended) finished = still_finished served.read ended served.written finished
         line (Err end) ends = still_faulted (requests served.read) (fault served.read) 0 end served.written ends
+
+module _ {S : Type 0} (allows : S → Asked → Result Response Refusal → S → Type 0) where
+  pub moves-refl : (s : S) → Moves allows s s
+  moves-refl s = record { requests = []; replies = []; exchanges = refl }
+
+  pub moves-trans : (a b c : S) → Moves allows a b → Moves allows b c → Moves allows a c
+  moves-trans a b c x y = record {
+    requests = x.requests ++ y.requests;
+    replies = x.replies ++ y.replies;
+    exchanges = exchanges-append allows a b c x.requests x.replies y.requests y.replies x.exchanges y.exchanges;
+  }
+
+  moved_on : (s m t : S) (qs : List (List (List ℕ))) (rs : List Response) (more : List (List (List ℕ))) (others : List Response) → Talk allows s qs rs m → Exchanges allows m more others t → Talk allows s (qs ++ more) (rs ++ others) t
+  moved_on = talk-on allows (Moves allows) moves-refl moves-trans
 
   module _ (start here there : S) (source₀ source₁ drain₀ drain₁ drain₂ : Option (List ℕ)) (wire new : DecoderView) (progress after : Progress) where
     follows : (result : Result Bool SessionFault) → PartWay (Talk allows) start source₀ source₁ drain₀ drain₁ here wire progress → Turn allows here wire progress drain₁ result there new after drain₂
         → Follows allows start source₀ source₁ drain₀ drain₂ result there new after
-    follows (Ok true) part turn = answered allows (Talk allows) talk-on start source₀ drain₀ source₁ drain₁ here wire progress part there new after drain₂ turn
-    follows (Ok false) part turn = halfway allows (Talk allows) talk-on start source₀ drain₀ source₁ drain₁ here wire progress part there new after drain₂ turn
-    follows (Err end) part turn = halted allows (Talk allows) talk-on start source₀ drain₀ source₁ drain₁ here wire progress part there end drain₂ turn
+    follows (Ok true) part turn = answered allows (Talk allows) moved_on start source₀ drain₀ source₁ drain₁ here wire progress part there new after drain₂ turn
+    follows (Ok false) part turn = halfway allows (Talk allows) moved_on start source₀ drain₀ source₁ drain₁ here wire progress part there new after drain₂ turn
+    follows (Err end) part turn = halted allows (Talk allows) moved_on start source₀ drain₀ source₁ drain₁ here wire progress part there end drain₂ turn
 
   -- the requests of a turn are moves
   moved_to : (here there : S) (asked : List (List (List ℕ))) (behind : Option ProtocolFault) (before : ℕ) (end : SessionFault) (written : List ℕ) → Ends (Exchanges allows) here asked behind before end written there → Moves allows here there
@@ -187,17 +193,17 @@ module _ {S : Type 0} (allows : S → Asked → Result Response Refusal → S �
   module _ (requests_cut : (a b : List ℕ) → requests (a ++ b) ≡ requests a ++ requests (rest a ++ b)) (rest_cut : (a b : List ℕ) → rest (a ++ b) ≡ rest (rest a ++ b)) (fault_cut : (a b : List ℕ) → fault (a ++ b) ≡ fault (rest a ++ b)) where
     pub takes_turns : TakesTurns allows
     takes_turns = record {
-      begins = λ start source drain. begins allows (Talk allows) moves-refl talk-on start source drain;
-      waits = λ start before here source₀ source₁ drain₀ drain₁ wire progress way moves. still start source₀ source₁ drain₀ drain₁ before here wire progress way moves;
-      waits_part = λ start before here source₀ source₁ drain₀ drain₁ wire progress part moves. still_part start before here source₀ source₁ drain₀ drain₁ wire progress part moves;
-      waits_ended = λ start before here source₀ source₁ drain₀ drain₁ result served moves. still_ended start before here moves source₀ source₁ drain₀ drain₁ result served;
+      begins = λ start source drain. begins allows (Talk allows) moves-refl moved_on start source drain;
+      waits = λ start before here source₀ source₁ drain₀ drain₁ wire progress way moves. still allows (Moves allows) moves-refl moves-trans start source₀ source₁ drain₀ drain₁ before here wire progress way moves;
+      waits_part = λ start before here source₀ source₁ drain₀ drain₁ wire progress part moves. still_part allows (Moves allows) moves-refl moves-trans start before here source₀ source₁ drain₀ drain₁ wire progress part moves;
+      waits_ended = λ start before here source₀ source₁ drain₀ drain₁ result served moves. still_ended allows (Moves allows) moves-refl moves-trans start before here moves source₀ source₁ drain₀ drain₁ result served;
       reads = λ start here source₀ source₁ source₂ drain₀ drain₁ wire progress piece way given. reads (Talk allows) start source₀ drain₀ source₁ source₂ drain₁ here wire progress way piece given requests_cut rest_cut fault_cut;
       turns = λ start here there source₀ source₁ drain₀ drain₁ drain₂ wire new progress after result part turn. follows start here there source₀ source₁ drain₀ drain₁ drain₂ wire new progress after result part turn;
       ends = λ start here source₀ source₁ source₂ drain₀ drain₁ wire progress ended way given at_end count left.
-          finishes allows (Talk allows) moves-refl talk-on start source₀ drain₀ source₁ drain₁ here wire progress way drain₁ refl source₂ here ended
+          finishes allows (Talk allows) moves-refl moved_on start source₀ drain₀ source₁ drain₁ here wire progress way drain₁ refl source₂ here ended
           (record { read_is = given; at_end = at_end; told_is = refl; stays = refl; requests_are = count; rest_is = left });
       breaks = λ start here source₀ source₁ source₂ drain₀ drain₁ wire progress way given. breaks (Talk allows) start source₀ drain₀ source₁ source₂ drain₁ here wire progress way given;
       lacks = λ start here source₀ source₁ source₂ drain₀ drain₁ wire progress piece way given.
-          halted allows (Talk allows) talk-on start source₀ drain₀ source₂ drain₁ here (fed wire piece) progress (reads (Talk allows) start source₀ drain₀ source₁ source₂ drain₁ here wire progress way piece given requests_cut rest_cut fault_cut)
+          halted allows (Talk allows) moved_on start source₀ drain₀ source₂ drain₁ here (fed wire piece) progress (reads (Talk allows) start source₀ drain₀ source₁ source₂ drain₁ here wire progress way piece given requests_cut rest_cut fault_cut)
           here NoMemory drain₁ (halted_unfed allows here (requests (wire.held ++ piece)) (fault (wire.held ++ piece)) progress.out drain₁);
     }

@@ -4,3 +4,5 @@ pub mod ServeProgress
 pub mod WorkerLemmas
 pub mod TurnProgress
 pub mod Interleaving
+pub mod SyncedLemmas
+pub mod DeferredProgress

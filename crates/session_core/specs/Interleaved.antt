@@ -29,19 +29,24 @@ pub record PartWay {S : Type 0} (talk : S → List (List (List ℕ)) → List Re
   pub out_is : progress.out ≡ length written
   pub count_is : progress.requests ≡ length given
 
-module _ {S : Type 0} (allows : S → Asked → Result Response Refusal → S → Type 0) where
-  -- requests, of whichever session, led from one state to the other
-  pub record Moves (old new : S) : Type 0 where
-    pub requests : List (List (List ℕ))
-    pub replies : List Response
-    pub exchanges : Exchanges allows old requests replies new
+-- requests, of whichever session, led from one state to the other
+pub record Moves {S : Type 0} (allows : S → Asked → Result Response Refusal → S → Type 0) (old new : S) : Type 0 where
+  pub requests : List (List (List ℕ))
+  pub replies : List Response
+  pub exchanges : Exchanges allows old requests replies new
 
-  -- requests in turn, each with its reply; before each of them, and behind the last, others may have been served
+-- requests in turn, each with its reply; before each of them, and behind the last, the state may have gone this way
+module _ {S : Type 0} (allows : S → Asked → Result Response Refusal → S → Type 0) (between : S → S → Type 0) where
+  abbrev pub TalkBetween : S → List (List (List ℕ)) → List Response → S → Type 0
+  TalkBetween old [] [] new = between old new
+  TalkBetween old (words ∷ requests) (reply ∷ replies) new = (before : S) × (after : S) × between old before × Exchange allows before words reply after × TalkBetween after requests replies new
+  TalkBetween old [] (reply ∷ replies) new = ⊥
+  TalkBetween old (words ∷ requests) [] new = ⊥
+
+module _ {S : Type 0} (allows : S → Asked → Result Response Refusal → S → Type 0) where
+  -- what is said in one session, where others may be served between
   abbrev pub Talk : S → List (List (List ℕ)) → List Response → S → Type 0
-  Talk old [] [] new = Moves old new
-  Talk old (words ∷ requests) (reply ∷ replies) new = (before : S) × (after : S) × Moves old before × Exchange allows before words reply after × Talk after requests replies new
-  Talk old [] (reply ∷ replies) new = ⊥
-  Talk old (words ∷ requests) [] new = ⊥
+  Talk = TalkBetween allows (Moves allows)
 
   -- a turn: all requests that are held were answered, or the first of them, or the session ended at them
   abbrev pub Turn : S → DecoderView → Progress → Option (List ℕ) → Result Bool SessionFault → S → DecoderView → Progress → Option (List ℕ) → Type 0
@@ -62,11 +67,11 @@ module _ {S : Type 0} (allows : S → Asked → Result Response Refusal → S �
     pub begins : (start : S) (source drain : Option (List ℕ)) → Underway Talk start source source drain drain start (record { held = []; taken = 0; fault = None }) (record { requests = 0; out = 0 })
     -- others are served
     pub waits : (start before here : S) (source₀ source₁ drain₀ drain₁ : Option (List ℕ)) (wire : DecoderView) (progress : Progress)
-        → Underway Talk start source₀ source₁ drain₀ drain₁ before wire progress → Moves before here → Underway Talk start source₀ source₁ drain₀ drain₁ here wire progress
+        → Underway Talk start source₀ source₁ drain₀ drain₁ before wire progress → Moves allows before here → Underway Talk start source₀ source₁ drain₀ drain₁ here wire progress
     pub waits_part : (start before here : S) (source₀ source₁ drain₀ drain₁ : Option (List ℕ)) (wire : DecoderView) (progress : Progress)
-        → PartWay Talk start source₀ source₁ drain₀ drain₁ before wire progress → Moves before here → PartWay Talk start source₀ source₁ drain₀ drain₁ here wire progress
+        → PartWay Talk start source₀ source₁ drain₀ drain₁ before wire progress → Moves allows before here → PartWay Talk start source₀ source₁ drain₀ drain₁ here wire progress
     pub waits_ended : (start before here : S) (source₀ source₁ drain₀ drain₁ : Option (List ℕ)) (result : Result Ended SessionFault)
-        → Served Talk start source₀ source₁ drain₀ drain₁ result before → Moves before here → Served Talk start source₀ source₁ drain₀ drain₁ result here
+        → Served Talk start source₀ source₁ drain₀ drain₁ result before → Moves allows before here → Served Talk start source₀ source₁ drain₀ drain₁ result here
     -- a piece is read
     pub reads : (start here : S) (source₀ source₁ source₂ drain₀ drain₁ : Option (List ℕ)) (wire : DecoderView) (progress : Progress) (piece : List ℕ)
         → Underway Talk start source₀ source₁ drain₀ drain₁ here wire progress → source₁ ≡ prepend_known piece source₂

@@ -2,13 +2,14 @@
 
 ghost use Rattle.std.specs.Prelude.{◌≡◌, ℕ, ◌+◌, ◌-◌, ◌≤◌, ◌<◌, ◌^◌, [], ◌++◌, length, min, true, false, None, Err, IfErr, IfOk, OnOk, OnSome, MatchResult};
 ghost use Rattle.resp_wire.specs.Stream.{requests, fault};
+ghost use Rattle.resp_wire.specs.declared.fault.ProtocolFault.{ProtocolFault};
 ghost use Rattle.std.specs.Io.KnownBytes.{IsAtEnd};
 ghost use Rattle.resp_wire.specs.Device.{Rose, saturating_succ};
 ghost use Rattle.session_core.specs.Exchange.{Exchanges};
 ghost use Rattle.session_core.specs.SessionEnd.{Served};
 ghost use Rattle.session_core.specs.Interleaved.{TakesTurns};
 ghost use Rattle.session_core.specs.SendOutcome.{DrainFailed, SourceFailed, SentOn};
-ghost use Rattle.session_core.specs.declared.fault.SessionFault.TheVariants.{NoMemory, WriteFault, TooManyReads};
+ghost use Rattle.session_core.specs.declared.fault.SessionFault.TheVariants.{NoMemory, WriteFault, Wire, TooManyReads};
 ghost use Rattle.session_core.specs.ServeSteps.{IsSmall, IsBetweenReads, StaysSmall, AnsweredOne, HaltedOne, Halfway, Answered, Halted, Round, fed};
 
 use crate::exec::{Exec, respond};
@@ -171,6 +172,11 @@ impl<A: Allocator + Copy> Session<A> {
             (λ end. Halted E.allows exec.old (requests self.old.decoder.held)
             (fault self.old.decoder.held) self.old.progress.out (D.told drain.old) end exec.new
             (D.told drain.new)) }
+        // Where a fault of the protocol was told, its text is counted with the bytes that are out.
+        ensures counted { (told : ProtocolFault) → result ≡ Err (Wire told)
+            → Halted E.allows exec.old (requests self.old.decoder.held)
+            (fault self.old.decoder.held) self.old.progress.out (D.told drain.old)
+            (WriteFault self.new.progress.out) exec.new (D.told drain.new) }
         ensures failures { MatchResult result (λ _. D.failures drain.new ≡ D.failures drain.old)
             (λ end. DrainFailed end (D.failures drain.old) (D.failures drain.new)) }
         ensures sent_on { IfErr result
@@ -330,7 +336,7 @@ fn flush<D: ByteDrain>(drain: &mut D, progress: &Progress) -> Result<(), Session
 const REPLY_ROOM: usize = 128;
 
 /// Where pieces of the input are read into, and a session before its first read.
-fn begun<A: Allocator + Copy>(
+pub(crate) fn begun<A: Allocator + Copy>(
     alloc: A,
     buffer: usize,
 ) -> Result<(Vec<u8, A>, Session<A>), AllocError>

@@ -4,7 +4,7 @@ ghost use Rattle.std.specs.Prelude.{◌≡◌, ◌≤◌, None, IfOk};
 ghost use Rattle.set_table.specs.WorkerPasses.{IsPassOf};
 
 use crate::exchange::{Owner, Sets, answer, answers, owner_of, pair};
-use append_log::{Log, MemorySink, SinkFault, SyncHandle, Syncer};
+use append_log::{FuseHandle, Log, MemorySink, Syncer};
 use set_table::{NoGate, Pass, Table};
 use std::alloc::Global;
 use std::cell::Cell;
@@ -102,31 +102,6 @@ fn an_answer_tells_of_the_last_record_of_its_set(rt: HostRuntime) -> Result<(), 
     Ok(())
 }
 
-/// A way to bytes that are no file's. It counts its syncs, and one of them fails.
-#[derive(Drop)]
-struct TestHandle<'c> {
-    syncs: &'c Cell<u64>,
-    fails_at: u64,
-    calls: u64,
-    failures: u64,
-}
-
-impl<'c> SyncHandle for TestHandle<'c> {
-    ghost calls = { λ h. h.calls };
-
-    ghost failures = { λ h. h.failures };
-
-    fn sync(&mut self) -> Result<(), SinkFault> {
-        self.calls = self.calls.saturating_add(1);
-        self.syncs.set(self.calls);
-        if self.calls == self.fails_at {
-            self.failures = self.failures.saturating_add(1);
-            return Err(SinkFault);
-        }
-        Ok(())
-    }
-}
-
 /// The changes that are settled, one of which changes nothing: five records.
 const CHANGES: [&str; 6] = [
     "ZADD k 1 a",
@@ -152,12 +127,7 @@ fn settled_of<L: Ledger, R: Wait + AllocGlobal>(
 {
     let alloc = rt.alloc();
     let syncs = Cell::new(0);
-    let handle = TestHandle {
-        syncs: &syncs,
-        fails_at,
-        calls: 0,
-        failures: 0,
-    };
+    let handle = FuseHandle::new(&syncs, fails_at);
     let syncer = Mutex::new(Syncer::new(handle));
     let (table, first, _second) = opened_deferred::<L>(alloc, blank, owner)?;
     let mut pass = first;

@@ -7,6 +7,8 @@ mod cells;
 #[cfg(test)]
 mod commands;
 #[cfg(test)]
+mod deferred_sessions;
+#[cfg(test)]
 mod devices;
 #[cfg(test)]
 mod exchange;

@@ -3,13 +3,10 @@ use Rattle.std.specs.Prelude.{◌≡◌, ℕ, ◌+◌, ◌-◌, ◌^◌, ◌≤�
 use Rattle.std.specs.Io.KnownBytes.{append_known}
 use Rattle.resp_wire.specs.Device.{Rose}
 use Rattle.resp_wire.specs.FaultTexts.{number_of}
-use Rattle.zset_core.specs.AbstractCommand.{Asked}
-use Rattle.zset_core.specs.declared.refusal.Refusal.{Refusal}
 use Rattle.resp_wire.specs.Response.{Response}
 use Rattle.session_core.specs.declared.fault.Ended.{Ended}
 use Rattle.session_core.specs.declared.fault.SessionFault.{SessionFault}
 use Rattle.session_core.specs.declared.fault.SessionFault.TheVariants as ends
-use Rattle.session_core.specs.Exchange.{Exchanges}
 use Rattle.session_core.specs.SessionEnd.{Served}
 use Rattle.session_core.specs.SendOutcome.{SourceFailed, DrainFailed, SentOn}
 use Rattle.zcrackd.specs.DeviceStates.{SourceState, DrainState}
@@ -74,12 +71,12 @@ IsPrinted text (Err line) drain₀ drain₁ = ((line ≡ lines.OutOfMemory) × (
 abbrev pub most_reads : ℕ
 most_reads = 2 ^ 40
 
--- a session was served, and the program ends by how it ended; a device's count of failures rose only where the
+-- a session was served, in which this was said, and the program ends by how it ended; a device's count of failures rose only where the
 -- session ends by a fault of that device; the source's reads are told to be too many only after the most of them
-pub record Finishes {S : Type 0} (allows : S → Asked → Result Response Refusal → S → Type 0) (start : S)
+pub record Finishes {S : Type 0} (talk : S → List (List (List ℕ)) → List Response → S → Type 0) (start : S)
     (source₀ source₁ : SourceState) (drain₀ drain₁ : DrainState) (finish : Finish) (here : S) : Type 0 where
   pub result : Result Ended SessionFault
-  pub served : Served (Exchanges allows) start source₀.told source₁.told drain₀.told drain₁.told result here
+  pub served : Served talk start source₀.told source₁.told drain₀.told drain₁.told result here
   pub source_failures : MatchResult result (λ ended. source₁.failures ≡ source₀.failures) (λ end. SourceFailed end source₀.failures source₁.failures)
   pub drain_failures : MatchResult result (λ ended. drain₁.failures ≡ drain₀.failures) (λ end. DrainFailed end drain₀.failures drain₁.failures)
   pub reads : source₁.calls ≤ source₀.calls + most_reads

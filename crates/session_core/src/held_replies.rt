@@ -1,0 +1,169 @@
+//! Replies that are held back until they are let go.
+
+ghost use Rattle.std.specs.Prelude.{◌≡◌, ◌≤◌, ◌⊎◌, [], length, take, OnOk, MatchResult};
+ghost use Rattle.std.specs.Io.KnownBytes.{append_known};
+ghost use Rattle.resp_wire.specs.Device.{Rose, saturating_succ};
+ghost use Rattle.append_log.specs.Log.{Settles};
+ghost use Rattle.session_core.specs.Deferred.{IsSynced};
+
+use append_log::{LogSink, LoggedOwner};
+use resp_wire::{ByteDrain, Failed, write_all};
+use std::alloc::Allocator;
+use std::hash::BuildHasher;
+use std::sync::ledger::Ledger;
+use zset_core::Refusal;
+
+/// Settles an owner's records, by a sync where one is not settled yet.
+fn settle<H: BuildHasher + Clone + Drop, K: LogSink, L: Ledger, A: Allocator + Copy>(
+    owner: &mut LoggedOwner<H, K, L, A>,
+) -> Result<(), Refusal>
+    ensures settles { OnOk result (Settles owner.old.log owner.new.log) }
+    ensures synced { IsSynced owner.old owner.new }
+{
+    if owner.is_settled() {
+        return Ok(());
+    }
+    owner.sync()
+}
+
+/// A drain that takes all that is written to it and sends nothing, not even when it is flushed, before it is let go
+/// ([`HeldReplies::let_go`]). It tells the bytes that its inner drain took, and behind them those that it holds.
+#[derive(Drop)]
+pub struct HeldReplies<D, A: Allocator> {
+    inner: D,
+    held: Vec<u8, A>,
+    /// How many of the bytes held were written before the last flush.
+    flushed: usize,
+    calls: u64,
+    failures: u64,
+    ghost within: { flushed ≤ length held.items },
+}
+
+impl<D: ByteDrain, A: Allocator> HeldReplies<D, A> {
+    /// Holds nothing. It takes no memory.
+    pub fn new(alloc: A, inner: D) -> Self
+        ensures inner { result.inner ≡ inner }
+        ensures held { result.held.items ≡ [] }
+    {
+        HeldReplies {
+            inner,
+            held: Vec::new(alloc),
+            flushed: 0,
+            calls: 0,
+            failures: 0,
+        }
+    }
+
+    /// How many bytes are held.
+    pub fn len(&self) -> usize
+        ensures { result ≡ length self.now.held.items }
+    {
+        self.held.len()
+    }
+
+    /// The inner drain, and how many bytes were never sent to it.
+    pub fn into_parts(self) -> (D, usize)
+        ensures inner { result.0 ≡ self.inner }
+        ensures held { result.1 ≡ length self.held.items }
+    {
+        let HeldReplies {
+            inner,
+            held,
+            flushed: _,
+            calls: _,
+            failures: _,
+        } = self;
+        (inner, held.len())
+    }
+
+    /// Counts a failure.
+    fn fail(&mut self) -> Failed
+        ensures inner { self.new.inner ≡ self.old.inner }
+        ensures held { (self.new.held ≡ self.old.held) × (self.new.flushed ≡ self.old.flushed) }
+        ensures calls { self.new.calls ≡ self.old.calls }
+        ensures failures { self.new.failures ≡ saturating_succ self.old.failures }
+    {
+        self.failures = self.failures.saturating_add(1);
+        Failed
+    }
+
+    /// Sends what is held, and has the inner drain send it on.
+    ///
+    /// # Errors
+    ///
+    /// The inner drain failed. What it did not take is held as before.
+    fn send(&mut self) -> Result<(), Failed>
+        ensures told { ⟦<HeldReplies<D, A> as ByteDrain>⟧.told self.new
+            ≡ ⟦<HeldReplies<D, A> as ByteDrain>⟧.told self.old }
+        ensures none { OnOk result (self.new.held.items ≡ []) }
+        ensures sent { OnOk result (D.flushed self.new.inner ≡ ⟦<HeldReplies<D, A> as ByteDrain>⟧.told self.new) }
+        ensures failures { MatchResult result (λ _. self.new.failures ≡ self.old.failures)
+            (λ _. Rose self.old.failures self.new.failures) }
+    {
+        self.flushed = 0;
+        if let Err(taken) = write_all(&mut self.inner, &self.held) {
+            let len = self.held.len();
+            self.held.copy_within(taken.., 0);
+            self.held.truncate(len - taken);
+            return Err(self.fail());
+        }
+        self.held.clear();
+        match self.inner.flush() {
+            Ok(()) => Ok(()),
+            Err(_) => Err(self.fail()),
+        }
+    }
+
+    /// Lets go what is held, once all of the owner's records are settled: what is held may tell of any of them. Those that
+    /// are not settled yet are settled by a sync.
+    ///
+    /// # Errors
+    ///
+    /// The records can't be settled, and nothing leaves. Or the inner drain failed: what it did not take is held as before.
+    pub fn let_go<H: BuildHasher + Clone + Drop, K: LogSink, L: Ledger, B: Allocator + Copy>(
+        &mut self,
+        owner: &mut LoggedOwner<H, K, L, B>,
+    ) -> Result<(), Failed>
+        ensures told { ⟦<HeldReplies<D, A> as ByteDrain>⟧.told self.new
+            ≡ ⟦<HeldReplies<D, A> as ByteDrain>⟧.told self.old }
+        ensures none { OnOk result (self.new.held.items ≡ []) }
+        ensures sent { OnOk result (D.flushed self.new.inner ≡ ⟦<HeldReplies<D, A> as ByteDrain>⟧.told self.new) }
+        ensures settles { OnOk result (Settles owner.old.log owner.new.log) }
+        // Nothing leaves but behind a sync of all records.
+        ensures unsettled { (owner.new.log.settled ≡ owner.new.log.appended) ⊎ (self.new.inner ≡ self.old.inner) }
+        ensures synced { IsSynced owner.old owner.new }
+        ensures failures { MatchResult result (λ _. self.new.failures ≡ self.old.failures)
+            (λ _. Rose self.old.failures self.new.failures) }
+    {
+        match settle(owner) {
+            Ok(()) => self.send(),
+            Err(_) => Err(self.fail()),
+        }
+    }
+}
+
+impl<D: ByteDrain, A: Allocator> ByteDrain for HeldReplies<D, A> {
+    ghost told = { λ h. append_known (D.told h.inner) h.held.items };
+
+    ghost flushed = { λ h. append_known (D.told h.inner) (take h.flushed h.held.items) };
+
+    ghost calls = { λ h. h.calls };
+
+    ghost failures = { λ h. h.failures };
+
+    /// Holds all of the piece. It fails where no memory is left for it, and holds nothing more then.
+    fn write(&mut self, piece: &[u8]) -> Result<usize, Failed> {
+        self.calls = self.calls.saturating_add(1);
+        match self.held.extend_from_slice(piece) {
+            Ok(()) => Ok(piece.len()),
+            Err(_) => Err(self.fail()),
+        }
+    }
+
+    /// What is held goes on being held.
+    fn flush(&mut self) -> Result<(), Failed> {
+        self.calls = self.calls.saturating_add(1);
+        self.flushed = self.held.len();
+        Ok(())
+    }
+}
