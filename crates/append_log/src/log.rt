@@ -250,7 +250,7 @@ impl<S: LogSink, L: Ledger> Log<S, L> {
         self.appended
     }
 
-    /// Writes a record out whole, and syncs it, unless the log is deferred; `share` counts it for its holder. Takes no
+    /// Writes a record out whole, and syncs it, unless the log is deferred. `share` counts one record more then. It takes no
     /// memory of its own.
     ///
     /// # Errors
@@ -280,8 +280,8 @@ impl<S: LogSink, L: Ledger> Log<S, L> {
             × (self.old.appended ≢ self.old.limit) }
         ensures no_other { IsErr result → IsErrOf result Refusal.LogBroken
             ⊎ IsErrOf result Refusal.LogFull ⊎ IsErrOf result Refusal.LogRefused }
-        // Records that end the sink before the call end it afterwards with this one behind them, on Err
-        // with at most a prefix of it. Of a sink that does not tell its bytes this says nothing.
+        // Where the sink ends with such records before the call, it ends with them and this one afterwards; on
+        // Err with them and at most a prefix of one more. Of a sink that does not tell its bytes this says nothing.
         ensures records { (records : _) → HasRecords self.old records
             → HasRecords self.new (records_after records entry.now result) }
     {
@@ -352,8 +352,9 @@ impl<S: LogSink, L: Ledger> Log<S, L> {
         Ok(())
     }
 
-    /// The sink. A reload of what a crash leaves of the bytes that the log wrote meets no fault,
-    /// and replays the first of its records, all of them where the bytes reach the last good sync.
+    /// The sink. A reload of what a crash leaves of the bytes that the log wrote meets no fault, and replays the first of
+    /// its records: all that are settled, where the bytes reach the last good sync. Behind all that were appended one more
+    /// may stand, which was refused.
     pub fn into_sink(self) -> S
         ensures told { S.told result ≡ self.told }
         ensures synced { S.synced result ≡ self.synced }

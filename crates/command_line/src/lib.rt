@@ -2,8 +2,12 @@
 //! check and the command line changes rarely.
 #![tactic(auto)]
 
+mod limits;
 mod serve;
 
+pub use crate::limits::{
+    MAX_CLIENTS, MAX_CONNECTIONS, MAX_PLACES, MAX_RECORDS, MAX_TIMEOUT, MAX_WORKERS,
+};
 pub use crate::serve::{ServeTask, SyncMode};
 use crate::serve::{asked_serve, asked_sync, file_option, serve_command, sync_option};
 use clap::error::ErrorKind;

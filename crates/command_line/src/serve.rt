@@ -1,27 +1,12 @@
 //! What `zcrackd serve` is asked for.
 
 use crate::explain_option;
+use crate::limits::{
+    MAX_CLIENTS, MAX_CONNECTIONS, MAX_PLACES, MAX_RECORDS, MAX_TIMEOUT, MAX_WORKERS,
+};
 use clap::builder::ValueParser;
 use clap::{Arg, ArgAction, ArgMatches, Command};
 use std::alloc::{AllocError, Global};
-
-/// Workers: threads, each of which serves many connections.
-const MAX_WORKERS: u64 = 64;
-
-/// Places of the table of sets.
-const MAX_PLACES: u64 = 4096;
-
-/// Records that a server appends to its file.
-const MAX_RECORDS: u64 = 1 << 40;
-
-/// Connections after which a server ends.
-const MAX_CONNECTIONS: u64 = 1_000_000;
-
-/// Clients that are served at once.
-const MAX_CLIENTS: u64 = 64_000;
-
-/// Seconds for which a connection may send or take nothing: a day.
-const MAX_TIMEOUT: u64 = 86_400;
 
 /// When the changes that an append file keeps are brought to the device.
 #[derive(Clone, Copy, Debug, PartialEq, Eq)]

@@ -1,8 +1,9 @@
 //! Accepting connections, numbering them and sending them.
 
-ghost use Rattle.std.specs.Prelude.{ℕ, ◌≡◌, ◌+◌, ◌<◌, ◌≤◌, ◌⊎◌, ◌↔◌, true, [], IfOk, IsTrue, vec_len, vec_capacity};
+ghost use Rattle.std.specs.Prelude.{ℕ, ◌≡◌, ◌+◌, ◌<◌, ◌≤◌, ◌⊎◌, ◌↔◌, true, [], IfOk, IsTrue, Some, vec_len, vec_capacity};
 ghost use Rattle.crossbeam_channel.specs.Claims.{view, IsSeatAt};
 ghost use Rattle.crossbeam_channel.specs.Ends.{sends_on, receives_on, ruled_capacity};
+ghost use Rattle.hand_over.specs.declared.arrivals.ArrivalKind.TheVariants.{End, Failure};
 ghost use Rattle.hand_over.specs.ChannelInvariant.{tally, times, once_below, IsHandedOut};
 
 use crate::arrivals::{Arrival, Arrivals};
@@ -72,8 +73,8 @@ impl Unsent {
         ensures once { (k : ℕ) → A.came arrivals.new ≡ A.came arrivals.old + k → (x : ℕ) → once_below x (view pass.new).sent + times x self.new.numbers.items ≡ once_below x k }
         ensures room { ((view pass.new).sent + vec_len self.new.numbers ≤ limit) × (vec_capacity self.new.numbers ≡ vec_capacity self.old.numbers) }
         ensures came { A.came arrivals.old ≤ A.came arrivals.new }
-        ensures fault { IsTrue result ↔ (A.last arrivals.new ≡ 3) }
-        ensures stop { (A.came arrivals.new ≡ A.came arrivals.old + limit) ⊎ (A.last arrivals.new ≡ 2) ⊎ (A.last arrivals.new ≡ 3) }
+        ensures fault { IsTrue result ↔ (A.last arrivals.new ≡ Some Failure) }
+        ensures stop { (A.came arrivals.new ≡ A.came arrivals.old + limit) ⊎ (A.last arrivals.new ≡ Some End) ⊎ (A.last arrivals.new ≡ Some Failure) }
     {
         for number in 0..limit {
             match arrivals.arrive() {

@@ -16,7 +16,7 @@ mod outcome;
 mod scope;
 mod worker;
 
-pub use arrivals::{Arrival, Arrivals};
+pub use arrivals::{Arrival, ArrivalKind, Arrivals};
 pub use handler::{Bell, Handler};
 pub use outcome::{HandOverFault, HandedOver};
 pub use scope::hand_over;

@@ -1,9 +1,11 @@
 //! Connections in memory, handed over to recording handlers.
 
-ghost use Rattle.std.specs.Prelude.{◌≡◌, ◌+◌, ◌<◌, ◌≤◌, ◌^◌, IfOk, All, vec_len, ⊤};
+ghost use Rattle.std.specs.Prelude.{◌≡◌, Some, ◌+◌, ◌<◌, ◌≤◌, ◌^◌, IfOk, All, vec_len, ⊤};
 ghost use Rattle.hand_over.specs.Arriving.{came_after, kind_of};
 
-use hand_over::{Arrival, Arrivals, Bell, HandOverFault, HandedOver, Handler, hand_over};
+use hand_over::{
+    Arrival, ArrivalKind, Arrivals, Bell, HandOverFault, HandedOver, Handler, hand_over,
+};
 use std::alloc::{AllocError, AllocGlobal, Global};
 use std::process::Abort;
 use std::sync::Wait;
@@ -16,7 +18,7 @@ pub struct Row {
     all: u64,
     faults: bool,
     next: u64,
-    kind: u64,
+    last: Option<ArrivalKind>,
     is_closed: bool,
 }
 
@@ -25,7 +27,7 @@ pub fn row_of(all: u64, faults: bool) -> Row {
         all,
         faults,
         next: 0,
-        kind: 0,
+        last: None,
         is_closed: false,
     }
 }
@@ -35,23 +37,23 @@ impl Arrivals for Row {
 
     ghost came = { λ s. s.next };
 
-    ghost last = { λ s. s.kind };
+    ghost last = { λ s. s.last };
 
     fn arrive(&mut self) -> Arrival<u64>
         ensures came { self.new.next ≡ came_after result self.old.next }
-        ensures last { self.new.kind ≡ kind_of result }
+        ensures last { self.new.last ≡ Some (kind_of result) }
     {
         if self.next >= self.all || self.next == u64::MAX {
             if self.faults {
-                self.kind = 3;
+                self.last = Some(ArrivalKind::Failure);
                 return Arrival::Fault;
             }
-            self.kind = 2;
+            self.last = Some(ArrivalKind::End);
             return Arrival::Closed;
         }
         let number = self.next;
         self.next += 1;
-        self.kind = 1;
+        self.last = Some(ArrivalKind::Connection);
         Arrival::Came(number)
     }
 

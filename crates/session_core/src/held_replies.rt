@@ -44,6 +44,7 @@ impl<D: ByteDrain, A: Allocator> HeldReplies<D, A> {
     pub fn new(alloc: A, inner: D) -> Self
         ensures inner { result.inner ≡ inner }
         ensures held { result.held.items ≡ [] }
+        ensures uncalled { (result.calls ≡ 0) × (result.failures ≡ 0) }
     {
         HeldReplies {
             inner,
@@ -97,6 +98,7 @@ impl<D: ByteDrain, A: Allocator> HeldReplies<D, A> {
             ≡ ⟦<HeldReplies<D, A> as ByteDrain>⟧.told self.old }
         ensures none { OnOk result (self.new.held.items ≡ []) }
         ensures sent { OnOk result (D.flushed self.new.inner ≡ ⟦<HeldReplies<D, A> as ByteDrain>⟧.told self.new) }
+        ensures calls { self.new.calls ≡ self.old.calls }
         ensures failures { MatchResult result (λ _. self.new.failures ≡ self.old.failures)
             (λ _. Rose self.old.failures self.new.failures) }
     {
@@ -132,6 +134,7 @@ impl<D: ByteDrain, A: Allocator> HeldReplies<D, A> {
         // Nothing leaves but behind a sync of all records.
         ensures unsettled { (owner.new.log.settled ≡ owner.new.log.appended) ⊎ (self.new.inner ≡ self.old.inner) }
         ensures synced { IsSynced owner.old owner.new }
+        ensures calls { self.new.calls ≡ self.old.calls }
         ensures failures { MatchResult result (λ _. self.new.failures ≡ self.old.failures)
             (λ _. Rose self.old.failures self.new.failures) }
     {

@@ -9,6 +9,7 @@ use Rattle.zset_core.specs.AbstractCommand.{Asked, is_writing}
 use Rattle.zset_core.specs.SetAndOwnerViews.{SetView}
 use Rattle.zset_core.specs.declared.refusal.Refusal.{Refusal}
 use Rattle.set_table.specs.declared.counts.Tally.{Tally}
+use Rattle.set_table.specs.declared.limits.TheConstants.{MAX_RUNS}
 use Rattle.set_table.specs.declared.counts.Counts.{Counts}
 use Rattle.set_table.specs.declared.counts.OwnCounts.{OwnCounts}
 use Rattle.set_table.specs.Tallies.{ShareView, empty_tally, tally_after, total_of, runs_of, added_of, removed_of, share_after_run, no_counts}
@@ -188,7 +189,7 @@ if_read_by opened shares own number place c s command (Some (Ok a)) are here rea
     read_by opened shares number place c command a are here reads (subst (λ (t : ShareView). HasRead c t command a) at h)
 
 -- a new cell
-pub whole_new : (place : ℕ) (kept : SetView) (opened max_runs appended passes : ℕ) (tallies : List Tally) → kept.next ≡ None → opened ≡ fin.len kept.members → opened < 2 ^ 63 → max_runs ≤ 2 ^ 40 → tallies ≡ replicate passes empty_tally
+pub whole_new : (place : ℕ) (kept : SetView) (opened max_runs appended passes : ℕ) (tallies : List Tally) → kept.next ≡ None → opened ≡ fin.len kept.members → opened < 2 ^ 63 → max_runs ≤ MAX_RUNS → tallies ≡ replicate passes empty_tally
     → IsWhole (record { place = place; sorted_set = kept; opened = opened; max_runs = max_runs; tallies = tallies; appended = appended }) × (empty_tally ≡ total_of tallies)
 whole_new place kept opened max_runs appended passes tallies idle card few most is =
     let runs : runs_of tallies ≡ 0 = ap runs_of is ∙ sum_by-replicate (λ (t : Tally). t.runs) passes empty_tally ∙ none in

@@ -8,6 +8,7 @@ use Rattle.zset_core.specs.SetAndOwnerViews.{SetView}
 use Rattle.zset_core.specs.declared.refusal.Refusal.{Refusal}
 use Rattle.zset_core.specs.declared.refusal.Refusal.TheVariants.{NoMemory, UnknownCommand, WrongArity, Syntax, NxAndXx, GtLtNx, IncrPair, BadScore, BadBound, BadInteger, TableFull, ScoreOverflow, LogBroken, LogFull, LogRefused, Spent, OutOfStep}
 use Rattle.set_table.specs.declared.counts.Tally.{Tally}
+use Rattle.set_table.specs.declared.limits.TheConstants.{MAX_RUNS}
 use Rattle.set_table.specs.declared.counts.Counts.{Counts}
 use Rattle.set_table.specs.Tallies.{ShareView, runs_of, added_of, removed_of, empty_tally, tally_after, share_after_run, no_counts}
 use Rattle.set_table.specs.SetSteps.{AnswerView, Stepped, IsLawful, IsLogged, IsHindered}
@@ -32,7 +33,7 @@ pub record IsWhole (c : CellView) : Type 0 where
   pub adds_up : fin.len c.sorted_set.members + removed_of c.tallies ≡ c.opened + added_of c.tallies
   pub within : runs_of c.tallies ≤ c.max_runs
   pub bounded : added_of c.tallies ≤ most_edits * runs_of c.tallies
-  pub max_fits : c.max_runs ≤ 2 ^ 40
+  pub max_fits : c.max_runs ≤ MAX_RUNS
   pub opened_fits : c.opened < 2 ^ 63
 
 -- the cell and the shares of a pass tell the same: place, members at opening, and what the pass was answered here

@@ -1,6 +1,6 @@
 //! What stands behind a place's lock.
 
-ghost use Rattle.std.specs.Prelude.{◌≡◌, ◌<◌, ◌≤◌, ◌^◌, ◌↔◌, length, None, Some, IfOk, IfErr, IfNone, IfSome, OnErr, IsSome, IsTrue, MatchResult};
+ghost use Rattle.std.specs.Prelude.{◌≡◌, ◌<◌, ◌≤◌, ◌↔◌, length, None, Some, IfOk, IfErr, IfNone, IfSome, OnErr, IsSome, IsTrue, MatchResult};
 ghost use Rattle.std.proofs.Math.ListN.{get_or, set};
 ghost use Rattle.std.specs.FinMap as map;
 ghost use Rattle.crack_kernel.specs.PivotList.{ObeysPivots};
@@ -20,6 +20,7 @@ mod step;
 use crate::answer::Answer;
 use crate::cell::step::take_step;
 use crate::counts::{Counts, OwnCounts, Tally};
+use crate::limits::MAX_RUNS;
 use crate::shares::Shares;
 use append_log::{Log, LogSink, RecordShare};
 use resp_wire::Reply;
@@ -80,7 +81,7 @@ impl<H: BuildHasher + Drop, L: Ledger, A: Allocator + Copy> Cell<H, L, A> {
         share: RecordShare<L>,
     ) -> Result<Self, AllocError>
         requires idle { sorted_set.next ≡ None }
-        requires max_runs { max_runs ≤ 2 ^ 40 }
+        requires max_runs { max_runs ≤ MAX_RUNS }
         ensures { IfOk result
             (λ cell. cell ≡ new_cell place sorted_set max_runs passes share) }
     {

@@ -1,6 +1,6 @@
 //! A table is opened with an owner's sets.
 
-ghost use Rattle.std.specs.Prelude.{◌≡◌, ◌<◌, ◌≤◌, ◌^◌, None, IfOk, IfErr};
+ghost use Rattle.std.specs.Prelude.{◌≡◌, ◌<◌, ◌≤◌, None, IfOk, IfErr};
 ghost use Rattle.std.specs.FinMap as map;
 ghost use Rattle.set_table.specs.Opening.{AreNewPasses, IsOpened, IsOpenFault};
 
@@ -8,6 +8,7 @@ mod cells;
 mod passes;
 mod placing;
 
+use crate::limits::{MAX_PASSES, MAX_PLACES, MAX_RUNS};
 use crate::naming::names::Names;
 use crate::open::cells::{behind_locks, new_cells};
 use crate::open::passes::new_passes;
@@ -53,9 +54,9 @@ impl<H: BuildHasher + Clone + Drop, S: LogSink + Drop, L: Ledger> Table<H, S, L,
         max_runs: u64,
     ) -> Result<(Self, Vec<Pass<Global>>), OpenFault>
         requires idle { owner.next ≡ None }
-        requires places { (1 ≤ places) × (places ≤ 4096) }
-        requires passes { (1 ≤ passes) × (passes ≤ 64) }
-        requires max_runs { (1 ≤ max_runs) × (max_runs ≤ 2 ^ 40) }
+        requires places { (1 ≤ places) × (places ≤ MAX_PLACES) }
+        requires passes { (1 ≤ passes) × (passes ≤ MAX_PASSES) }
+        requires max_runs { (1 ≤ max_runs) × (max_runs ≤ MAX_RUNS) }
         requires parts { places < log.parts }
         ensures table { IfOk result
             (λ opened. IsOpened owner.world places passes max_runs log.appended opened.0) }
@@ -84,8 +85,8 @@ fn build<H: BuildHasher + Clone + Drop, S: LogSink + Drop, L: Ledger>(
     max_runs: u64,
 ) -> Result<(Table<H, S, L, Global>, Vec<Pass<Global>>), AllocError>
     requires idle { owner.next ≡ None }
-    requires places { (1 ≤ places) × (places ≤ 4096) }
-    requires max_runs { max_runs ≤ 2 ^ 40 }
+    requires places { (1 ≤ places) × (places ≤ MAX_PLACES) }
+    requires max_runs { max_runs ≤ MAX_RUNS }
     requires parts { places < log.parts }
     ensures table { IfOk result
         (λ opened. IsOpened owner.world places passes max_runs log.appended opened.0) }

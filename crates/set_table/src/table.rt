@@ -42,12 +42,13 @@ pub struct Table<H: BuildHasher, S: LogSink, L: Ledger, A: Allocator + Copy> {
 impl<H: BuildHasher, S: LogSink, L: Ledger, A: Allocator + Copy> Model for Table<H, S, L, A> {
     ghost use Rattle.std.specs.Prelude.{◌≡◌, ◌<◌, ◌≤◌, length};
     ghost use Rattle.set_table.specs.WorkerPasses.{TableView};
+    ghost use Rattle.set_table.specs.declared.limits.TheConstants.{MAX_PLACES};
 
     ghost Value = { TableView };
 
     ghost view = { λ t. record { names = t.names; opened = t.opened.items; passes = t.passes; max_runs = t.max_runs; records_before = t.records_before } };
 
-    ghost invariant = { λ t. (length t.names ≡ length t.opened.items) × (length t.cells.items ≡ length t.opened.items) × (0 < length t.names) × (length t.names ≤ 4096) };
+    ghost invariant = { λ t. (length t.names ≡ length t.opened.items) × (length t.cells.items ≡ length t.opened.items) × (0 < length t.names) × (length t.names ≤ MAX_PLACES) };
 }
 
 /// What a table answers to a command.
@@ -101,19 +102,21 @@ impl<H: BuildHasher, S: LogSink, L: Ledger, A: Allocator + Copy> Table<H, S, L, 
     /// is one worker's memory: the places that it knows, and for each place a share, the sum of what the
     /// worker was answered there.
     ///
-    /// On [`Answered::Ran`] the place is the key's, by what the pass knows then. The answer's `found` is what
-    /// all passes together had been told of the place's members before, its `own` what this command added
-    /// and removed. Reply and `own` are those of one step of the command on some set with as many members
-    /// as `found` tells, and `found` counts no less than what this pass was told there before: others write
-    /// the sets between two calls, so that it is the key's own set is shown by tests. The pass's share of
-    /// that place counts one run more and the members of `own`, or stays where a reading was answered
-    /// under the shared lock. No other share moves. Once a command that creates was answered, the pass keeps
-    /// 131,072 bytes back for removals.
+    /// On [`Answered::Ran`] the place is the key's, by what the pass knows then. The answer's `found` is what all
+    /// passes together had been told of the place's members before, and no less than what this pass was told. Its
+    /// `own` is what this command added and removed. Reply and `own` are those of one step of the command on some
+    /// set with as many members as `found` tells. That this is the key's own set is shown by tests alone, since
+    /// others write the sets between two calls.
+    ///
+    /// The pass's share of that place counts one run more and the members of `own`, or stays where a reading was
+    /// answered under the shared lock. No other share moves. Once a command that creates was answered, the pass
+    /// keeps 131,072 bytes back for removals. It remembers the last record that the answer may tell of
+    /// ([`Pass::take_told`]); no clause says which.
     ///
     /// # Errors
     ///
     /// The pass's shares stay. [`Refusal::TableFull`] where a command that creates finds no place;
-    /// [`Refusal::OutOfStep`] where cell and pass tell different numbers, which no pass of this table meets;
+    /// [`Refusal::OutOfStep`] where cell and pass tell different numbers, which a pass of this table met in no test;
     /// [`Refusal::Spent`] where the place has no run left; [`Refusal::ScoreOverflow`] to ZADD with INCR alone,
     /// and those of the log to commands that change sets; [`Refusal::NoMemory`]. What the cell tells is behind
     /// its lock, so the clauses say of these only which may come to which command: [`crate::Cell::run`] says

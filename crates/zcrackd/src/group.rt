@@ -4,7 +4,7 @@ ghost use Rattle.std.specs.Prelude.{◌≡◌, true, None};
 ghost use Rattle.resp_wire.specs.Device.{Rose};
 ghost use Rattle.zcrackd.specs.FileExitStatus.{ServesFile, ServesFrom};
 
-use crate::file::{MAX_RECORDS, Opened, open_session};
+use crate::file::{MAX_SESSION_RECORDS, Opened, open_session};
 use crate::finish::Finish;
 use crate::stdio::after_session;
 use append_log::{LockFile, Log, LogSink, LoggedOwner};
@@ -45,7 +45,7 @@ fn serve_shared<L: Ledger, R, K: LogSink + Drop, S: ByteSource, D: ByteDrain>(
         result }
 {
     let Opened { owner, sink } = opened;
-    let log = Log::<_, L>::deferred(blank, sink, MAX_RECORDS);
+    let log = Log::<_, L>::deferred(blank, sink, MAX_SESSION_RECORDS);
     let mut logged = LoggedOwner::new(alloc, owner, log);
     after_session(serve_deferred(rt, alloc, source, replies, &mut logged))
 }

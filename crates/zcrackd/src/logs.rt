@@ -1,6 +1,7 @@
 //! The log of a session or a server.
 
-ghost use Rattle.std.specs.Prelude.{◌≡◌, ◌≤◌, ◌^◌, false};
+ghost use Rattle.std.specs.Prelude.{◌≡◌, ◌≤◌, false};
+ghost use Rattle.command_line.specs.declared.limits.TheConstants.{MAX_RECORDS};
 
 use append_log::{Log, LogSink};
 use std::sync::ledger::{Blank, Ledger};
@@ -17,7 +18,7 @@ pub fn new_log<S: LogSink, L: Ledger>(
     requires parts { blank.parts ≡ L.parts }
     requires two { 2 ≤ blank.parts }
     requires some { 1 ≤ max_records }
-    requires limited { max_records ≤ 2 ^ 40 }
+    requires limited { max_records ≤ MAX_RECORDS }
     ensures { result ≡ record {
       told = S.told sink;
       synced = S.synced sink;

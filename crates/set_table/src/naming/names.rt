@@ -7,6 +7,7 @@ ghost use Rattle.set_table.specs.Naming.{AreNotesOf, Grows, IsPlace, IsUnclaimed
 
 mod agreement;
 
+use crate::limits::MAX_PLACES;
 use crate::naming::knowledge::Knowledge;
 use crate::naming::memory::{Memory, mixed_hash};
 use crate::naming::name::{Name, hash};
@@ -74,7 +75,7 @@ impl Names {
 
     /// Knowledge of nothing.
     pub(crate) fn knowledge(&self, alloc: Global) -> Result<Knowledge, AllocError>
-        requires { length self.now ≤ 4096 }
+        requires { length self.now ≤ MAX_PLACES }
         ensures { IfOk result (λ knowledge. AreNotesOf self.now knowledge) }
     {
         Ok(Knowledge {
@@ -89,7 +90,7 @@ impl Names {
     /// by its memory; another by the key's walk.
     pub(crate) fn find(&self, known: &mut Knowledge, key: &[u8]) -> Option<usize>
         requires own { AreNotesOf self.now known.old }
-        requires places { (0 < length self.now) × (length self.now ≤ 4096) }
+        requires places { (0 < length self.now) × (length self.now ≤ MAX_PLACES) }
         ensures own { AreNotesOf self.now known.new }
         ensures grows { Grows known.old.known known.new.known }
         ensures found { IfSome result (λ place. IsPlace known.new.known key.now place) }
@@ -107,7 +108,7 @@ impl Names {
     /// The key's place, which is given one where it has none.
     pub(crate) fn claim(&self, known: &mut Knowledge, key: &[u8]) -> Result<usize, ClaimFault>
         requires own { AreNotesOf self.now known.old }
-        requires places { (0 < length self.now) × (length self.now ≤ 4096) }
+        requires places { (0 < length self.now) × (length self.now ≤ MAX_PLACES) }
         ensures own { AreNotesOf self.now known.new }
         ensures grows { Grows known.old.known known.new.known }
         ensures ok { IfOk result (λ place. IsPlace known.new.known key.now place) }
@@ -142,7 +143,7 @@ impl Names {
     /// bears the key or has no name. A name that the pass met is read only where its hash is the key's.
     fn find_by_walk(&self, known: &mut Knowledge, key: &[u8]) -> Option<usize>
         requires own { AreNotesOf self.now known.old }
-        requires places { (0 < length self.now) × (length self.now ≤ 4096) }
+        requires places { (0 < length self.now) × (length self.now ≤ MAX_PLACES) }
         ensures own { AreNotesOf self.now known.new }
         ensures grows { Grows known.old.known known.new.known }
         ensures found { IfSome result (λ place. IsPlace known.new.known key.now place) }
@@ -170,7 +171,7 @@ impl Names {
     /// another thread was quicker there. Then the walk goes on by the name that that thread set.
     fn claim_by_walk(&self, known: &mut Knowledge, key: &[u8]) -> Result<usize, ClaimFault>
         requires own { AreNotesOf self.now known.old }
-        requires places { (0 < length self.now) × (length self.now ≤ 4096) }
+        requires places { (0 < length self.now) × (length self.now ≤ MAX_PLACES) }
         ensures own { AreNotesOf self.now known.new }
         ensures grows { Grows known.old.known known.new.known }
         ensures ok { IfOk result (λ place. IsPlace known.new.known key.now place) }
@@ -212,7 +213,7 @@ impl Names {
         requires first { first ≡ hash_from 7 key.now % length self.now }
         requires began { first < length self.now }
         requires within { step < length self.now }
-        requires few { length self.now ≤ 4096 }
+        requires few { length self.now ≤ MAX_PLACES }
         ensures value { result ≡ walk (length self.now) key.now step }
         ensures within { result < length self.now }
     {

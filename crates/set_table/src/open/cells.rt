@@ -1,9 +1,10 @@
 //! A table's cells.
 
-ghost use Rattle.std.specs.Prelude.{◌≡◌, ◌<◌, ◌≤◌, ◌^◌, length, IfOk};
+ghost use Rattle.std.specs.Prelude.{◌≡◌, ◌<◌, ◌≤◌, length, IfOk};
 ghost use Rattle.set_table.specs.Opening.{AreIdleSets, AreNewCells};
 
 use crate::cell::Cell;
+use crate::limits::MAX_RUNS;
 use append_log::{Log, LogSink};
 use std::alloc::{AllocError, Global};
 use std::hash::BuildHasher;
@@ -20,7 +21,7 @@ pub(crate) fn new_cells<H: BuildHasher + Drop, S: LogSink, L: Ledger>(
     log: &mut Log<S, L>,
 ) -> Result<Vec<Cell<H, L, Global>>, AllocError>
     requires idle { AreIdleSets sets.items }
-    requires max_runs { max_runs ≤ 2 ^ 40 }
+    requires max_runs { max_runs ≤ MAX_RUNS }
     requires parts { length sets.items < log.old.parts }
     ensures cells { IfOk result (λ cells. AreNewCells max_runs passes sets.items cells.items) }
     ensures log { log.new.appended ≡ log.old.appended }

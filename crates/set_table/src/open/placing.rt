@@ -5,6 +5,7 @@ ghost use Rattle.std.specs.FinMap as fin;
 ghost use Rattle.set_table.specs.Naming.{AreNotesOf};
 ghost use Rattle.set_table.specs.Opening.{AllHavePlaces, AreEmptySets, AreIdleSets, cards_of, members_of, sum_of};
 
+use crate::limits::MAX_PLACES;
 use crate::naming::knowledge::Knowledge;
 use crate::naming::names::Names;
 use std::alloc::{AllocError, Global};
@@ -36,7 +37,7 @@ pub(crate) fn place_all<H: BuildHasher + Clone + Drop>(
 ) -> Result<(), AllocError>
     requires idle { owner.next ≡ None }
     requires own { AreNotesOf names.now knowledge.old }
-    requires places { (0 < length names.now) × (length names.now ≤ 4096) }
+    requires places { (0 < length names.now) × (length names.now ≤ MAX_PLACES) }
     requires sets { AreEmptySets (length names.now) sets.old.items }
     ensures own { AreNotesOf names.now knowledge.new }
     ensures idle { AreIdleSets sets.new.items }

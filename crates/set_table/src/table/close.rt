@@ -12,6 +12,7 @@ mod order;
 mod totals;
 
 use crate::cell::Cell;
+use crate::limits::MAX_PLACES;
 use crate::pass::Pass;
 use crate::table::Table;
 use crate::table::close::agreement::compare_names;
@@ -110,7 +111,7 @@ impl<H: BuildHasher + Drop, S: LogSink + Drop, L: Ledger, A: Allocator + Copy> T
 
 /// Whether so many records were appended to a log that had `before` of them.
 fn are_appended(records: u128, before: u64, appended: u64) -> bool
-    requires { records ≤ 4096 * 2 ^ 64 }
+    requires { records ≤ MAX_PLACES * 2 ^ 64 }
     ensures { IsTrue result ↔ (records + before ≡ appended) }
 {
     records + u128::from(before) == u128::from(appended)
@@ -126,9 +127,9 @@ fn add_places<H: BuildHasher, L: Ledger, A: Allocator + Copy>(
 ) -> Option<Totals>
     requires own { HaveShares passes.now.items (length opened.now) }
     requires count { length cells.old ≡ length opened.now }
-    requires few { length opened.now ≤ 4096 }
+    requires few { length opened.now ≤ MAX_PLACES }
     ensures sums { IfSome result (λ totals. AddsUp passes.now.items opened.now totals) }
-    ensures bound { IfSome result (λ totals. totals.records ≤ 4096 * 2 ^ 64) }
+    ensures bound { IfSome result (λ totals. totals.records ≤ MAX_PLACES * 2 ^ 64) }
     ensures cells { IfSome result (λ totals. AreOfCells passes.now.items max_runs (length opened.now)
         totals.members totals.records) }
     ensures none { IfNone result (HasOtherCell passes.now.items max_runs opened.now) }
@@ -151,7 +152,7 @@ fn add_place<H: BuildHasher, L: Ledger, A: Allocator + Copy>(
     totals: Totals,
 ) -> Option<Totals>
     requires own { HaveShares passes.now.items (place + 1) }
-    requires few { place < 4096 }
+    requires few { place < MAX_PLACES }
     requires bound { IsBounded place totals }
     ensures sums { IfSome result (λ more. AddsPlace passes.now.items place opened totals more) }
     ensures bound { IfSome result (λ more. IsBounded (place + 1) more) }

@@ -4,7 +4,7 @@ use Rattle.session_core.proofs.ExchangeLemmas.{exchanges-append}
 use Rattle.session_core.proofs.ServeProgress.{begins, unserved, reads_on, ends_by, last_flush_fails}
 use Rattle.std.proofs.lemmas.List.{length-take-le}
 use Rattle.resp_wire.proofs.CallerLemmas.{err_is}
-use Rattle.session_core.proofs.session.serve.Goals as goal
+use Rattle.session_core.proofs.alone.serve.Goals as goal
 
 pub returns-in-Err-clause-served : goal.returns-in-Err-clause-served
 returns-in-Err-clause-served g c = unserved g.E.Exec.allows (Exchanges g.E.Exec.allows) (λ s. refl) (exchanges-append g.E.Exec.allows) _ _ _
