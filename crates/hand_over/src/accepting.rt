@@ -23,7 +23,8 @@ pub struct Unsent {
 impl Unsent {
     /// No numbers, with room for `limit`.
     pub fn with_room(alloc: Global, limit: u64) -> Result<Self, AllocError>
-        ensures { IfOk result (λ unsent. (unsent.numbers.items ≡ []) × (limit ≤ vec_capacity unsent.numbers)) }
+        ensures { IfOk result (λ unsent. (unsent.numbers.items ≡ [])
+            × (limit ≤ vec_capacity unsent.numbers)) }
     {
         let numbers = Vec::with_capacity(alloc, limit as usize)?;
         Ok(Unsent {
@@ -42,10 +43,12 @@ impl Unsent {
         connection: C,
     )
         requires pass { IsSeatAt (sends_on sender.now) pass.old }
-        requires number { ((view pass.old).sends ≡ true) × (self.old.is_open ≡ true → (view pass.old).sent ≡ number) }
+        requires number { ((view pass.old).sends ≡ true)
+            × (self.old.is_open ≡ true → (view pass.old).sent ≡ number) }
         requires room { vec_len self.old.numbers < vec_capacity self.old.numbers }
         ensures pass { IsSeatAt (sends_on sender.now) pass.new }
-        ensures moves { IsHandedOut self.new.is_open self.old.is_open number (view pass.old) self.old.numbers.items (view pass.new) self.new.numbers.items }
+        ensures moves { IsHandedOut self.new.is_open self.old.is_open number (view pass.old)
+            self.old.numbers.items (view pass.new) self.new.numbers.items }
         ensures room { vec_capacity self.new.numbers ≡ vec_capacity self.old.numbers }
     {
         self.is_open = self.is_open && send_connection(rt, sender, pass, number, connection);
@@ -69,12 +72,16 @@ impl Unsent {
         requires limit { 1 ≤ limit }
         requires none { (self.old.numbers.items ≡ []) × (limit ≤ vec_capacity self.old.numbers) }
         ensures pass { IsSeatAt (sends_on ends.now.sender) pass.new }
-        ensures view { view pass.new ≡ tally (view pass.old).parts true (view pass.new).sent (view pass.old).stops (view pass.old).taken }
-        ensures once { (k : ℕ) → A.came arrivals.new ≡ A.came arrivals.old + k → (x : ℕ) → once_below x (view pass.new).sent + times x self.new.numbers.items ≡ once_below x k }
-        ensures room { ((view pass.new).sent + vec_len self.new.numbers ≤ limit) × (vec_capacity self.new.numbers ≡ vec_capacity self.old.numbers) }
+        ensures view { view pass.new ≡ tally (view pass.old).parts true (view pass.new).sent
+            (view pass.old).stops (view pass.old).taken }
+        ensures once { (k : ℕ) → A.came arrivals.new ≡ A.came arrivals.old + k
+            → (x : ℕ) → once_below x (view pass.new).sent + times x self.new.numbers.items ≡ once_below x k }
+        ensures room { ((view pass.new).sent + vec_len self.new.numbers ≤ limit)
+            × (vec_capacity self.new.numbers ≡ vec_capacity self.old.numbers) }
         ensures came { A.came arrivals.old ≤ A.came arrivals.new }
         ensures fault { IsTrue result ↔ (A.last arrivals.new ≡ Some Failure) }
-        ensures stop { (A.came arrivals.new ≡ A.came arrivals.old + limit) ⊎ (A.last arrivals.new ≡ Some End) ⊎ (A.last arrivals.new ≡ Some Failure) }
+        ensures stop { (A.came arrivals.new ≡ A.came arrivals.old + limit)
+            ⊎ (A.last arrivals.new ≡ Some End) ⊎ (A.last arrivals.new ≡ Some Failure) }
     {
         for number in 0..limit {
             match arrivals.arrive() {

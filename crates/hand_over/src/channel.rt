@@ -86,7 +86,8 @@ impl<C> Outcome<Message<C>, Tally> for Drains {
 }
 
 impl<C> Lesson<Message<C>, Tally> for Drains {
-    ghost fact = { λ v items. (x : ℕ) → times x v.taken + times x (numbers_of items) ≡ once_below x v.sent };
+    ghost fact = { λ v items.
+        (x : ℕ) → times x v.taken + times x (numbers_of items) ≡ once_below x v.sent };
 }
 
 pub type Sender<C> = RuledSender<Message<C>, Tally, Numbered>;
@@ -185,7 +186,8 @@ pub fn dismiss<C: Drop, R: Wait>(
 ) -> usize
     requires pass { IsSeatAt (sends_on sender.now) pass.old }
     ensures pass { IsSeatAt (sends_on sender.now) pass.new }
-    ensures view { view pass.new ≡ tally (view pass.old).parts (view pass.old).sends (view pass.old).sent (view pass.new).stops (view pass.old).taken }
+    ensures view { view pass.new ≡ tally (view pass.old).parts (view pass.old).sends
+        (view pass.old).sent (view pass.new).stops (view pass.old).taken }
     ensures each { (view pass.new).stops + result ≡ (view pass.old).stops + workers }
 {
     let mut refused = 0;

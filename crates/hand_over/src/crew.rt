@@ -27,7 +27,8 @@ pub fn desks_of<C, H: Handler<C> + Drop>(
 ) -> Result<Vec<Desk<H>>, AllocError>
     requires room { All (λ h. H.handled h + limit < 2 ^ 64) handlers.items }
     ensures handlers { IfOk result (λ desks. map (λ d. d.handler) desks.items ≡ handlers.items) }
-    ensures room { IfOk result (λ desks. All (λ d. H.handled d.handler + d.limit < 2 ^ 64) desks.items) }
+    ensures room { IfOk result
+        (λ desks. All (λ d. H.handled d.handler + d.limit < 2 ^ 64) desks.items) }
 {
     let mut desks = Vec::new(alloc);
     for handler in handlers {
@@ -49,7 +50,8 @@ where
     H::Bell: Sync,
     requires pass { IsSeatAt (receives_on receiver.now) pass × (view pass ≡ tally 1 false 0 0 []) }
     requires room { H.handled desk.handler + desk.limit < 2 ^ 64 }
-    ensures { IfSome result (λ h. (h.promise.channel.value ≡ receiver.entry.now) × (h.promise.handler.value ≡ desk.handler)) }
+    ensures { IfSome result (λ h. (h.promise.channel.value ≡ receiver.entry.now)
+        × (h.promise.handler.value ≡ desk.handler)) }
 {
     let promise = Worked {
         channel: Snapshot::of(receiver),
@@ -70,13 +72,16 @@ fn start_one<'s, E, C: Drop + Send + 's, H: Handler<C> + Drop + Send + 's, R: Wa
 ) -> Result<Child<C, H>, HandOverFault>
 where
     H::Bell: Sync,
-    requires pass { IsSeatAt (sends_on ends.now.sender) pass.old × (receives_on ends.now.receiver ≡ sends_on ends.now.sender) }
+    requires pass { IsSeatAt (sends_on ends.now.sender) pass.old
+        × (receives_on ends.now.receiver ≡ sends_on ends.now.sender) }
     requires parts { 1 < (view pass.old).parts }
     requires room { H.handled desk.handler + desk.limit < 2 ^ 64 }
     ensures pass { IsSeatAt (sends_on ends.now.sender) pass.new }
-    ensures view { view pass.new ≡ tally (view pass.new).parts (view pass.old).sends (view pass.old).sent (view pass.old).stops (view pass.old).taken }
+    ensures view { view pass.new ≡ tally (view pass.new).parts (view pass.old).sends
+        (view pass.old).sent (view pass.old).stops (view pass.old).taken }
     ensures parts { (view pass.new).parts + 1 ≡ (view pass.old).parts }
-    ensures ok { IfOk result (λ h. (receives_on h.promise.channel.value ≡ sends_on ends.now.sender) × (h.promise.handler.value ≡ desk.handler)) }
+    ensures ok { IfOk result (λ h. (receives_on h.promise.channel.value ≡ sends_on ends.now.sender)
+        × (h.promise.handler.value ≡ desk.handler)) }
 {
     let own = ends.sender.another::<Cut>(pass);
     start(scope, rt, &ends.receiver, own, desk, door).ok_or(HandOverFault::Spawn)
@@ -93,16 +98,21 @@ pub fn start_all<'s, E, C: Drop + Send + 's, H: Handler<C> + Drop + Send + 's, R
 ) -> Result<(), HandOverFault>
 where
     H::Bell: Sync,
-    requires pass { IsSeatAt (sends_on ends.now.sender) pass.old × (receives_on ends.now.receiver ≡ sends_on ends.now.sender) }
+    requires pass { IsSeatAt (sends_on ends.now.sender) pass.old
+        × (receives_on ends.now.receiver ≡ sends_on ends.now.sender) }
     requires parts { vec_len desks < (view pass.old).parts }
     requires children { (children.old.items ≡ []) × (vec_len desks ≤ vec_capacity children.old) }
     requires room { All (λ d. H.handled d.handler + d.limit < 2 ^ 64) desks.items }
     ensures pass { IsSeatAt (sends_on ends.now.sender) pass.new }
-    ensures view { view pass.new ≡ tally (view pass.new).parts (view pass.old).sends (view pass.old).sent (view pass.old).stops (view pass.old).taken }
+    ensures view { view pass.new ≡ tally (view pass.new).parts (view pass.old).sends
+        (view pass.old).sent (view pass.old).stops (view pass.old).taken }
     ensures parts { (view pass.new).parts + vec_len children.new ≤ (view pass.old).parts }
-    ensures channel { All (λ h. receives_on h.promise.channel.value ≡ sends_on ends.now.sender) children.new.items }
+    ensures channel { All (λ h. receives_on h.promise.channel.value
+        ≡ sends_on ends.now.sender) children.new.items }
     ensures few { vec_len children.new ≤ vec_len desks }
-    ensures all { IfOk result (λ _. ((view pass.new).parts + vec_len desks ≡ (view pass.old).parts) × (map (λ h. h.promise.handler.value) children.new.items ≡ map (λ d. d.handler) desks.items)) }
+    ensures all { IfOk result (λ _. ((view pass.new).parts + vec_len desks ≡ (view pass.old).parts)
+        × (map (λ h. h.promise.handler.value) children.new.items
+        ≡ map (λ d. d.handler) desks.items)) }
 {
     for desk in desks {
         let door = ends.doors.get(children.len());
@@ -122,7 +132,8 @@ pub struct Returned<H> {
 impl<H: Drop> Returned<H> {
     /// Nothing, with room for what so many workers hand back.
     pub fn with_room(alloc: Global, workers: usize) -> Result<Self, AllocError>
-        ensures { IfOk result (λ r. (r.handlers.items ≡ []) × (r.taken.items ≡ []) × (workers ≤ vec_capacity r.handlers) × (workers ≤ vec_capacity r.taken)) }
+        ensures { IfOk result (λ r. (r.handlers.items ≡ []) × (r.taken.items ≡ [])
+            × (workers ≤ vec_capacity r.handlers) × (workers ≤ vec_capacity r.taken)) }
     {
         let handlers = Vec::with_capacity(alloc, workers)?;
         let taken = Vec::with_capacity(alloc, workers)?;
@@ -141,10 +152,17 @@ impl<H: Drop> Returned<H> {
         H: Handler<C> + Send,
         requires pass { IsSeatAt (sends_on sender.now) pass.old }
         requires channel { receives_on child.promise.channel.value ≡ sends_on sender.now }
-        requires room { (vec_len self.old.handlers < vec_capacity self.old.handlers) × (vec_len self.old.taken < vec_capacity self.old.taken) }
+        requires room { (vec_len self.old.handlers < vec_capacity self.old.handlers)
+            × (vec_len self.old.taken < vec_capacity self.old.taken) }
         ensures pass { IsSeatAt (sends_on sender.now) pass.new }
-        ensures room { (vec_capacity self.new.handlers ≡ vec_capacity self.old.handlers) × (vec_capacity self.new.taken ≡ vec_capacity self.old.taken) }
-        ensures back { (h : H) × (v : Vec ℕ Global) × (view pass.new ≡ with_pass (view pass.old) v.items) × IsStrictlyIncreasing v.items × (self.new.handlers.items ≡ self.old.handlers.items ++ h ∷ []) × (self.new.taken.items ≡ self.old.taken.items ++ v ∷ []) × H.keeps child.promise.handler.value h × (H.handled h ≡ H.handled child.promise.handler.value + vec_len v) }
+        ensures room { (vec_capacity self.new.handlers ≡ vec_capacity self.old.handlers)
+            × (vec_capacity self.new.taken ≡ vec_capacity self.old.taken) }
+        ensures back { (h : H) × (v : Vec ℕ Global)
+            × (view pass.new ≡ with_pass (view pass.old) v.items) × IsStrictlyIncreasing v.items
+            × (self.new.handlers.items ≡ self.old.handlers.items ++ h ∷ [])
+            × (self.new.taken.items ≡ self.old.taken.items ++ v ∷ [])
+            × H.keeps child.promise.handler.value h
+            × (H.handled h ≡ H.handled child.promise.handler.value + vec_len v) }
     {
         let Finished {
             pass: other,
@@ -170,14 +188,21 @@ impl<H: Drop> Returned<H> {
         H: Handler<C> + Send,
         requires pass { IsSeatAt (sends_on sender.now) pass.old }
         requires stops { vec_len children ≤ (view pass.old).stops + refused }
-        requires channel { All (λ h. receives_on h.promise.channel.value ≡ sends_on sender.now) children.items }
+        requires channel { All (λ h. receives_on h.promise.channel.value
+            ≡ sends_on sender.now) children.items }
         requires empty { (self.old.handlers.items ≡ []) × (self.old.taken.items ≡ []) }
-        requires room { (vec_len children ≤ vec_capacity self.old.handlers) × (vec_len children ≤ vec_capacity self.old.taken) }
+        requires room { (vec_len children ≤ vec_capacity self.old.handlers)
+            × (vec_len children ≤ vec_capacity self.old.taken) }
         ensures pass { IsSeatAt (sends_on sender.now) pass.new }
-        ensures view { view pass.new ≡ tally ((view pass.old).parts + vec_len children) (view pass.old).sends (view pass.old).sent (view pass.old).stops ((view pass.old).taken ++ all_of self.new.taken.items) }
+        ensures view { view pass.new ≡ tally ((view pass.old).parts + vec_len children)
+            (view pass.old).sends (view pass.old).sent (view pass.old).stops
+            ((view pass.old).taken ++ all_of self.new.taken.items) }
         ensures rises { All (λ v. IsStrictlyIncreasing v.items) self.new.taken.items }
-        ensures lists { (vec_len self.new.taken ≡ vec_len children) × (vec_len self.new.handlers ≡ vec_len children) }
-        ensures served { Served H.keeps H.handled (map (λ h. h.promise.handler.value) children.items) self.new.handlers.items self.new.taken.items }
+        ensures lists { (vec_len self.new.taken ≡ vec_len children)
+            × (vec_len self.new.handlers ≡ vec_len children) }
+        ensures served { Served H.keeps H.handled
+            (map (λ h. h.promise.handler.value) children.items) self.new.handlers.items
+            self.new.taken.items }
     {
         let _ = refused;
         for child in children {
@@ -197,14 +222,21 @@ impl<H: Drop> Returned<H> {
     where
         H: Handler<C> + Send,
         requires pass { IsSeatAt (sends_on ends.now.sender) pass.old }
-        requires channel { All (λ h. receives_on h.promise.channel.value ≡ sends_on ends.now.sender) children.items }
+        requires channel { All (λ h. receives_on h.promise.channel.value
+            ≡ sends_on ends.now.sender) children.items }
         requires empty { (self.old.handlers.items ≡ []) × (self.old.taken.items ≡ []) }
-        requires room { (vec_len children ≤ vec_capacity self.old.handlers) × (vec_len children ≤ vec_capacity self.old.taken) }
+        requires room { (vec_len children ≤ vec_capacity self.old.handlers)
+            × (vec_len children ≤ vec_capacity self.old.taken) }
         ensures pass { IsSeatAt (sends_on ends.now.sender) pass.new }
-        ensures view { view pass.new ≡ tally ((view pass.old).parts + vec_len children) (view pass.old).sends (view pass.old).sent (view pass.new).stops ((view pass.old).taken ++ all_of self.new.taken.items) }
+        ensures view { view pass.new ≡ tally ((view pass.old).parts + vec_len children)
+            (view pass.old).sends (view pass.old).sent (view pass.new).stops
+            ((view pass.old).taken ++ all_of self.new.taken.items) }
         ensures rises { All (λ v. IsStrictlyIncreasing v.items) self.new.taken.items }
-        ensures lists { (vec_len self.new.taken ≡ vec_len children) × (vec_len self.new.handlers ≡ vec_len children) }
-        ensures served { Served H.keeps H.handled (map (λ h. h.promise.handler.value) children.items) self.new.handlers.items self.new.taken.items }
+        ensures lists { (vec_len self.new.taken ≡ vec_len children)
+            × (vec_len self.new.handlers ≡ vec_len children) }
+        ensures served { Served H.keeps H.handled
+            (map (λ h. h.promise.handler.value) children.items) self.new.handlers.items
+            self.new.taken.items }
     {
         let refused = dismiss(rt, &ends.sender, pass, children.len());
         ring_all(&ends.doors);
@@ -222,7 +254,8 @@ pub fn drain<C: Drop, R: Wait>(
     requires pass { IsSeatAt (receives_on receiver.now) pass.old }
     requires whole { ((view pass.old).parts ≡ 1024) × ((view pass.old).sends ≡ true) }
     requires room { (view pass.old).sent + vec_len left.old ≤ vec_capacity left.old }
-    ensures once { (x : ℕ) → times x (view pass.old).taken + times x left.new.items ≡ once_below x (view pass.old).sent + times x left.old.items }
+    ensures once { (x : ℕ) → times x (view pass.old).taken + times x left.new.items
+        ≡ once_below x (view pass.old).sent + times x left.old.items }
 {
     for _ in rt.forever() {
         match receiver.try_recv_as::<Drains, R>(rt, pass) {

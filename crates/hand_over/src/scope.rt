@@ -44,12 +44,15 @@ fn run<'s, E, A: Arrivals, H: Handler<A::Conn> + Drop + Send + 's, R: Wait + Thr
 where
     A::Conn: Send + 's,
     H::Bell: Sync,
-    requires pass { IsSeatAt (sends_on ends.now.sender) pass × (receives_on ends.now.receiver ≡ sends_on ends.now.sender) }
+    requires pass { IsSeatAt (sends_on ends.now.sender) pass
+        × (receives_on ends.now.receiver ≡ sends_on ends.now.sender) }
     requires view { view pass ≡ tally 1024 true 0 0 [] }
     requires parts { vec_len crew.desks ≤ 64 }
     requires limit { 1 ≤ crew.limit }
     requires room { All (λ d. H.handled d.handler + d.limit < 2 ^ 64) crew.desks.items }
-    ensures ok { IfOk result (λ handed. IsHandedOver A.came A.last H.keeps H.handled arrivals.old (map (λ d. d.handler) crew.desks.items) crew.limit arrivals.new handed) }
+    ensures ok { IfOk result
+        (λ handed. IsHandedOver A.came A.last H.keeps H.handled arrivals.old
+        (map (λ d. d.handler) crew.desks.items) crew.limit arrivals.new handed) }
     ensures err { OnErr result (arrivals.new ≡ arrivals.old) }
 {
     let Crew {
@@ -91,26 +94,32 @@ fn in_scope<'a, A: Arrivals, H: Handler<A::Conn> + Drop + Send, R: Wait + Thread
 where
     A::Conn: Send,
     H::Bell: Sync,
-    requires pass { IsSeatAt (sends_on ends.now.sender) pass × (receives_on ends.now.receiver ≡ sends_on ends.now.sender) }
+    requires pass { IsSeatAt (sends_on ends.now.sender) pass
+        × (receives_on ends.now.receiver ≡ sends_on ends.now.sender) }
     requires view { view pass ≡ tally 1024 true 0 0 [] }
     requires parts { vec_len crew.desks ≤ 64 }
     requires limit { 1 ≤ crew.limit }
     requires room { All (λ d. H.handled d.handler + d.limit < 2 ^ 64) crew.desks.items }
     ensures name { result.0.ghost_name ≡ arrivals.entry.ghost_name }
-    ensures ok { IfOk result.1 (λ handed. IsHandedOver A.came A.last H.keeps H.handled arrivals.entry.now (map (λ d. d.handler) crew.desks.items) crew.limit result.0.now handed) }
+    ensures ok { IfOk result.1
+        (λ handed. IsHandedOver A.came A.last H.keeps H.handled arrivals.entry.now
+        (map (λ d. d.handler) crew.desks.items) crew.limit result.0.now handed) }
     ensures err { OnErr result.1 (result.0.now ≡ arrivals.entry.now) }
 {
     thread::scope(
         thread::scope_env(),
         rt,
         move |scope| -> (&mut A, Result<HandedOver<H>, HandOverFault>)
-            requires pass { IsSeatAt (sends_on ends.now.sender) pass × (receives_on ends.now.receiver ≡ sends_on ends.now.sender) }
+            requires pass { IsSeatAt (sends_on ends.now.sender) pass
+                × (receives_on ends.now.receiver ≡ sends_on ends.now.sender) }
             requires view { view pass ≡ tally 1024 true 0 0 [] }
             requires parts { vec_len crew.desks ≤ 64 }
             requires limit { 1 ≤ crew.limit }
             requires room { All (λ d. H.handled d.handler + d.limit < 2 ^ 64) crew.desks.items }
             ensures name { result.0.ghost_name ≡ arrivals.entry.ghost_name }
-            ensures ok { IfOk result.1 (λ handed. IsHandedOver A.came A.last H.keeps H.handled arrivals.entry.now (map (λ d. d.handler) crew.desks.items) crew.limit result.0.now handed) }
+            ensures ok { IfOk result.1
+                (λ handed. IsHandedOver A.came A.last H.keeps H.handled arrivals.entry.now
+                (map (λ d. d.handler) crew.desks.items) crew.limit result.0.now handed) }
             ensures err { OnErr result.1 (result.0.now ≡ arrivals.entry.now) }
         {
             let given = run(scope, rt, ends, pass, arrivals, crew);
@@ -155,7 +164,9 @@ where
     requires workers { vec_len handlers ≤ 64 }
     requires limit { 1 ≤ limit }
     requires room { All (λ handler. H.handled handler + limit < 2 ^ 64) handlers.items }
-    ensures ok { IfOk result (λ handed. IsHandedOver A.came A.last H.keeps H.handled arrivals.old handlers.items limit arrivals.new handed) }
+    ensures ok { IfOk result
+        (λ handed. IsHandedOver A.came A.last H.keeps H.handled arrivals.old handlers.items limit
+        arrivals.new handed) }
     ensures err { OnErr result (arrivals.new ≡ arrivals.old) }
 {
     let doors = doors_of(alloc, &handlers)?;
