@@ -3,9 +3,10 @@
 
 ghost use Rattle.std.specs.Prelude.{◌≡◌};
 
-use crate::records::{LISTING, Logged, THREE_RECORDS, answer, loaded, replies_to};
-use append_log::{FileSink, Log, LogSink, LoggedOwner, ReloadFault, reload};
+use crate::records::{LISTING, Logged, THREE_RECORDS, answer, replies_to};
+use append_log::{FileSink, Loaded, Log, LogSink, LoggedOwner, ReloadFault, reload};
 use resp_wire::{ByteDrain, ByteSource, Reading, Writing};
+use std::alloc::Global;
 use std::cell::Cell;
 use std::fs::{Metadata, OpenFile};
 use std::hash::RandomState;
@@ -148,45 +149,64 @@ fn interrupted(call: Call, interruptions: u32) -> (bool, u32, u32) {
     (is_answered, tally.calls.get(), tally.made.get())
 }
 
+/// How often a call is interrupted, and what [`interrupted`] tells then: the hundredth call is the last.
+const ANSWERS: [(u32, (bool, u32, u32)); 5] = [
+    (0, (true, 1, 1)),
+    (1, (true, 2, 1)),
+    (2, (true, 3, 1)),
+    (99, (true, 100, 1)),
+    (100, (false, 100, 0)),
+];
+
 #[test]
-fn an_interrupted_call_is_made_again(rt: HostRuntime) -> Result<(), Fail> {
+fn an_interrupted_call_is_made_again(rt: HostRuntime) {
     for call in CALLS {
-        for times in [0u32, 1, 2, 99] {
-            let wanted = (true, times.saturating_add(1), 1);
+        for (times, wanted) in ANSWERS {
             assert!(rt; interrupted(call, times) == wanted, "{call:?} {times}");
         }
-        // the hundredth call is the last
-        let wanted = (false, 100, 0);
-        assert!(rt; interrupted(call, 100) == wanted, "{call:?}");
     }
-    Ok(())
 }
 
-/// What a reload of three records gives each of whose reads is interrupted so many times, and the listing of k after it.
-fn reload_interrupted(
+/// Whether a reload of three records gives this each of whose reads is interrupted so many times, and the listing of k
+/// after it.
+fn is_reloaded(
     rt: &HostRuntime,
     interruptions: u32,
-) -> Result<(Result<append_log::Loaded, ReloadFault>, String), Fail> {
-    let alloc = rt.alloc();
+    wanted: Result<Loaded, ReloadFault>,
+    listed: &str,
+) -> Result<bool, Fail> {
     let tally = Tally::new();
     let mut source = Reading::new(Device {
         interruptions,
         given: THREE_RECORDS,
         tally: &tally,
     });
-    let mut owner = OneOwner::new(alloc, RandomState::new(rt)?);
-    let found = reload(alloc, &mut source, &mut owner, 35, 1000);
-    Ok((found, answer(alloc, &mut owner, LISTING)?))
+    let mut owner = OneOwner::new(rt.alloc(), RandomState::new(rt)?);
+    let found = reload(rt.alloc(), &mut source, &mut owner, 35, 1000);
+    Ok(found == wanted && answer(rt.alloc(), &mut owner, LISTING)?.as_str() == listed)
 }
+
+/// How often each read of a reload is interrupted, what the reload gives, and the listing of k after it.
+const RELOADS: [(u32, Result<Loaded, ReloadFault>, &str); 4] = [
+    (1, WHOLE, "*2~$1~b~$1~2~"),
+    (2, WHOLE, "*2~$1~b~$1~2~"),
+    (99, WHOLE, "*2~$1~b~$1~2~"),
+    (100, Err(ReloadFault::ReadFault), "*0~"),
+];
+
+/// All three records are reloaded.
+const WHOLE: Result<Loaded, ReloadFault> = Ok(Loaded {
+    records: 3,
+    whole: 98,
+    torn: 0,
+    version: 1,
+});
 
 #[test]
 fn an_interrupted_reload_reads_on(rt: HostRuntime) -> Result<(), Fail> {
-    for times in [1u32, 2, 99] {
-        let (found, listed) = reload_interrupted(&rt, times)?;
-        assert!(rt; found == loaded(3, 98, 0) && listed.as_str() == "*2~$1~b~$1~2~");
+    for (times, wanted, listed) in RELOADS {
+        assert!(rt; is_reloaded(&rt, times, wanted, listed)?, "{times}");
     }
-    let (found, listed) = reload_interrupted(&rt, 100)?;
-    assert!(rt; found == Err(ReloadFault::ReadFault) && listed.as_str() == "*0~");
     Ok(())
 }
 
@@ -206,28 +226,53 @@ fn owner_over<'a, L: Ledger>(
     Ok(LoggedOwner::new(alloc, owner, log))
 }
 
-/// Changes, each of which makes a record of 35 bytes.
-const CHANGES: [&str; 12] = [
-    "ZADD k 1 a",
-    "ZADD k 2 a",
-    "ZADD k 3 a",
-    "ZADD k 4 a",
-    "ZADD k 5 a",
-    "ZADD k 6 a",
-    "ZADD k 1 b",
-    "ZADD k 2 b",
-    "ZADD k 3 b",
-    "ZADD k 4 b",
-    "ZADD k 5 b",
-    "ZADD k 6 b",
+/// Changes, each of which makes a record of 35 bytes, and how many bytes are synced when it is answered.
+const CHANGES: [(&str, usize); 12] = [
+    ("ZADD k 1 a", 35),
+    ("ZADD k 2 a", 70),
+    ("ZADD k 3 a", 105),
+    ("ZADD k 4 a", 140),
+    ("ZADD k 5 a", 175),
+    ("ZADD k 6 a", 210),
+    ("ZADD k 1 b", 245),
+    ("ZADD k 2 b", 280),
+    ("ZADD k 3 b", 315),
+    ("ZADD k 4 b", 350),
+    ("ZADD k 5 b", 385),
+    ("ZADD k 6 b", 420),
 ];
 
-/// How many bytes were synced when a change was answered, of each of these in turn.
-fn synced_at_answers<L: Ledger>(
+/// How many bytes were synced when a change was answered.
+fn synced_behind<'a, L: Ledger>(
+    alloc: Global,
+    owner: &mut Logged<FileSink<Device<'a>>, L>,
+    tally: &Tally,
+    change: &str,
+) -> Result<usize, Fail> {
+    let _reply = replies_to(alloc, owner, &[change])?;
+    Ok(tally.synced.get())
+}
+
+/// Whether each change is synced before it is answered.
+fn are_synced<'a, L: Ledger>(
+    alloc: Global,
+    owner: &mut Logged<FileSink<Device<'a>>, L>,
+    tally: &Tally,
+) -> Result<bool, Fail> {
+    for (change, bytes) in CHANGES {
+        if synced_behind(alloc, owner, tally, change)? != bytes {
+            return Ok(false);
+        }
+    }
+    Ok(true)
+}
+
+/// The same over a device each of whose calls is interrupted so many times.
+fn are_synced_over<L: Ledger>(
     rt: &HostRuntime,
     blank: Blank,
     interruptions: u32,
-) -> Result<Vec<usize>, Fail>
+) -> Result<bool, Fail>
     requires name { blank.name ≡ L.name }
     requires parts { blank.parts ≡ L.parts }
     requires two { blank.parts ≡ 2 }
@@ -239,22 +284,14 @@ fn synced_at_answers<L: Ledger>(
         tally: &tally,
     };
     let mut owner = owner_over::<L>(rt, blank, device)?;
-    let mut synced = Vec::new(rt.alloc());
-    for change in CHANGES {
-        let _reply = replies_to(rt.alloc(), &mut owner, &[change])?;
-        synced.push(tally.synced.get())?;
-    }
-    Ok(synced)
+    are_synced(rt.alloc(), &mut owner, &tally)
 }
-
-/// The bytes of one record, of two, and so on.
-const BYTES_OF_RECORDS: [usize; 12] = [35, 70, 105, 140, 175, 210, 245, 280, 315, 350, 385, 420];
 
 #[test]
 fn a_file_is_synced_before_each_answer(rt: HostRuntime) -> Result<(), Fail> {
     for times in [0u32, 1, 99] {
-        let synced = synced_at_answers::<Brand>(&rt, Blank::new(2), times)?;
-        assert_eq!(rt; synced.as_slice(), BYTES_OF_RECORDS.as_slice());
+        let are_synced = are_synced_over::<Brand>(&rt, Blank::new(2), times)?;
+        assert!(rt; are_synced, "{times}");
     }
     Ok(())
 }

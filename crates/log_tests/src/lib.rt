@@ -21,6 +21,8 @@ mod renewals;
 #[cfg(test)]
 mod room;
 #[cfg(test)]
+mod steps;
+#[cfg(test)]
 mod sweeps;
 #[cfg(test)]
 mod versions;

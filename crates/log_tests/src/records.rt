@@ -90,32 +90,56 @@ pub fn replies_to<S: LogSink, L: Ledger>(
     Ok(replies)
 }
 
-pub fn play<L: Ledger>(
-    alloc: Global,
-    hasher: RandomState,
+/// How many bytes a sink writes at once, which of its calls fails, 0 for none, and how many records its log takes.
+#[derive(Clone, Copy)]
+pub struct Limits {
+    pub chunk: usize,
+    pub fails_at: u64,
+    pub max_records: u64,
+}
+
+/// A sink that does not fail, and a log that takes all records of a test.
+pub const AMPLE: Limits = Limits {
+    chunk: 64,
+    fails_at: 0,
+    max_records: 10,
+};
+
+fn play_with<L: Ledger>(
+    rt: &HostRuntime,
     blank: Blank,
-    sink: FuseSink<MemorySink<Global>>,
-    max_records: u64,
+    limits: Limits,
     commands: &[&str],
 ) -> Result<Played, Fail>
     requires name { blank.name ≡ L.name }
     requires parts { blank.parts ≡ L.parts }
     requires two { blank.parts ≡ 2 }
-    requires some { 1 ≤ max_records }
-    requires limited { max_records ≤ 2 ^ 40 }
+    requires piece { 1 ≤ limits.chunk }
+    requires some { 1 ≤ limits.max_records }
+    requires limited { limits.max_records ≤ 2 ^ 40 }
 {
-    let log = Log::<_, L>::new(blank, sink, max_records);
+    let alloc = rt.alloc();
+    let hasher = RandomState::new(rt)?;
+    let sink = FuseSink::new(MemorySink::new(alloc, limits.chunk), limits.fails_at);
+    let log = Log::<_, L>::new(blank, sink, limits.max_records);
     let mut owner = LoggedOwner::new(alloc, OneOwner::new(alloc, hasher), log);
     let replies = replies_to(alloc, &mut owner, commands)?;
     let (_, log) = owner.into_parts();
-    let appended = log.appended();
-    let is_broken = log.is_broken();
     Ok(Played {
         replies,
-        appended,
-        is_broken,
+        appended: log.appended(),
+        is_broken: log.is_broken(),
         sink: log.into_sink(),
     })
+}
+
+/// What commands came to over a log of their own.
+pub fn play(rt: &HostRuntime, limits: Limits, commands: &[&str]) -> Result<Played, Fail>
+    requires piece { 1 ≤ limits.chunk }
+    requires some { 1 ≤ limits.max_records }
+    requires limited { limits.max_records ≤ 2 ^ 40 }
+{
+    play_with::<Brand>(rt, Blank::new(2), limits, commands)
 }
 
 // Whether a reload of these bytes gives that, and a command after it this reply.
@@ -132,6 +156,15 @@ pub fn reloads_to(
     let loaded = reload(alloc, &mut source, &mut owner, 35, 1000);
     let told = answer(alloc, &mut owner, question)?;
     Ok(loaded == wanted && told.as_str() == reply)
+}
+
+/// These bytes, but that the one at an index is another.
+pub fn damaged(alloc: Global, bytes: &[u8], at: usize) -> Result<Vec<u8>, Fail> {
+    let mut damaged = Vec::from_slice(alloc, bytes)?;
+    if let Some(byte) = damaged.get_mut(at) {
+        *byte = b'!';
+    }
+    Ok(damaged)
 }
 
 /// A file of version 1, reloaded.
@@ -154,93 +187,154 @@ pub fn loaded_effects(records: u64, whole: u64, torn: u64) -> Result<Loaded, Rel
     })
 }
 
-// The second write fails: a prefix of a record stands in the sink, the sets stay, and the log is
-// broken for good.
-#[test]
-fn a_failed_write_breaks_the_log(rt: HostRuntime) -> Result<(), Fail> {
-    let commands = ["ZADD k 1 a", "ZCARD k", "ZADD k 1 a", "ZREM k z"];
-    let alloc = rt.alloc();
-    let sink = FuseSink::new(MemorySink::new(alloc, 7), 2);
-    let hasher = RandomState::new(&rt)?;
-    let torn = play::<Brand>(alloc, hasher, Blank::new(2), sink, 10, &commands)?;
-    assert_eq!(rt; torn.replies.as_str(), "r16 :0~ r14 :0~ ");
-    assert!(rt; torn.is_broken && torn.sink.calls() == 2);
-    let sink = torn.sink.into_inner();
-    assert_eq!(rt; sink.bytes(), b"*4\r\n$4\r".as_slice());
-    assert!(rt; reloads_to(&rt, sink.bytes(), loaded(0, 0, 7), "ZCARD k", ":0~")?);
-    Ok(())
+/// Commands over a log of such limits: the replies, the records that were appended, whether the log is broken then, how
+/// often its sink was called and the bytes that it has. Then what these are reloaded as: records, whole bytes and torn
+/// ones, and the reply to a question behind it.
+struct Case {
+    name: &'static str,
+    limits: Limits,
+    commands: &'static [&'static str],
+    replies: &'static str,
+    appended: u64,
+    is_broken: bool,
+    calls: u64,
+    bytes: &'static [u8],
+    loaded: (u64, u64, u64),
+    question: &'static str,
+    reply: &'static str,
 }
 
-// The sync fails: the refused record stands there whole.
-#[test]
-fn a_failed_sync_leaves_the_record(rt: HostRuntime) -> Result<(), Fail> {
-    let commands = ["ZADD k 1 a", "ZCARD k"];
-    let alloc = rt.alloc();
-    let sink = FuseSink::new(MemorySink::new(alloc, 64), 2);
-    let hasher = RandomState::new(&rt)?;
-    let unsynced = play::<Brand>(alloc, hasher, Blank::new(2), sink, 10, &commands)?;
-    assert_eq!(rt; unsynced.replies.as_str(), "r16 :0~ ");
-    let sink = unsynced.sink.into_inner();
-    assert!(rt; reloads_to(&rt, sink.bytes(), loaded(1, 35, 0), "ZSCORE k a", "$1~1~")?);
-    Ok(())
+const CASES: [Case; 5] = [
+    // a prefix of a record stands in the sink, the sets stay, and the log is broken for good
+    Case {
+        name: "the second write fails",
+        limits: Limits {
+            chunk: 7,
+            fails_at: 2,
+            max_records: 10,
+        },
+        commands: &["ZADD k 1 a", "ZCARD k", "ZADD k 1 a", "ZREM k z"],
+        replies: "r16 :0~ r14 :0~ ",
+        appended: 0,
+        is_broken: true,
+        calls: 2,
+        bytes: b"*4\r\n$4\r",
+        loaded: (0, 0, 7),
+        question: "ZCARD k",
+        reply: ":0~",
+    },
+    // the refused record stands there whole
+    Case {
+        name: "the sync fails",
+        limits: Limits {
+            chunk: 64,
+            fails_at: 2,
+            max_records: 10,
+        },
+        commands: &["ZADD k 1 a", "ZCARD k"],
+        replies: "r16 :0~ ",
+        appended: 0,
+        is_broken: true,
+        calls: 2,
+        bytes: RECORD,
+        loaded: (1, 35, 0),
+        question: "ZSCORE k a",
+        reply: "$1~1~",
+    },
+    // a removal whose record is not appended is not made, and one that removes nothing needs none
+    Case {
+        name: "a removal is refused",
+        limits: Limits {
+            chunk: 64,
+            fails_at: 3,
+            max_records: 10,
+        },
+        commands: &[
+            "ZADD k 1 a",
+            "ZREMRANGEBYSCORE k 1 1",
+            "ZCARD k",
+            "ZREMRANGEBYSCORE k 2 2",
+        ],
+        replies: ":1~ r16 :1~ :0~ ",
+        appended: 1,
+        is_broken: true,
+        calls: 3,
+        bytes: RECORD,
+        loaded: (1, 35, 0),
+        question: LISTING,
+        reply: "*2~$1~a~$1~1~",
+    },
+    // a removal is recorded as it was asked for, and one that removes nothing is not
+    Case {
+        name: "removals",
+        limits: AMPLE,
+        commands: &[
+            "ZADD k 1 a 2 b 3 c",
+            "ZREMRANGEBYSCORE k 4 +inf",
+            "ZREMRANGEBYSCORE k (1 2",
+        ],
+        replies: ":3~ :0~ :1~ ",
+        appended: 2,
+        is_broken: false,
+        calls: 4,
+        bytes: THREE_AND_A_REMOVAL,
+        loaded: (2, 112, 0),
+        question: LISTING,
+        reply: "*4~$1~a~$1~1~$1~c~$1~3~",
+    },
+    // what a full log refuses leaves the sets
+    Case {
+        name: "one record alone may be appended",
+        limits: Limits {
+            chunk: 64,
+            fails_at: 0,
+            max_records: 1,
+        },
+        commands: &[
+            "ZADD k 1 a",
+            "ZADD k 2 b",
+            "ZADD k 1 a",
+            "ZREM k a",
+            "ZCARD k",
+        ],
+        replies: ":1~ r15 :0~ r15 :1~ ",
+        appended: 1,
+        is_broken: false,
+        calls: 2,
+        bytes: RECORD,
+        loaded: (1, 35, 0),
+        question: LISTING,
+        reply: "*2~$1~a~$1~1~",
+    },
+];
+
+/// Whether the log and its sink are then as the case says.
+fn is_logged_so(played: &Played, case: &Case) -> bool {
+    played.replies.as_str() == case.replies
+        && (played.appended, played.is_broken) == (case.appended, case.is_broken)
+        && played.sink.calls() == case.calls
 }
 
-// A removal whose record is not appended is not made, and one that removes nothing needs none.
-#[test]
-fn a_refused_removal_leaves_the_members(rt: HostRuntime) -> Result<(), Fail> {
-    let commands = [
-        "ZADD k 1 a",
-        "ZREMRANGEBYSCORE k 1 1",
-        "ZCARD k",
-        "ZREMRANGEBYSCORE k 2 2",
-    ];
-    let alloc = rt.alloc();
-    let sink = FuseSink::new(MemorySink::new(alloc, 64), 3);
-    let hasher = RandomState::new(&rt)?;
-    let refused = play::<Brand>(alloc, hasher, Blank::new(2), sink, 10, &commands)?;
-    assert_eq!(rt; refused.replies.as_str(), ":1~ r16 :1~ :0~ ");
-    assert!(rt; refused.is_broken && refused.appended == 1);
-    Ok(())
+/// Whether commands come to what their case says.
+fn goes_so(rt: &HostRuntime, case: &Case) -> Result<bool, Fail> {
+    let limits = case.limits;
+    if limits.chunk == 0 || limits.max_records == 0 || limits.max_records > 10 {
+        return Err("no limits of a log")?;
+    }
+    let played = play(rt, limits, case.commands)?;
+    let is_logged = is_logged_so(&played, case);
+    let sink = played.sink.into_inner();
+    let (records, whole, torn) = case.loaded;
+    let wanted = loaded(records, whole, torn);
+    let is_reloaded = reloads_to(rt, sink.bytes(), wanted, case.question, case.reply)?;
+    Ok(is_logged && is_reloaded && sink.bytes() == case.bytes)
 }
 
-// A removal is recorded as it was asked for, and one that removes nothing is not.
 #[test]
-fn removals_are_reloaded(rt: HostRuntime) -> Result<(), Fail> {
-    let commands = [
-        "ZADD k 1 a 2 b 3 c",
-        "ZREMRANGEBYSCORE k 4 +inf",
-        "ZREMRANGEBYSCORE k (1 2",
-    ];
-    let alloc = rt.alloc();
-    let sink = FuseSink::new(MemorySink::new(alloc, 64), 0);
-    let hasher = RandomState::new(&rt)?;
-    let kept = play::<Brand>(alloc, hasher, Blank::new(2), sink, 10, &commands)?;
-    assert_eq!(rt; kept.replies.as_str(), ":3~ :0~ :1~ ");
-    let sink = kept.sink.into_inner();
-    let records = file(alloc, &["ZADD k 1 a 2 b 3 c", "ZREMRANGEBYSCORE k (1 2"])?;
-    assert_eq!(rt; sink.bytes(), records.as_slice());
-    let whole = u64::try_from(records.len()).unwrap_or(0);
-    let listed = "*4~$1~a~$1~1~$1~c~$1~3~";
-    assert!(rt; reloads_to(&rt, sink.bytes(), loaded(2, whole, 0), LISTING, listed)?);
-    Ok(())
-}
-
-// One record alone may be appended: what a full log refuses leaves the sets.
-#[test]
-fn a_full_log_refuses_changes(rt: HostRuntime) -> Result<(), Fail> {
-    let commands = [
-        "ZADD k 1 a",
-        "ZADD k 2 b",
-        "ZADD k 1 a",
-        "ZREM k a",
-        "ZCARD k",
-    ];
-    let alloc = rt.alloc();
-    let sink = FuseSink::new(MemorySink::new(alloc, 64), 0);
-    let hasher = RandomState::new(&rt)?;
-    let full = play::<Brand>(alloc, hasher, Blank::new(2), sink, 1, &commands)?;
-    assert_eq!(rt; full.replies.as_str(), ":1~ r15 :0~ r15 :1~ ");
-    assert!(rt; !full.is_broken && full.appended == 1);
+fn commands_over_a_log_go_as_told(rt: HostRuntime) -> Result<(), Fail> {
+    for case in CASES.iter() {
+        assert!(rt; goes_so(&rt, case)?, "{}", case.name);
+    }
     Ok(())
 }
 
@@ -259,6 +353,13 @@ pub const LISTING: &str = "ZRANGEBYSCORE k -inf +inf WITHSCORES";
 pub const THREE_RECORDS: &[u8] =
     b"*4\r\n$4\r\nZADD\r\n$1\r\nk\r\n$1\r\n1\r\n$1\r\na\r\n*4\r\n$4\r\nZADD\r\n$1\r\nk\r\n$1\r\n2\r\n$1\r\nb\r\n*3\r\n$4\r\nZREM\r\n$1\r\nk\r\n$1\r\na\r\n";
 
+/// ZADD k 1 a.
+const RECORD: &[u8] = b"*4\r\n$4\r\nZADD\r\n$1\r\nk\r\n$1\r\n1\r\n$1\r\na\r\n";
+
+/// ZADD k 1 a 2 b 3 c and ZREMRANGEBYSCORE k (1 2: records of 63 and 49 bytes.
+const THREE_AND_A_REMOVAL: &[u8] =
+    b"*8\r\n$4\r\nZADD\r\n$1\r\nk\r\n$1\r\n1\r\n$1\r\na\r\n$1\r\n2\r\n$1\r\nb\r\n$1\r\n3\r\n$1\r\nc\r\n*4\r\n$16\r\nZREMRANGEBYSCORE\r\n$1\r\nk\r\n$2\r\n(1\r\n$1\r\n2\r\n";
+
 /// ZADD j -3 x and ZADD k 1 B 1 a 1 b: records of 36 and 63 bytes.
 pub const TWO_SETS: &[u8] =
     b"*4\r\n$4\r\nZADD\r\n$1\r\nj\r\n$2\r\n-3\r\n$1\r\nx\r\n*8\r\n$4\r\nZADD\r\n$1\r\nk\r\n$1\r\n1\r\n$1\r\nB\r\n$1\r\n1\r\n$1\r\na\r\n$1\r\n1\r\n$1\r\nb\r\n";
@@ -267,55 +368,80 @@ pub const TWO_SETS: &[u8] =
 pub const TWO_SETS_REWRITTEN: &[u8] =
     b"*2\r\n$7\r\nZCRACKD\r\n$1\r\n2\r\n*4\r\n$4\r\nZADD\r\n$1\r\nj\r\n$2\r\n-3\r\n$1\r\nx\r\n*8\r\n$4\r\nZADD\r\n$1\r\nk\r\n$1\r\n1\r\n$1\r\nB\r\n$1\r\n1\r\n$1\r\na\r\n$1\r\n1\r\n$1\r\nb\r\n";
 
+// A record is the request.
 #[test]
-fn whole_records_are_reloaded(rt: HostRuntime) -> Result<(), Fail> {
+fn records_are_requests(rt: HostRuntime) -> Result<(), Fail> {
     let whole = file(rt.alloc(), &["ZADD k 1 a", "ZADD k 2 b", "ZREM k a"])?;
     assert_eq!(rt; whole.as_slice(), THREE_RECORDS);
-    let listed = "*2~$1~b~$1~2~";
-    assert!(rt; reloads_to(&rt, THREE_RECORDS, loaded(3, 98, 0), LISTING, listed)?);
-    assert!(rt; reloads_to(&rt, b"", loaded(0, 0, 0), LISTING, "*0~")?);
     Ok(())
 }
 
-#[test]
-fn a_torn_end_is_counted(rt: HostRuntime) -> Result<(), Fail> {
-    let cut = THREE_RECORDS.get(..80).unwrap_or(&[]);
-    let listed = "*4~$1~a~$1~1~$1~b~$1~2~";
-    assert!(rt; reloads_to(&rt, cut, loaded(2, 70, 10), LISTING, listed)?);
-    Ok(())
+/// The first 80 bytes of the three records.
+const CUT: &[u8] =
+    b"*4\r\n$4\r\nZADD\r\n$1\r\nk\r\n$1\r\n1\r\n$1\r\na\r\n*4\r\n$4\r\nZADD\r\n$1\r\nk\r\n$1\r\n2\r\n$1\r\nb\r\n*3\r\n$4\r\nZR";
+
+/// The three records, but that a byte of the second is another.
+const DAMAGED: &[u8] =
+    b"*4\r\n$4\r\nZADD\r\n$1\r\nk\r\n$1\r\n1\r\n$1\r\na\r\n*4\r\n!4\r\nZADD\r\n$1\r\nk\r\n$1\r\n2\r\n$1\r\nb\r\n*3\r\n$4\r\nZREM\r\n$1\r\nk\r\n$1\r\na\r\n";
+
+/// ZADD k 1 a, ZADD k 2 b and ZCARD k, which changes nothing.
+const WITH_A_READING: &[u8] =
+    b"*4\r\n$4\r\nZADD\r\n$1\r\nk\r\n$1\r\n1\r\n$1\r\na\r\n*4\r\n$4\r\nZADD\r\n$1\r\nk\r\n$1\r\n2\r\n$1\r\nb\r\n*2\r\n$5\r\nZCARD\r\n$1\r\nk\r\n";
+
+/// What stands for no request: it is no record, and counts among the whole bytes.
+const SKIPS: &[u8] = b"*0\r\n*-1\r\n";
+
+/// Bytes that are reloaded: records, whole bytes and torn ones, or the fault, and the listing of k then.
+type Reload = (
+    &'static [u8],
+    Result<(u64, u64, u64), ReloadFault>,
+    &'static str,
+);
+
+const RELOADS: [Reload; 6] = [
+    (THREE_RECORDS, Ok((3, 98, 0)), "*2~$1~b~$1~2~"),
+    (b"", Ok((0, 0, 0)), "*0~"),
+    (CUT, Ok((2, 70, 10)), "*4~$1~a~$1~1~$1~b~$1~2~"),
+    (DAMAGED, Err(ReloadFault::Damaged(35)), "*2~$1~a~$1~1~"),
+    (
+        WITH_A_READING,
+        Err(ReloadFault::NotACommand(70)),
+        "*4~$1~a~$1~1~$1~b~$1~2~",
+    ),
+    (SKIPS, Ok((0, 9, 0)), "*0~"),
+];
+
+/// Whether bytes are reloaded so.
+fn is_reloaded(rt: &HostRuntime, reload: Reload) -> Result<bool, Fail> {
+    let (bytes, wanted, listed) = reload;
+    let wanted = match wanted {
+        Ok((records, whole, torn)) => loaded(records, whole, torn),
+        Err(fault) => Err(fault),
+    };
+    reloads_to(rt, bytes, wanted, LISTING, listed)
 }
 
 #[test]
-fn a_fault_of_reloading_is_told(rt: HostRuntime) -> Result<(), Fail> {
-    let mut damaged = Vec::from_slice(rt.alloc(), THREE_RECORDS)?;
-    if let Some(byte) = damaged.get_mut(39) {
-        *byte = b'!';
+fn files_are_reloaded_as_told(rt: HostRuntime) -> Result<(), Fail> {
+    for (at, reload) in RELOADS.iter().enumerate() {
+        assert!(rt; is_reloaded(&rt, *reload)?, "case {at}");
     }
-    let fault = Err(ReloadFault::Damaged(35));
-    assert!(rt; reloads_to(&rt, damaged.as_slice(), fault, LISTING, "*2~$1~a~$1~1~")?);
-    let reads = file(rt.alloc(), &["ZADD k 1 a", "ZADD k 2 b", "ZCARD k"])?;
-    let no_command = Err(ReloadFault::NotACommand(70));
-    let listed = "*4~$1~a~$1~1~$1~b~$1~2~";
-    assert!(rt; reloads_to(&rt, reads.as_slice(), no_command, LISTING, listed)?);
     Ok(())
 }
 
-// What stands for no request is passed over: it is no record, and counts among the whole bytes.
-#[test]
-fn skips_are_no_records(rt: HostRuntime) -> Result<(), Fail> {
-    assert!(rt; reloads_to(&rt, b"*0\r\n*-1\r\n", loaded(0, 9, 0), "ZCARD k", ":0~")?);
-    Ok(())
+/// Whether two sets are rewritten as these bytes.
+fn two_sets_are_rewritten(rt: &HostRuntime, wanted: &[u8]) -> Result<bool, Fail> {
+    let alloc = rt.alloc();
+    let mut owner = OneOwner::new(alloc, RandomState::new(rt)?);
+    answer(alloc, &mut owner, "ZADD k 1 b 1 a 1 B")?;
+    answer(alloc, &mut owner, "ZADD j -3 x")?;
+    let mut sink = MemorySink::new(alloc, 7);
+    Ok(rewrite(alloc, &owner, &mut sink) == Ok(2) && sink.bytes() == wanted)
 }
 
 #[test]
 fn rewritten_sets(rt: HostRuntime) -> Result<(), Fail> {
-    let alloc = rt.alloc();
-    let mut owner = OneOwner::new(alloc, RandomState::new(&rt)?);
-    answer(alloc, &mut owner, "ZADD k 1 b 1 a 1 B")?;
-    answer(alloc, &mut owner, "ZADD j -3 x")?;
-    let mut sink = MemorySink::new(alloc, 7);
-    assert!(rt; rewrite(alloc, &owner, &mut sink) == Ok(2));
-    assert_eq!(rt; sink.bytes(), TWO_SETS_REWRITTEN);
+    assert!(rt; two_sets_are_rewritten(&rt, TWO_SETS_REWRITTEN)?);
     let listed = "*6~$1~B~$1~1~$1~a~$1~1~$1~b~$1~1~";
     let wanted = loaded_effects(2, 123, 0);
     assert!(rt; reloads_to(&rt, TWO_SETS_REWRITTEN, wanted, LISTING, listed)?);

@@ -1,19 +1,12 @@
 //! Files of version 1, which opening renews: a file of version 2 takes their place.
 
 use crate::failing::{Fails, OF_ANOTHER};
-use crate::files::{
-    EFFECT, HEADER, RECORD, TORN, appending, has_bytes, is_missing, loaded, reading,
+use crate::steps::{
+    EFFECT, HEADER, Opened, RECORD, Step, TORN, Tale, taken, taken_beside_an_appender,
 };
-use append_log::{FileFault, OpenFault, RenewFault, RewriteFault, open_to_append};
-use std::fs::{self, Permissions};
-use std::hash::RandomState;
-use std::os::unix::fs::{PermissionsExt, symlink};
+use append_log::{FileFault, Loaded, OpenFault, RenewFault, RewriteFault};
+use std::fs;
 use std::test::Fail;
-use zset_core::OneOwner;
-
-/// A file of version 1, the number of its records, the bytes of the whole ones and those behind them, and the file that
-/// takes its place.
-type Renewal = (&'static [u8], u64, u64, u64, &'static [u8]);
 
 /// Commands with options, a removal of more than one, what stands for no request, and a torn end: 310 bytes.
 const OLD: &[u8] =
@@ -23,189 +16,282 @@ const OLD: &[u8] =
 const OLD_RENEWED: &[u8] =
     b"*2\r\n$7\r\nZCRACKD\r\n$1\r\n2\r\n*4\r\n$4\r\nZADD\r\n$1\r\nj\r\n$2\r\n-1\r\n$1\r\nx\r\n*4\r\n$4\r\nZADD\r\n$1\r\nk\r\n$1\r\n6\r\n$1\r\na\r\n";
 
-const RENEWALS: [Renewal; 6] = [
-    (b"", 0, 0, 0, HEADER),
-    (b"*2\r\n$7\r\nZCRACKD\r\n$1\r\n2\r", 0, 0, 23, HEADER),
-    (b"*-1\r\n", 0, 5, 0, HEADER),
-    (RECORD, 1, 35, 0, EFFECT),
-    (TORN, 1, 35, 2, EFFECT),
-    (OLD, 6, 289, 21, OLD_RENEWED),
+/// A prefix of the header.
+const TORN_HEADER: &[u8] = b"*2\r\n$7\r\nZCRACKD\r\n$1\r\n2\r";
+
+/// A file of version 1 is opened that has nothing.
+const EMPTY: Opened = Ok(Loaded {
+    records: 0,
+    whole: 0,
+    torn: 0,
+    version: 1,
+});
+
+/// One that has a prefix of the header.
+const OF_TORN_HEADER: Opened = Ok(Loaded {
+    records: 0,
+    whole: 0,
+    torn: 23,
+    version: 1,
+});
+
+/// One that has what stands for no request.
+const OF_A_SKIP: Opened = Ok(Loaded {
+    records: 0,
+    whole: 5,
+    torn: 0,
+    version: 1,
+});
+
+const ONE_RECORD: Opened = Ok(Loaded {
+    records: 1,
+    whole: 35,
+    torn: 0,
+    version: 1,
+});
+
+const WITH_TORN_END: Opened = Ok(Loaded {
+    records: 1,
+    whole: 35,
+    torn: 2,
+    version: 1,
+});
+
+const OF_OLD: Opened = Ok(Loaded {
+    records: 6,
+    whole: 289,
+    torn: 21,
+    version: 1,
+});
+
+/// Files of version 2 are opened: the header alone, the record's, and the one that takes the place of the old one.
+const OF_A_HEADER: Opened = Ok(Loaded {
+    records: 0,
+    whole: 24,
+    torn: 0,
+    version: 2,
+});
+
+const ONE_EFFECT: Opened = Ok(Loaded {
+    records: 1,
+    whole: 59,
+    torn: 0,
+    version: 2,
+});
+
+const TWO_EFFECTS: Opened = Ok(Loaded {
+    records: 2,
+    whole: 95,
+    torn: 0,
+    version: 2,
+});
+
+const IN_USE: Opened = Err(OpenFault::File(FileFault::Locked));
+
+/// Why a file is not renewed, whose bytes and name stay.
+const NOT_WRITTEN: Opened = Err(OpenFault::Renew(RenewFault::Rewrite(RewriteFault::Sink)));
+
+const NOT_NAMED: Opened = Err(OpenFault::Renew(RenewFault::File(FileFault::Name)));
+
+const NOT_OPENED: Opened = Err(OpenFault::Renew(RenewFault::File(FileFault::Open)));
+
+const DRAFT_IN_USE: Opened = Err(OpenFault::Renew(RenewFault::File(FileFault::Locked)));
+
+/// The file is renewed, and its folder not synced.
+const FOLDER_NOT_SYNCED: Opened = Err(OpenFault::Renew(RenewFault::File(FileFault::Folder)));
+
+const TALES: [Tale; 11] = [
+    (
+        "a file of commands is renewed",
+        &[
+            Step::Write("old.append", b""),
+            Step::Append("old.append", Fails::Nothing, EMPTY),
+            Step::Has("old.append", HEADER),
+            Step::IsMissing("old.append.new"),
+            Step::Write("old.append", TORN_HEADER),
+            Step::Append("old.append", Fails::Nothing, OF_TORN_HEADER),
+            Step::Has("old.append", HEADER),
+            Step::IsMissing("old.append.new"),
+            Step::Write("old.append", b"*-1\r\n"),
+            Step::Append("old.append", Fails::Nothing, OF_A_SKIP),
+            Step::Has("old.append", HEADER),
+            Step::IsMissing("old.append.new"),
+            Step::Write("old.append", RECORD),
+            Step::Append("old.append", Fails::Nothing, ONE_RECORD),
+            Step::Has("old.append", EFFECT),
+            Step::IsMissing("old.append.new"),
+            Step::Write("old.append", TORN),
+            Step::Append("old.append", Fails::Nothing, WITH_TORN_END),
+            Step::Has("old.append", EFFECT),
+            Step::IsMissing("old.append.new"),
+            Step::Write("old.append", OLD),
+            Step::Append("old.append", Fails::Nothing, OF_OLD),
+            Step::Has("old.append", OLD_RENEWED),
+            Step::IsMissing("old.append.new"),
+            Step::Append("old.append", Fails::Nothing, TWO_EFFECTS),
+            Step::Has("old.append", OLD_RENEWED),
+            Step::Remove("old.append"),
+        ],
+    ),
+    (
+        "a missing file gets a header",
+        &[
+            Step::Append("made.append", Fails::Nothing, EMPTY),
+            Step::Has("made.append", HEADER),
+            Step::Append("made.append", Fails::Nothing, OF_A_HEADER),
+            Step::Read("made.append", Fails::Nothing, OF_A_HEADER),
+            Step::Remove("made.append"),
+        ],
+    ),
+    (
+        "a failed renewal leaves the file",
+        &[
+            Step::Write("kept.append", TORN),
+            Step::Append("kept.append", Fails::Write, NOT_WRITTEN),
+            Step::Has("kept.append", TORN),
+            Step::IsMissing("kept.append.new"),
+            Step::Append("kept.append", Fails::SyncData, NOT_WRITTEN),
+            Step::Has("kept.append", TORN),
+            Step::IsMissing("kept.append.new"),
+            Step::Append("kept.append", Fails::Rename, NOT_NAMED),
+            Step::Has("kept.append", TORN),
+            Step::IsMissing("kept.append.new"),
+            Step::Remove("kept.append"),
+        ],
+    ),
+    (
+        "the folder is synced behind a renewal",
+        &[
+            Step::Write("unsynced.append", RECORD),
+            Step::Append("unsynced.append", Fails::SyncAll, FOLDER_NOT_SYNCED),
+            Step::Has("unsynced.append", EFFECT),
+            Step::Remove("unsynced.append"),
+        ],
+    ),
+    (
+        "a draft that was left is replaced",
+        &[
+            Step::Write("again.append", RECORD),
+            Step::Write("again.append.new", b"a draft that was left"),
+            Step::Append("again.append", Fails::Nothing, ONE_RECORD),
+            Step::Has("again.append", EFFECT),
+            Step::IsMissing("again.append.new"),
+            Step::Remove("again.append"),
+        ],
+    ),
+    (
+        "a folder for a draft keeps a file as it is",
+        &[
+            Step::Write("beside.append", RECORD),
+            Step::MakeFolder("beside.append.new"),
+            Step::Append("beside.append", Fails::Nothing, NOT_OPENED),
+            Step::Has("beside.append", RECORD),
+            Step::RemoveFolder("beside.append.new"),
+            Step::Remove("beside.append"),
+        ],
+    ),
+    (
+        "a renewed file has the permissions of the old one",
+        &[
+            Step::Write("private.append", RECORD),
+            Step::SetMode("private.append", 0o600),
+            Step::Append("private.append", Fails::SetPermissions, NOT_OPENED),
+            Step::Has("private.append", RECORD),
+            Step::IsMissing("private.append.new"),
+            Step::Append("private.append", Fails::Nothing, ONE_RECORD),
+            Step::HasMode("private.append", 0o600),
+            Step::Remove("private.append"),
+        ],
+    ),
+    (
+        "a renewed file is locked as it gets its name",
+        &[
+            Step::Write("placed.append", RECORD),
+            Step::Append("placed.append", Fails::NamesLocked, ONE_RECORD),
+            Step::Remove("placed.append"),
+        ],
+    ),
+    (
+        "a file that lost its name is not read",
+        &[
+            Step::Write("lost.append", RECORD),
+            Step::Append("lost.append", Fails::OpenedIsReplaced, IN_USE),
+            Step::Has("lost.append", OF_ANOTHER),
+            Step::Write("lost.append", RECORD),
+            Step::Read("lost.append", Fails::OpenedIsReplaced, IN_USE),
+            Step::Has("lost.append", OF_ANOTHER),
+            Step::Remove("lost.append"),
+        ],
+    ),
+    // nothing but the file is left in the folder
+    (
+        "a link leads to the new file",
+        &[
+            Step::MakeFolder("linked"),
+            Step::Write("linked/true.append", RECORD),
+            Step::Symlink("linked/true.append", "link.append"),
+            Step::Append("link.append", Fails::Nothing, ONE_RECORD),
+            Step::IsLink("link.append", true),
+            Step::IsLink("linked/true.append", false),
+            Step::Has("linked/true.append", EFFECT),
+            Step::Append("link.append", Fails::Nothing, ONE_EFFECT),
+            Step::Remove("link.append"),
+            Step::Remove("linked/true.append"),
+            Step::RemoveFolder("linked"),
+        ],
+    ),
+    (
+        "a link to nothing leads to the new file",
+        &[
+            Step::MakeFolder("empty_place"),
+            Step::Symlink("empty_place/true.append", "early.append"),
+            Step::Append("early.append", Fails::Nothing, EMPTY),
+            Step::IsLink("early.append", true),
+            Step::Has("empty_place/true.append", HEADER),
+            Step::Remove("early.append"),
+            Step::Remove("empty_place/true.append"),
+            Step::RemoveFolder("empty_place"),
+        ],
+    ),
 ];
 
-/// Whether a file of version 1 is opened as this says, and the new one as it is.
-fn is_renewed(rt: &HostRuntime, renewal: Renewal) -> Result<bool, Fail> {
-    let (bytes, records, whole, torn, new) = renewal;
-    fs::write(rt, "old.append", bytes)?;
-    let first = appending(rt, Fails::Nothing, "old.append")?;
-    let is_first = first == Ok(loaded(1, records, whole, torn));
-    let has_new = has_bytes(rt, "old.append", new)? && is_missing(rt, "old.append.new");
-    Ok(is_first && has_new)
-}
-
 #[test]
-fn a_file_of_commands_is_renewed(rt: HostRuntime) -> Result<(), Fail> {
-    for (at, renewal) in RENEWALS.iter().enumerate() {
-        assert!(rt; is_renewed(&rt, *renewal)?, "{at}");
+fn renewals_go_as_told(rt: HostRuntime) -> Result<(), Fail> {
+    for (name, steps) in TALES.iter() {
+        let taken = taken(&rt, *steps)?;
+        assert!(rt; taken == steps.len(), "{name}: step {taken}");
     }
-    assert!(rt; appending(&rt, Fails::Nothing, "old.append")? == Ok(loaded(2, 2, 95, 0)));
-    assert!(rt; has_bytes(&rt, "old.append", OLD_RENEWED)?);
-    fs::remove_file(&rt, "old.append")?;
     Ok(())
 }
 
-#[test]
-fn a_missing_file_gets_a_header(rt: HostRuntime) -> Result<(), Fail> {
-    assert!(rt; appending(&rt, Fails::Nothing, "made.append")? == Ok(loaded(1, 0, 0, 0)));
-    assert!(rt; has_bytes(&rt, "made.append", HEADER)?);
-    assert!(rt; appending(&rt, Fails::Nothing, "made.append")? == Ok(loaded(2, 0, 24, 0)));
-    assert!(rt; reading(&rt, Fails::Nothing, "made.append")? == Ok(loaded(2, 0, 24, 0)));
-    fs::remove_file(&rt, "made.append")?;
-    Ok(())
-}
-
-/// A call that fails, and why a file is not renewed then, whose bytes and name stay.
-const FAULTS: [(Fails, RenewFault); 3] = [
-    (Fails::Write, RenewFault::Rewrite(RewriteFault::Sink)),
-    (Fails::SyncData, RenewFault::Rewrite(RewriteFault::Sink)),
-    (Fails::Rename, RenewFault::File(FileFault::Name)),
+/// Beside a draft that another one writes, the file stays as it is.
+const BESIDE_A_DRAFT: [Step; 5] = [
+    Step::Append("busy.append", Fails::Nothing, DRAFT_IN_USE),
+    Step::Has("busy.append", RECORD),
+    Step::Has("busy.append.new", HEADER),
+    Step::Remove("busy.append"),
+    Step::Remove("busy.append.new"),
 ];
-
-#[test]
-fn a_failed_renewal_leaves_the_file(rt: HostRuntime) -> Result<(), Fail> {
-    fs::write(&rt, "kept.append", TORN)?;
-    for (fails, fault) in FAULTS {
-        let opened = appending(&rt, fails, "kept.append")?;
-        assert!(rt; opened == Err(OpenFault::Renew(fault)), "{fails:?}");
-        assert!(rt; has_bytes(&rt, "kept.append", TORN)?);
-        assert!(rt; is_missing(&rt, "kept.append.new"));
-    }
-    fs::remove_file(&rt, "kept.append")?;
-    Ok(())
-}
-
-#[test]
-fn the_folder_is_synced_behind_a_renewal(rt: HostRuntime) -> Result<(), Fail> {
-    fs::write(&rt, "unsynced.append", RECORD)?;
-    let folder = Err(OpenFault::Renew(RenewFault::File(FileFault::Folder)));
-    assert!(rt; appending(&rt, Fails::SyncAll, "unsynced.append")? == folder);
-    assert!(rt; has_bytes(&rt, "unsynced.append", EFFECT)?);
-    fs::remove_file(&rt, "unsynced.append")?;
-    Ok(())
-}
-
-#[test]
-fn a_draft_that_was_left_is_replaced(rt: HostRuntime) -> Result<(), Fail> {
-    fs::write(&rt, "again.append", RECORD)?;
-    fs::write(&rt, "again.append.new", "a draft that was left")?;
-    assert!(rt; appending(&rt, Fails::Nothing, "again.append")? == Ok(loaded(1, 1, 35, 0)));
-    assert!(rt; has_bytes(&rt, "again.append", EFFECT)?);
-    assert!(rt; is_missing(&rt, "again.append.new"));
-    fs::remove_file(&rt, "again.append")?;
-    Ok(())
-}
 
 #[test]
 fn a_draft_in_use_keeps_a_file_as_it_is(rt: HostRuntime) -> Result<(), Fail> {
     fs::write(&rt, "busy.append", RECORD)?;
-    let mut owner = OneOwner::new(rt.alloc(), RandomState::new(&rt)?);
-    let held = open_to_append(&rt, rt.alloc(), "busy.append.new", &mut owner);
-    assert!(rt; held.is_ok());
-    let locked = Err(OpenFault::Renew(RenewFault::File(FileFault::Locked)));
-    assert!(rt; appending(&rt, Fails::Nothing, "busy.append")? == locked);
-    assert!(rt; has_bytes(&rt, "busy.append", RECORD)?);
-    assert!(rt; has_bytes(&rt, "busy.append.new", HEADER)?);
-    fs::remove_file(&rt, "busy.append")?;
-    fs::remove_file(&rt, "busy.append.new")?;
+    let taken = taken_beside_an_appender(&rt, "busy.append.new", &BESIDE_A_DRAFT)?;
+    assert_eq!(rt; taken, BESIDE_A_DRAFT.len());
     Ok(())
 }
 
-#[test]
-fn a_folder_for_a_draft_keeps_a_file_as_it_is(rt: HostRuntime) -> Result<(), Fail> {
-    fs::write(&rt, "beside.append", RECORD)?;
-    fs::create_dir(&rt, "beside.append.new")?;
-    let open = Err(OpenFault::Renew(RenewFault::File(FileFault::Open)));
-    assert!(rt; appending(&rt, Fails::Nothing, "beside.append")? == open);
-    assert!(rt; has_bytes(&rt, "beside.append", RECORD)?);
-    fs::remove_dir(&rt, "beside.append.new")?;
-    fs::remove_file(&rt, "beside.append")?;
-    Ok(())
-}
-
-fn mode_of(rt: &HostRuntime, path: &str) -> Result<u32, Fail> {
-    Ok(fs::metadata(rt, path)?.permissions().mode() & 0o777)
-}
-
-#[test]
-fn a_renewed_file_has_the_permissions_of_the_old_one(rt: HostRuntime) -> Result<(), Fail> {
-    fs::write(&rt, "private.append", RECORD)?;
-    fs::set_permissions(&rt, "private.append", Permissions::from_mode(0o600))?;
-    let open = Err(OpenFault::Renew(RenewFault::File(FileFault::Open)));
-    assert!(rt; appending(&rt, Fails::SetPermissions, "private.append")? == open);
-    assert!(rt; has_bytes(&rt, "private.append", RECORD)?);
-    assert!(rt; is_missing(&rt, "private.append.new"));
-    assert!(rt; appending(&rt, Fails::Nothing, "private.append")? == Ok(loaded(1, 1, 35, 0)));
-    assert_eq!(rt; mode_of(&rt, "private.append")?, 0o600);
-    fs::remove_file(&rt, "private.append")?;
-    Ok(())
-}
+/// Beside one who renewed a file and appends to it, nobody opens it.
+const BESIDE_AN_APPENDER: [Step; 3] = [
+    Step::Append("locked.append", Fails::Nothing, IN_USE),
+    Step::Read("locked.append", Fails::Nothing, IN_USE),
+    Step::Remove("locked.append"),
+];
 
 #[test]
 fn a_renewed_file_is_locked_under_its_name(rt: HostRuntime) -> Result<(), Fail> {
     fs::write(&rt, "locked.append", RECORD)?;
-    assert!(rt; appending(&rt, Fails::NamesLocked, "locked.append")? == Ok(loaded(1, 1, 35, 0)));
-    fs::write(&rt, "locked.append", RECORD)?;
-    let mut owner = OneOwner::new(rt.alloc(), RandomState::new(&rt)?);
-    let held = open_to_append(&rt, rt.alloc(), "locked.append", &mut owner);
-    assert!(rt; held.is_ok());
-    let locked = Err(OpenFault::File(FileFault::Locked));
-    assert!(rt; appending(&rt, Fails::Nothing, "locked.append")? == locked);
-    assert!(rt; reading(&rt, Fails::Nothing, "locked.append")? == locked);
-    fs::remove_file(&rt, "locked.append")?;
-    Ok(())
-}
-
-#[test]
-fn a_file_that_lost_its_name_is_not_read(rt: HostRuntime) -> Result<(), Fail> {
-    let locked = Err(OpenFault::File(FileFault::Locked));
-    fs::write(&rt, "lost.append", RECORD)?;
-    assert!(rt; appending(&rt, Fails::OpenedIsReplaced, "lost.append")? == locked);
-    assert!(rt; has_bytes(&rt, "lost.append", OF_ANOTHER)?);
-    fs::write(&rt, "lost.append", RECORD)?;
-    assert!(rt; reading(&rt, Fails::OpenedIsReplaced, "lost.append")? == locked);
-    assert!(rt; has_bytes(&rt, "lost.append", OF_ANOTHER)?);
-    fs::remove_file(&rt, "lost.append")?;
-    Ok(())
-}
-
-fn is_link(rt: &HostRuntime, path: &str) -> Result<bool, Fail> {
-    Ok(fs::symlink_metadata(rt, path)?.is_symlink())
-}
-
-#[test]
-fn a_link_leads_to_the_new_file(rt: HostRuntime) -> Result<(), Fail> {
-    fs::create_dir(&rt, "linked")?;
-    fs::write(&rt, "linked/true.append", RECORD)?;
-    symlink(&rt, "linked/true.append", "link.append")?;
-    assert!(rt; appending(&rt, Fails::Nothing, "link.append")? == Ok(loaded(1, 1, 35, 0)));
-    assert!(rt; is_link(&rt, "link.append")? && !is_link(&rt, "linked/true.append")?);
-    assert!(rt; has_bytes(&rt, "linked/true.append", EFFECT)?);
-    assert!(rt; appending(&rt, Fails::Nothing, "link.append")? == Ok(loaded(2, 1, 59, 0)));
-    fs::remove_file(&rt, "link.append")?;
-    fs::remove_file(&rt, "linked/true.append")?;
-    // nothing else is left there
-    fs::remove_dir(&rt, "linked")?;
-    Ok(())
-}
-
-#[test]
-fn a_link_to_nothing_leads_to_the_new_file(rt: HostRuntime) -> Result<(), Fail> {
-    fs::create_dir(&rt, "empty_place")?;
-    symlink(&rt, "empty_place/true.append", "early.append")?;
-    assert!(rt; appending(&rt, Fails::Nothing, "early.append")? == Ok(loaded(1, 0, 0, 0)));
-    assert!(rt; is_link(&rt, "early.append")?);
-    assert!(rt; has_bytes(&rt, "empty_place/true.append", HEADER)?);
-    fs::remove_file(&rt, "early.append")?;
-    fs::remove_file(&rt, "empty_place/true.append")?;
-    fs::remove_dir(&rt, "empty_place")?;
+    let taken = taken_beside_an_appender(&rt, "locked.append", &BESIDE_AN_APPENDER)?;
+    assert_eq!(rt; taken, BESIDE_AN_APPENDER.len());
     Ok(())
 }

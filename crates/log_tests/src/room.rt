@@ -6,7 +6,7 @@ ghost use Rattle.std.specs.Prelude.{◌≡◌};
 use crate::want_of_memory::{command, number};
 use append_log::{Log, LoggedOwner, NoSink};
 use linked_list_allocator::LocalHeap;
-use resp_wire::{Bytes, BytesList, Request};
+use std::alloc::Global;
 use std::hash::RandomState;
 use std::marker::Brand;
 use std::sync::ledger::{Blank, Ledger};
@@ -14,7 +14,7 @@ use std::test::*;
 use zset_core::{Command, OneOwner};
 
 /// An owner in such a heap whose changes go to a log that keeps nothing.
-type Logged<'a, L> = LoggedOwner<RandomState, NoSink, L, &'a LocalHeap>;
+type Logged<'h, L> = LoggedOwner<RandomState, NoSink, L, &'h LocalHeap>;
 
 /// The bytes of the heap.
 const HEAP: usize = 1 << 20;
@@ -22,114 +22,84 @@ const HEAP: usize = 1 << 20;
 /// What is left for a change of a score whose record has 35 bytes.
 const LEFT: usize = 1_024;
 
-/// The bytes of the long words of a removal, which names no member by them.
-const LONG: usize = 60_000;
+/// The bytes that `~` stands for in a command.
+const LONG: usize = 59_999;
 
-/// Commands that are read while there is room.
-#[derive(Drop)]
-struct Commands<'a> {
-    first: Command<&'a LocalHeap>,
-    moved: Command<&'a LocalHeap>,
-    long_addition: Command<&'a LocalHeap>,
-    long_removal: Command<&'a LocalHeap>,
-    count: Command<&'a LocalHeap>,
-}
+/// Commands that are read while there is room: the removal names `a` behind two long words, in a record of more than
+/// 120,000 bytes.
+const COMMANDS: [&str; 5] = [
+    "ZADD k 1 a",
+    "ZADD k 2 a",
+    "ZADD k 3 z~",
+    "ZREM k x~ y~ a",
+    "ZCARD k",
+];
 
-/// A word of so many bytes.
-fn long_word(heap: &LocalHeap, byte: u8) -> Result<Bytes<&LocalHeap>, Fail> {
-    Ok(Bytes::new(vec![in heap; byte; LONG]?))
-}
+/// What they are answered: the first with all the room, the others with [`LEFT`] bytes.
+const ANSWERS: [i64; 5] = [1, 0, -1, 1, 0];
 
-/// ZREM k a, with two long words before `a`: a record of more than 120,000 bytes.
-fn long_removal(heap: &LocalHeap) -> Result<Command<&LocalHeap>, Fail> {
-    let mut words = Vec::new(heap);
-    for word in ["ZREM", "k"] {
-        words.push(Bytes::from_slice(heap, word.as_bytes())?)?;
+fn read_commands(alloc: Global, heap: &LocalHeap) -> Result<Vec<Command<&LocalHeap>>, Fail> {
+    let mut commands = Vec::new(alloc);
+    let long = "l".repeat(alloc, LONG)?;
+    for words in COMMANDS {
+        let text = words.replace(alloc, "~", long.as_str())?;
+        commands.push(command(heap, text.as_str())?)?;
     }
-    words.push(long_word(heap, b'x')?)?;
-    words.push(long_word(heap, b'y')?)?;
-    words.push(Bytes::from_slice(heap, b"a")?)?;
-    let request = Request::new(BytesList::new(words)).ok_or("no request")?;
-    Command::read(heap, request).map_err(|_| Fail::from("no command"))
+    Ok(commands)
 }
 
-/// ZADD k 3 with a long member.
-fn long_addition(heap: &LocalHeap) -> Result<Command<&LocalHeap>, Fail> {
-    let mut words = Vec::new(heap);
-    for word in ["ZADD", "k", "3"] {
-        words.push(Bytes::from_slice(heap, word.as_bytes())?)?;
-    }
-    words.push(long_word(heap, b'z')?)?;
-    let request = Request::new(BytesList::new(words)).ok_or("no request")?;
-    Command::read(heap, request).map_err(|_| Fail::from("no command"))
-}
-
-fn read_commands(heap: &LocalHeap) -> Result<Commands<'_>, Fail> {
-    Ok(Commands {
-        first: command(heap, "ZADD k 1 a")?,
-        moved: command(heap, "ZADD k 2 a")?,
-        long_addition: long_addition(heap)?,
-        long_removal: long_removal(heap)?,
-        count: command(heap, "ZCARD k")?,
-    })
-}
-
-/// The numbers that commands answer in a heap with [`LEFT`] bytes.
-#[derive(Clone, Copy, Debug, PartialEq, Eq)]
-struct Answers {
-    first: i64,
-    moved: i64,
-    long_addition: i64,
-    long_removal: i64,
-    count: i64,
-}
-
-/// Takes all of a heap but so many bytes.
-fn take_room(heap: &LocalHeap, left: usize) -> Result<Vec<u8, &LocalHeap>, Fail> {
-    let room = heap.free().saturating_sub(left);
+/// Takes all of a heap but [`LEFT`] bytes.
+fn take_room(heap: &LocalHeap) -> Result<Vec<u8, &LocalHeap>, Fail> {
+    let room = heap.free().saturating_sub(LEFT);
     Ok(Vec::with_capacity(heap, room)?)
 }
 
-fn answers_of<L: Ledger>(
-    heap: &LocalHeap,
+/// The number that an owner answers.
+fn answer<'h, L: Ledger>(owner: &mut Logged<'h, L>, command: &Command<&'h LocalHeap>) -> i64 {
+    number(&owner.run(command))
+}
+
+/// What an owner answers. Room is taken behind the first command, and before the last one.
+fn answers_of<'h, L: Ledger>(
+    heap: &'h LocalHeap,
+    owner: &mut Logged<'h, L>,
+    commands: &[Command<&'h LocalHeap>],
+) -> Result<[i64; 5], Fail> {
+    let [first, moved, long_addition, long_removal, count] = commands else {
+        return Err("other commands")?;
+    };
+    let first = answer(owner, first);
+    let _taken = take_room(heap)?;
+    let moved = answer(owner, moved);
+    let long_addition = answer(owner, long_addition);
+    let long_removal = answer(owner, long_removal);
+    let _rest = take_room(heap)?;
+    let count = answer(owner, count);
+    Ok([first, moved, long_addition, long_removal, count])
+}
+
+/// The same of the owner of no sets.
+fn answers_over<'h, L: Ledger>(
+    heap: &'h LocalHeap,
     hasher: RandomState,
     blank: Blank,
-) -> Result<Answers, Fail>
+    commands: &[Command<&'h LocalHeap>],
+) -> Result<[i64; 5], Fail>
     requires name { blank.name ≡ L.name }
     requires parts { blank.parts ≡ L.parts }
     requires two { blank.parts ≡ 2 }
 {
-    let commands = read_commands(heap)?;
     let log = Log::<_, L>::new(blank, NoSink::new(), 10);
     let mut owner = LoggedOwner::new(heap, OneOwner::new(heap, hasher), log);
-    let first = number(&owner.run(&commands.first));
-    let taken = take_room(heap, LEFT)?;
-    let moved = number(&owner.run(&commands.moved));
-    let long_addition = number(&owner.run(&commands.long_addition));
-    let long_removal = number(&owner.run(&commands.long_removal));
-    let _rest = take_room(heap, LEFT)?;
-    let count = number(&owner.run(&commands.count));
-    Ok(Answers {
-        first,
-        moved,
-        long_addition,
-        long_removal,
-        count,
-    })
+    answers_of(heap, &mut owner, commands)
 }
 
 #[test]
 fn removals_have_room_where_additions_have_none(rt: HostRuntime) -> Result<(), Fail> {
     let heap = LocalHeap::new(rt.alloc(), HEAP)?;
+    let commands = read_commands(rt.alloc(), &heap)?;
     let hasher = RandomState::new(&rt)?;
-    let wanted = Answers {
-        first: 1,
-        moved: 0,
-        long_addition: -1,
-        long_removal: 1,
-        count: 0,
-    };
-    let found = answers_of::<Brand>(&heap, hasher, Blank::new(2))?;
-    assert_eq!(rt; found, wanted);
+    let answers = answers_over::<Brand>(&heap, hasher, Blank::new(2), &commands)?;
+    assert_eq!(rt; answers, ANSWERS);
     Ok(())
 }

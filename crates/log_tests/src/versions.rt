@@ -1,6 +1,6 @@
 //! Files of version 2, and what may stand for a header.
 
-use crate::records::{LISTING, loaded, loaded_effects, reloads_to};
+use crate::records::{LISTING, damaged, loaded, loaded_effects, reloads_to};
 use append_log::{Loaded, ReloadFault};
 use std::test::*;
 
@@ -173,15 +173,17 @@ fn cut_after(bytes: usize) -> (Result<Loaded, ReloadFault>, &'static str) {
     }
 }
 
+/// Whether they are.
+fn is_cut_so(rt: &HostRuntime, bytes: usize) -> Result<bool, Fail> {
+    let (wanted, listed) = cut_after(bytes);
+    let cut = ONE_EFFECT.get(..bytes).unwrap_or(&[]);
+    reloads_to(rt, cut, wanted, LISTING, listed)
+}
+
 #[test]
 fn a_file_of_effects_is_cut_after_each_byte(rt: HostRuntime) -> Result<(), Fail> {
     for bytes in 0..60usize {
-        let (wanted, listed) = cut_after(bytes);
-        let cut = ONE_EFFECT.get(..bytes).unwrap_or(&[]);
-        assert!(rt;
-            reloads_to(&rt, cut, wanted, LISTING, listed)?,
-            "{bytes} bytes"
-        );
+        assert!(rt; is_cut_so(&rt, bytes)?, "{bytes} bytes");
     }
     Ok(())
 }
@@ -200,18 +202,17 @@ fn with_byte_changed(at: usize) -> (Result<Loaded, ReloadFault>, &'static str) {
     }
 }
 
+/// Whether it is reloaded so where this byte is another.
+fn is_damaged_so(rt: &HostRuntime, at: usize) -> Result<bool, Fail> {
+    let bytes = damaged(rt.alloc(), ONE_EFFECT, at)?;
+    let (wanted, listed) = with_byte_changed(at);
+    reloads_to(rt, &bytes, wanted, LISTING, listed)
+}
+
 #[test]
 fn each_byte_of_a_file_of_effects_is_damaged(rt: HostRuntime) -> Result<(), Fail> {
     for at in 0..59usize {
-        let mut damaged = Vec::from_slice(rt.alloc(), ONE_EFFECT)?;
-        if let Some(byte) = damaged.get_mut(at) {
-            *byte = b'!';
-        }
-        let (wanted, listed) = with_byte_changed(at);
-        assert!(rt;
-            reloads_to(&rt, &damaged, wanted, LISTING, listed)?,
-            "byte {at}"
-        );
+        assert!(rt; is_damaged_so(&rt, at)?, "byte {at}");
     }
     Ok(())
 }

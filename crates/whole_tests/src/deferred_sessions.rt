@@ -6,17 +6,37 @@ use crate::exchange::write_words;
 use crate::memory::{Script, input_of};
 use append_log::{FuseSink, Log, LoggedOwner, MemorySink};
 use resp_wire::{MemoryDrain, MemorySource};
-use session_core::{HeldReplies, serve_deferred};
+use session_core::{Ended, HeldReplies, SessionFault, serve_deferred};
+use std::alloc::Global;
 use std::hash::RandomState;
 use std::marker::Brand;
 use std::sync::ledger::{Blank, Ledger};
 use std::test::Fail;
 use zset_core::OneOwner;
 
+/// An owner whose records go to a sink that may fail.
+type Logged<L> = LoggedOwner<RandomState, FuseSink<MemorySink<Global>>, L, Global>;
+
 /// Three changes of one set, each in 35 bytes, and a reading.
+const REQUESTS: &[&str] = &["ZADD k 1 a", "ZADD k 2 b", "ZADD k 3 c", "ZCARD k"];
+
 const CHANGES: Script<'static> = Script {
-    requests: &["ZADD k 1 a", "ZADD k 2 b", "ZADD k 3 c", "ZCARD k"],
+    requests: REQUESTS,
     behind: b"",
+    error: b"",
+};
+
+/// What only reads.
+const READINGS: Script<'static> = Script {
+    requests: &["ZCARD k", "PING", "ZSCORE k a"],
+    behind: b"",
+    error: b"",
+};
+
+/// The changes, and a byte that begins no request.
+const CHANGES_AND_A_FAULT: Script<'static> = Script {
+    requests: REQUESTS,
+    behind: b"?",
     error: b"",
 };
 
@@ -30,7 +50,35 @@ struct Outcome {
     counts: [u64; 3],
 }
 
-/// Serves the input in pieces, over a log whose sink fails at the call of this number.
+/// An owner over a log that leaves its syncs to later, and whose sink fails at the call of this number.
+fn opened<L: Ledger>(rt: &HostRuntime, blank: Blank, fails_at: u64) -> Result<Logged<L>, Fail>
+    requires name { blank.name ≡ L.name }
+    requires parts { blank.parts ≡ L.parts }
+    requires two { blank.parts ≡ 2 }
+{
+    let alloc = rt.alloc();
+    let hasher = RandomState::new(rt)?;
+    let sink = FuseSink::new(MemorySink::new(alloc, 4096), fails_at);
+    let log = Log::<_, L>::deferred(blank, sink, 1000);
+    Ok(LoggedOwner::new(alloc, OneOwner::new(alloc, hasher), log))
+}
+
+/// How many records are settled, and how often the sink was called.
+fn numbers_of<L: Ledger>(owner: Logged<L>) -> (u64, u64) {
+    let (_, log) = owner.into_parts();
+    let settled = log.settled();
+    (settled, log.into_sink().calls())
+}
+
+/// How a session ends.
+fn told(alloc: Global, end: Result<Ended, SessionFault>) -> Result<String, Fail> {
+    match end {
+        Ok(ended) => Ok(format!(in alloc; "{} requests", ended.requests)?),
+        Err(fault) => Ok(format!(in alloc; "{fault}")?),
+    }
+}
+
+/// Serves the input in pieces.
 fn served<L: Ledger>(
     rt: &HostRuntime,
     blank: Blank,
@@ -44,22 +92,16 @@ fn served<L: Ledger>(
     requires piece { 1 ≤ piece }
 {
     let alloc = rt.alloc();
-    let sink = FuseSink::new(MemorySink::new(alloc, 4096), fails_at);
-    let log = Log::<_, L>::deferred(blank, sink, 1000);
-    let mut owner = LoggedOwner::new(alloc, OneOwner::new(alloc, RandomState::new(rt)?), log);
+    let mut owner = opened::<L>(rt, blank, fails_at)?;
     let mut source = MemorySource::new(input, piece);
     let mut replies = HeldReplies::new(alloc, MemoryDrain::new(alloc, 4096));
-    let end = match serve_deferred(rt, alloc, &mut source, &mut replies, &mut owner) {
-        Ok(ended) => format!(in alloc; "{} requests", ended.requests)?,
-        Err(fault) => format!(in alloc; "{fault}")?,
-    };
+    let end = serve_deferred(rt, alloc, &mut source, &mut replies, &mut owner);
     let (drain, held) = replies.into_parts();
-    let (_, log) = owner.into_parts();
-    let settled = log.settled();
+    let (settled, calls) = numbers_of(owner);
     Ok(Outcome {
-        end,
+        end: told(alloc, end)?,
         left: Vec::from_slice(alloc, drain.flushed())?,
-        counts: [held as u64, settled, log.into_sink().calls()],
+        counts: [held as u64, settled, calls],
     })
 }
 
@@ -70,102 +112,132 @@ fn ended(rt: &HostRuntime, input: &[u8], piece: usize, fails_at: u64) -> Result<
     served::<Brand>(rt, Blank::new(2), input, piece, fails_at)
 }
 
-// Records that came at once share a sync; those that come one by one have one each.
-#[test]
-fn changes_of_a_read_share_a_sync(rt: HostRuntime) -> Result<(), Fail> {
-    let changes = input_of(rt.alloc(), CHANGES)?;
-    let at_once = ended(&rt, &changes, 4096, 0)?;
-    assert_eq!(rt; at_once.end.as_str(), "4 requests");
-    assert_eq!(rt;
-        at_once.left.as_slice(),
-        b":1\r\n:1\r\n:1\r\n:3\r\n".as_slice()
-    );
-    assert_eq!(rt; at_once.counts, [0, 3, 4]);
-    let one_by_one = ended(&rt, &changes, 35, 0)?;
-    assert!(rt; one_by_one.left == at_once.left);
-    assert_eq!(rt; one_by_one.counts, [0, 3, 6]);
-    Ok(())
+/// What is served, in pieces of so many bytes, and the call of the sink that fails, 0 for none.
+type Given = (Script<'static>, usize, u64);
+
+/// How the session ends, what left or how it begins, and the counts of its outcome.
+type Wanted = (&'static str, Left, [u64; 3]);
+
+#[derive(Clone, Copy)]
+enum Left {
+    Whole(&'static [u8]),
+    Begins(&'static [u8]),
 }
 
-// What only reads syncs nothing.
-#[test]
-fn readings_sync_nothing(rt: HostRuntime) -> Result<(), Fail> {
-    let readings = Script {
-        requests: &["ZCARD k", "PING", "ZSCORE k a"],
-        ..CHANGES
+/// The replies to the changes.
+const REPLIES: &[u8] = b":1\r\n:1\r\n:1\r\n:3\r\n";
+
+const CASES: [(Given, Wanted); 8] = [
+    // records that came at once share a sync; those that come one by one have one each
+    (
+        (CHANGES, 4096, 0),
+        ("4 requests", Left::Whole(REPLIES), [0, 3, 4]),
+    ),
+    (
+        (CHANGES, 35, 0),
+        ("4 requests", Left::Whole(REPLIES), [0, 3, 6]),
+    ),
+    // what only reads syncs nothing
+    (
+        (READINGS, 4096, 0),
+        (
+            "3 requests",
+            Left::Whole(b":0\r\n+PONG\r\n$-1\r\n"),
+            [0, 0, 0],
+        ),
+    ),
+    // behind a fault of the protocol all replies leave, behind a sync
+    (
+        (CHANGES_AND_A_FAULT, 4096, 0),
+        (
+            "ERR protocol 2 not an array",
+            Left::Begins(b":1\r\n:1\r\n:1\r\n:3\r\n-"),
+            [0, 3, 4],
+        ),
+    ),
+    // a sync that fails keeps all back that it was for: the first read's, or the second's
+    (
+        (CHANGES, 4096, 4),
+        (
+            "the drain failed after 16 bytes",
+            Left::Whole(b""),
+            [16, 0, 4],
+        ),
+    ),
+    (
+        (CHANGES, 35, 4),
+        (
+            "the drain failed after 8 bytes",
+            Left::Whole(b":1\r\n"),
+            [4, 1, 4],
+        ),
+    ),
+    // a log that could not write a record is not synced: what waits then never leaves
+    (
+        (CHANGES, 4096, 2),
+        (
+            "the drain failed after 72 bytes",
+            Left::Whole(b""),
+            [72, 0, 2],
+        ),
+    ),
+    // where nothing waits, all leaves
+    (
+        (CHANGES, 4096, 1),
+        (
+            "4 requests",
+            Left::Begins(b"-ERR 16 append file failed\r\n-ERR 14 "),
+            [0, 0, 1],
+        ),
+    ),
+];
+
+/// Whether a session comes to what is wanted.
+fn is_as_wanted(outcome: &Outcome, wanted: Wanted) -> bool {
+    let (end, left, counts) = wanted;
+    let has_left = match left {
+        Left::Whole(bytes) => outcome.left.as_slice() == bytes,
+        Left::Begins(bytes) => outcome.left.starts_with(bytes),
     };
-    let outcome = ended(&rt, &input_of(rt.alloc(), readings)?, 4096, 0)?;
-    assert_eq!(rt;
-        outcome.left.as_slice(),
-        b":0\r\n+PONG\r\n$-1\r\n".as_slice()
-    );
-    assert_eq!(rt; outcome.counts, [0, 0, 0]);
+    has_left && outcome.end.as_str() == end && outcome.counts == counts
+}
+
+/// Whether a session on what is given does.
+fn goes_so(rt: &HostRuntime, given: Given, wanted: Wanted) -> Result<bool, Fail> {
+    let (script, piece, fails_at) = given;
+    if piece == 0 {
+        return Err("no piece")?;
+    }
+    let input = input_of(rt.alloc(), script)?;
+    let outcome = ended(rt, &input, piece, fails_at)?;
+    Ok(is_as_wanted(&outcome, wanted))
+}
+
+#[test]
+fn replies_leave_behind_their_syncs(rt: HostRuntime) -> Result<(), Fail> {
+    for (at, (given, wanted)) in CASES.iter().enumerate() {
+        assert!(rt; goes_so(&rt, *given, *wanted)?, "case {at}");
+    }
     Ok(())
 }
 
-// Behind a fault of the protocol all replies leave, behind a sync.
-#[test]
-fn replies_before_a_fault_leave(rt: HostRuntime) -> Result<(), Fail> {
-    let script = Script {
-        behind: b"?",
-        ..CHANGES
-    };
-    let outcome = ended(&rt, &input_of(rt.alloc(), script)?, 4096, 0)?;
-    assert!(rt; outcome.left.starts_with(b":1\r\n:1\r\n:1\r\n:3\r\n-"));
-    assert_eq!(rt; outcome.counts, [0, 3, 4]);
-    Ok(())
-}
-
-// A sync that fails keeps all back that it was for: the first read's, or the second's.
-#[test]
-fn replies_of_a_failed_sync_never_leave(rt: HostRuntime) -> Result<(), Fail> {
-    let changes = input_of(rt.alloc(), CHANGES)?;
-    let outcome = ended(&rt, &changes, 4096, 4)?;
-    assert_eq!(rt; outcome.end.as_str(), "the drain failed after 16 bytes");
-    assert_eq!(rt; outcome.left.as_slice(), b"".as_slice());
-    assert_eq!(rt; outcome.counts, [16, 0, 4]);
-    let outcome = ended(&rt, &changes, 35, 4)?;
-    assert_eq!(rt; outcome.end.as_str(), "the drain failed after 8 bytes");
-    assert_eq!(rt; outcome.left.as_slice(), b":1\r\n".as_slice());
-    assert_eq!(rt; outcome.counts, [4, 1, 4]);
-    Ok(())
-}
-
-// A log that could not write a record is not synced: what waits then never leaves. Where nothing waits, all leaves.
-#[test]
-fn replies_that_wait_for_a_broken_log_never_leave(rt: HostRuntime) -> Result<(), Fail> {
-    let changes = input_of(rt.alloc(), CHANGES)?;
-    let outcome = ended(&rt, &changes, 4096, 2)?;
-    assert_eq!(rt; outcome.end.as_str(), "the drain failed after 72 bytes");
-    assert_eq!(rt; outcome.left.as_slice(), b"".as_slice());
-    assert_eq!(rt; outcome.counts, [72, 0, 2]);
-    let outcome = ended(&rt, &changes, 4096, 1)?;
-    assert_eq!(rt; outcome.end.as_str(), "4 requests");
-    assert!(rt;
-        outcome
-            .left
-            .starts_with(b"-ERR 16 append file failed\r\n-ERR 14 ")
-    );
-    assert_eq!(rt; outcome.counts, [0, 0, 1]);
-    Ok(())
+/// An addition of two long members, and then so many listings of them.
+fn listings(alloc: Global, times: u64) -> Result<Vec<u8>, Fail> {
+    let mut input = Vec::new(alloc);
+    let addition = "ZADD k 1 a-member-of-thirty-two-bytes-abc 2 another-of-thirty-two-bytes-abcd";
+    write_words(alloc, addition, &mut input)?;
+    for _ in 0..times {
+        write_words(alloc, "ZRANGEBYSCORE k 1 2", &mut input)?;
+    }
+    Ok(input)
 }
 
 // More replies than are held at once, from one read, leave whole.
 #[test]
 fn many_replies_leave_whole(rt: HostRuntime) -> Result<(), Fail> {
-    let alloc = rt.alloc();
-    let mut input = Vec::new(alloc);
-    write_words(
-        alloc,
-        "ZADD k 1 a-member-of-thirty-two-bytes-abc 2 another-of-thirty-two-bytes-abcd",
-        &mut input,
-    )?;
-    for _ in 0..300 {
-        write_words(alloc, "ZRANGEBYSCORE k 1 2", &mut input)?;
-    }
+    let input = listings(rt.alloc(), 300)?;
     let outcome = ended(&rt, &input, 65_536, 0)?;
-    assert_eq!(rt; outcome.end.as_str(), "301 requests");
-    assert_eq!(rt; outcome.left.len(), 4 + 300 * 82);
-    assert_eq!(rt; outcome.counts, [0, 1, 2]);
+    let told = (outcome.end.as_str(), outcome.left.len(), outcome.counts);
+    assert_eq!(rt; told, ("301 requests", 4 + 300 * 82, [0, 1, 2]));
     Ok(())
 }

@@ -4,15 +4,13 @@ ghost use Rattle.std.specs.Prelude.{◌≡◌, ◌≤◌};
 
 use crate::exchange::{bytes_of, serve_bytes};
 use crate::sessions::TWO_REQUESTS;
-use resp_wire::{
-    Bytes, BytesList, FuseDrain, FuseSource, MAX_READ_BUFFER, MemoryDrain, MemorySource, Request,
-    write_reply,
-};
+use crate::want_of_memory::{LISTING, command};
+use resp_wire::{FuseDrain, FuseSource, MAX_READ_BUFFER, MemoryDrain, MemorySource, write_reply};
 use session_core::{Ended, Exec, SessionFault, serve};
 use std::alloc::Global;
 use std::hash::RandomState;
 use std::test::Fail;
-use zset_core::{Command, OneOwner};
+use zset_core::OneOwner;
 
 /// How many bytes a call moves, and which call fails, 0 for none.
 #[derive(Clone, Copy)]
@@ -53,12 +51,7 @@ pub fn ask<R, E: Exec<R, Global>>(
     requires { E.settled exec.old }
     ensures { E.settled exec.new }
 {
-    let mut list = Vec::new(alloc);
-    for word in words.split(' ') {
-        list.push(Bytes::from_slice(alloc, word.as_bytes())?)?;
-    }
-    let request = Request::new(BytesList::new(list)).ok_or("no request")?;
-    let command = Command::read(alloc, request).map_err(|_| Fail::from("no command"))?;
+    let command = command(alloc, words)?;
     match exec.run(rt, &command) {
         Ok(reply) => write_reply(&reply, out)?,
         Err(_) => out.extend_from_slice(b"refused")?,
@@ -66,26 +59,16 @@ pub fn ask<R, E: Exec<R, Global>>(
     Ok(())
 }
 
+const LISTING_OF_J: &str = "ZRANGEBYSCORE j -inf +inf WITHSCORES";
+
 /// All pairs of the sets that the tests change.
 pub fn listing<R, E: Exec<R, Global>>(rt: &R, alloc: Global, exec: &mut E) -> Result<Vec<u8>, Fail>
     requires { E.settled exec.old }
     ensures { E.settled exec.new }
 {
     let mut listed = Vec::new(alloc);
-    ask(
-        rt,
-        alloc,
-        exec,
-        "ZRANGEBYSCORE k -inf +inf WITHSCORES",
-        &mut listed,
-    )?;
-    ask(
-        rt,
-        alloc,
-        exec,
-        "ZRANGEBYSCORE j -inf +inf WITHSCORES",
-        &mut listed,
-    )?;
+    ask(rt, alloc, exec, LISTING, &mut listed)?;
+    ask(rt, alloc, exec, LISTING_OF_J, &mut listed)?;
     Ok(listed)
 }
 
@@ -134,87 +117,100 @@ pub fn serve_over(
     serve_with(rt, alloc, &mut owner, input, Devices { from, to }, buffer)
 }
 
-/// Which call of a drain fails, and the bytes that it has taken then.
-const WRITTEN: [(u64, &[u8]); 9] = [
-    (1, b""),
-    (2, b""),
-    (3, b":1\r"),
-    (4, b":1\r\n"),
-    (5, b":1\r\n*1\r"),
-    (6, b":1\r\n*1\r\n$1"),
-    (7, b":1\r\n*1\r\n$1\r\na"),
-    (8, b":1\r\n*1\r\n$1\r\na\r\n"),
-    (9, b":1\r\n*1\r\n$1\r\na\r\n"),
+/// What a session over the two requests comes to: how it ends, the bytes that were written, and the listings of the sets
+/// then, in the texts `~` for CR LF.
+type Wanted = (Result<Ended, SessionFault>, &'static str, &'static str);
+
+/// It ends with no request cut.
+const SERVED: Result<Ended, SessionFault> = Ok(Ended {
+    requests: 2,
+    rest: 0,
+});
+
+const NO_SETS: &str = "*0~*0~";
+
+const ONE_SET: &str = "*2~$1~a~$1~5~*0~";
+
+/// Which call of a drain fails. The two requests come in one read, and their 15 bytes go out by three at once: a flush,
+/// two writes and four, and a flush before the next read and at the end.
+const DRAINS: [(u64, Wanted); 10] = [
+    (1, (Err(SessionFault::WriteFault(0)), "", NO_SETS)),
+    (2, (Err(SessionFault::WriteFault(0)), "", ONE_SET)),
+    (3, (Err(SessionFault::WriteFault(3)), ":1\r", ONE_SET)),
+    (4, (Err(SessionFault::WriteFault(4)), ":1~", ONE_SET)),
+    (5, (Err(SessionFault::WriteFault(7)), ":1~*1\r", ONE_SET)),
+    (6, (Err(SessionFault::WriteFault(10)), ":1~*1~$1", ONE_SET)),
+    (
+        7,
+        (Err(SessionFault::WriteFault(13)), ":1~*1~$1~a", ONE_SET),
+    ),
+    (
+        8,
+        (Err(SessionFault::WriteFault(15)), ":1~*1~$1~a~", ONE_SET),
+    ),
+    (
+        9,
+        (Err(SessionFault::WriteFault(15)), ":1~*1~$1~a~", ONE_SET),
+    ),
+    (10, (SERVED, ":1~*1~$1~a~", ONE_SET)),
 ];
 
-// The two requests come in one read, and their 15 bytes go out by three at once: a flush, two writes and
-// four, and a flush before the next read and at the end.
+/// Which read of a source fails. The 80 bytes come in reads of 35, 35, 10 and none.
+const SOURCES: [(u64, Wanted); 5] = [
+    (1, (Err(SessionFault::ReadFault), "", NO_SETS)),
+    (2, (Err(SessionFault::ReadFault), ":1~", ONE_SET)),
+    (3, (Err(SessionFault::ReadFault), ":1~", ONE_SET)),
+    (4, (Err(SessionFault::ReadFault), ":1~*1~$1~a~", ONE_SET)),
+    (5, (SERVED, ":1~*1~$1~a~", ONE_SET)),
+];
+
+/// Whether a session comes to that.
+fn is_broken_so(alloc: Global, broken: &Broken, wanted: Wanted) -> Result<bool, Fail> {
+    let (end, written, listed) = wanted;
+    let has_written = broken.written == bytes_of(alloc, written)?;
+    let has_listed = broken.listed == bytes_of(alloc, listed)?;
+    Ok(broken.end == end && has_written && has_listed)
+}
+
+/// Whether a session over the two requests does.
+fn fails_so(
+    rt: &HostRuntime,
+    from: Device,
+    to: Device,
+    buffer: usize,
+    wanted: Wanted,
+) -> Result<bool, Fail>
+    requires from { 1 ≤ from.chunk }
+    requires to { 1 ≤ to.chunk }
+    requires some { 1 ≤ buffer }
+    requires few { buffer ≤ MAX_READ_BUFFER }
+{
+    let input = bytes_of(rt.alloc(), TWO_REQUESTS)?;
+    let broken = serve_over(rt, &input, from, to, buffer)?;
+    is_broken_so(rt.alloc(), &broken, wanted)
+}
+
 #[test]
 fn a_drain_fails_at_each_call(rt: HostRuntime) -> Result<(), Fail> {
-    let alloc = rt.alloc();
-    let input = bytes_of(alloc, TWO_REQUESTS)?;
-    for (fails_at, written) in WRITTEN {
-        let broken = serve_over(&rt, &input, WHOLE, Device { chunk: 3, fails_at }, 65_536)?;
+    for (fails_at, wanted) in DRAINS {
+        let to = Device { chunk: 3, fails_at };
         assert!(rt;
-            broken.end == Err(SessionFault::WriteFault(written.len() as u128)),
+            fails_so(&rt, WHOLE, to, 65_536, wanted)?,
             "call {fails_at}"
         );
-        assert_eq!(rt; broken.written.as_slice(), written);
-        let listed = if fails_at == 1 {
-            "*0~*0~"
-        } else {
-            "*2~$1~a~$1~5~*0~"
-        };
-        assert_eq!(rt; broken.listed, bytes_of(alloc, listed)?);
     }
-    let whole = serve_over(
-        &rt,
-        &input,
-        WHOLE,
-        Device {
-            chunk: 3,
-            fails_at: 10,
-        },
-        65_536,
-    )?;
-    assert!(rt; whole.end.is_ok());
     Ok(())
 }
 
-// The 80 bytes come in reads of 35, 35, 10 and none.
 #[test]
 fn a_source_fails_at_each_read(rt: HostRuntime) -> Result<(), Fail> {
-    let alloc = rt.alloc();
-    let input = bytes_of(alloc, TWO_REQUESTS)?;
-    let read = [(1u64, ""), (2, ":1~"), (3, ":1~"), (4, ":1~*1~$1~a~")];
-    for (fails_at, written) in read {
-        let broken = serve_over(
-            &rt,
-            &input,
-            Device {
-                chunk: 65_536,
-                fails_at,
-            },
-            WHOLE,
-            35,
-        )?;
-        assert!(rt;
-            broken.end == Err(SessionFault::ReadFault),
-            "read {fails_at}"
-        );
-        assert_eq!(rt; broken.written, bytes_of(alloc, written)?);
-    }
-    let whole = serve_over(
-        &rt,
-        &input,
-        Device {
+    for (fails_at, wanted) in SOURCES {
+        let from = Device {
             chunk: 65_536,
-            fails_at: 5,
-        },
-        WHOLE,
-        35,
-    )?;
-    assert!(rt; whole.end.is_ok());
+            fails_at,
+        };
+        assert!(rt; fails_so(&rt, from, WHOLE, 35, wanted)?, "read {fails_at}");
+    }
     Ok(())
 }
 
@@ -239,11 +235,14 @@ fn is_cut_so(rt: &HostRuntime, input: &[u8], bytes: usize, chunk: usize) -> Resu
     Ok(is_told && cut.end == Ok(Ended { requests, rest }))
 }
 
+/// How many bytes a read gives at most.
+const CHUNKS: [usize; 3] = [1, 3, 7];
+
 #[test]
 fn input_is_cut_after_each_byte(rt: HostRuntime) -> Result<(), Fail> {
     let input = bytes_of(rt.alloc(), TWO_REQUESTS)?;
     for bytes in 0..81usize {
-        for chunk in [1usize, 3, 7] {
+        for chunk in CHUNKS {
             assert!(rt; is_cut_so(&rt, &input, bytes, chunk)?, "{bytes} bytes");
         }
     }

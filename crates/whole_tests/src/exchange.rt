@@ -61,13 +61,7 @@ pub fn serve_limited(
 /// The bytes of a text in which `~` stands for CR LF.
 pub fn bytes_of(alloc: Global, text: &str) -> io::Result<Vec<u8>> {
     let mut bytes = Vec::new(alloc);
-    for byte in text.as_bytes() {
-        if *byte == b'~' {
-            bytes.extend_from_slice(b"\r\n")?;
-        } else {
-            bytes.push(*byte)?;
-        }
-    }
+    write_text(text, &mut bytes)?;
     Ok(bytes)
 }
 
@@ -86,18 +80,57 @@ pub fn write_words(alloc: Global, words: &str, out: &mut Vec<u8>) -> io::Result<
 /// Exchanges: requests by their arguments, each with the bytes of its reply, `~` for CR LF.
 pub type Exchanges<'a> = &'a [(&'a str, &'a str)];
 
+/// The requests of exchanges.
+fn requests_of(alloc: Global, exchanges: Exchanges<'_>) -> io::Result<Vec<u8>> {
+    let mut input = Vec::new(alloc);
+    for (arguments, _) in exchanges {
+        write_words(alloc, arguments, &mut input)?;
+    }
+    Ok(input)
+}
+
+/// Writes a text in which `~` stands for CR LF.
+fn write_text(text: &str, out: &mut Vec<u8>) -> io::Result<()> {
+    for byte in text.as_bytes() {
+        if *byte == b'~' {
+            out.extend_from_slice(b"\r\n")?;
+        } else {
+            out.push(*byte)?;
+        }
+    }
+    Ok(())
+}
+
+/// The replies of exchanges.
+fn replies_of(alloc: Global, exchanges: Exchanges<'_>) -> io::Result<Vec<u8>> {
+    let mut wanted = Vec::new(alloc);
+    for (_, reply) in exchanges {
+        write_text(reply, &mut wanted)?;
+    }
+    Ok(wanted)
+}
+
+/// How a session on an empty owner ended that gave these replies to the input; none where it failed or gave others.
+fn ended_so(
+    rt: &HostRuntime,
+    input: &[u8],
+    chunk: usize,
+    replies: &[u8],
+) -> io::Result<Option<Ended>>
+    requires { 1 ≤ chunk }
+{
+    let session = serve_bytes(rt, input, chunk)?;
+    match session.end {
+        Ok(ended) if session.written.as_slice() == replies => Ok(Some(ended)),
+        _ => Ok(None),
+    }
+}
+
 /// Whether a session on an empty owner gives the replies of these exchanges, read whole and read
 /// byte by byte.
 pub fn replies_so(rt: &HostRuntime, exchanges: Exchanges<'_>) -> io::Result<bool> {
-    let alloc = rt.alloc();
-    let mut input = Vec::new(alloc);
-    let mut wanted = Vec::new(alloc);
-    for (arguments, reply) in exchanges {
-        write_words(alloc, arguments, &mut input)?;
-        wanted.extend_from_slice(&bytes_of(alloc, reply)?)?;
-    }
-    let whole = serve_bytes(rt, &input, 65_536)?;
-    let pieces = serve_bytes(rt, &input, 1)?;
-    let same = whole.written == wanted && pieces.written == wanted;
-    Ok(same && whole.end.is_ok() && pieces.end == whole.end)
+    let input = requests_of(rt.alloc(), exchanges)?;
+    let replies = replies_of(rt.alloc(), exchanges)?;
+    let whole = ended_so(rt, &input, 65_536, &replies)?;
+    Ok(whole.is_some() && ended_so(rt, &input, 1, &replies)? == whole)
 }

@@ -1,9 +1,10 @@
 //! Sources and drains of which each call fails once, over an owner and over one with a log.
 
-ghost use Rattle.std.specs.Prelude.{◌≡◌, ◌≤◌};
+ghost use Rattle.std.specs.Prelude.{◌≡◌, ◌≤◌, None};
 
-use crate::devices::{Broken, Device, Devices, WHOLE, ask, listing, serve_over, serve_with};
+use crate::devices::{Broken, Device, Devices, WHOLE, listing, serve_over, serve_with};
 use crate::exchange::write_words;
+use crate::want_of_memory::reply;
 use append_log::{Log, LoggedOwner, MemorySink};
 use resp_wire::MAX_READ_BUFFER;
 use session_core::SessionFault;
@@ -26,15 +27,26 @@ const COMMANDS: [&str; 8] = [
     "ZREMRANGEBYSCORE k (8 +inf",
 ];
 
+/// Runs the first so many of the commands.
+fn run_first(
+    rt: &HostRuntime,
+    owner: &mut OneOwner<RandomState, Global>,
+    count: usize,
+) -> Result<(), Fail>
+    requires { owner.old.next ≡ None }
+    ensures { owner.new.next ≡ None }
+{
+    for words in COMMANDS.iter().take(count) {
+        reply(rt.alloc(), owner, words)?;
+    }
+    Ok(())
+}
+
 /// What the sets are after the first so many of the commands.
 fn listed_after(rt: &HostRuntime, count: usize) -> Result<Vec<u8>, Fail> {
-    let alloc = rt.alloc();
-    let mut owner = OneOwner::new(alloc, RandomState::new(rt)?);
-    let mut replies = Vec::new(alloc);
-    for words in COMMANDS.iter().take(count) {
-        ask(rt, alloc, &mut owner, words, &mut replies)?;
-    }
-    listing(rt, alloc, &mut owner)
+    let mut owner = OneOwner::new(rt.alloc(), RandomState::new(rt)?);
+    run_first(rt, &mut owner, count)?;
+    listing(rt, rt.alloc(), &mut owner)
 }
 
 /// Whether the sets are those after the commands whose replies were written whole, or where a reply was

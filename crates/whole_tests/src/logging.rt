@@ -5,8 +5,9 @@ ghost use Rattle.zset_core.specs.AbstractCommand.{is_writing};
 ghost use Rattle.zset_core.specs.SetAndOwnerViews.{IsPreparedFor};
 
 use crate::exchange::bytes_of;
+use crate::want_of_memory::command;
 use append_log::{Log, LogSink, LoggedOwner, MemorySink, NoSink, Record, SinkFault};
-use resp_wire::{Bytes, BytesList, Request, write_reply};
+use resp_wire::write_reply;
 use std::alloc::Global;
 use std::hash::RandomState;
 use std::marker::Brand;
@@ -40,16 +41,6 @@ impl LogSink for CountingSink {
     }
 }
 
-/// The command whose words stand between single blanks.
-fn command(alloc: Global, words: &str) -> Result<Command<Global>, Fail> {
-    let mut list = Vec::new(alloc);
-    for word in words.split(' ') {
-        list.push(Bytes::from_slice(alloc, word.as_bytes())?)?;
-    }
-    let request = Request::new(BytesList::new(list)).ok_or("no request")?;
-    Command::read(alloc, request).map_err(|_| Fail::from("no command"))
-}
-
 /// What commands came to over a log: the bytes of the replies, how many records it has, and its sink.
 #[derive(Drop)]
 struct Played<S> {
@@ -61,6 +52,20 @@ struct Played<S> {
 /// An owner over a log whose sink is of this type.
 type Logged<S, L> = LoggedOwner<RandomState, S, L, Global>;
 
+/// Puts the bytes of the reply to a command, where it is not refused.
+fn put_reply<L: Ledger, S: LogSink>(
+    alloc: Global,
+    logged: &mut Logged<S, L>,
+    words: &str,
+    replies: &mut Vec<u8>,
+) -> Result<(), Fail> {
+    let command = command(alloc, words)?;
+    match logged.run(&command) {
+        Ok(reply) => Ok(write_reply(&reply, replies)?),
+        Err(_) => Ok(()),
+    }
+}
+
 /// The bytes of the replies to commands in turn, without those that are refused.
 fn replies_to<L: Ledger, S: LogSink>(
     alloc: Global,
@@ -69,10 +74,7 @@ fn replies_to<L: Ledger, S: LogSink>(
 ) -> Result<Vec<u8>, Fail> {
     let mut replies = Vec::new(alloc);
     for words in commands {
-        let command = command(alloc, words)?;
-        if let Ok(reply) = logged.run(&command) {
-            write_reply(&reply, &mut replies)?;
-        }
+        put_reply(alloc, logged, words, &mut replies)?;
     }
     Ok(replies)
 }

@@ -1,10 +1,10 @@
 //! Each allocation of a session refused in turn, with its input in one piece and byte by byte, and those of single
 //! encodings.
 
-ghost use Rattle.std.specs.Prelude.{◌≤◌};
+ghost use Rattle.std.specs.Prelude.{◌≡◌, ◌≤◌, None};
 
 use crate::exchange::write_words;
-use crate::want_of_memory::{LISTING, reply};
+use crate::want_of_memory::{LISTING, put_reply, reply};
 use fuse_alloc::Fuse;
 use resp_wire::{MemoryDrain, MemorySource, Reply, write_reply};
 use score_bounds::write_score;
@@ -97,19 +97,33 @@ impl Told {
     }
 }
 
+/// Puts the replies to a script's requests, of which the one of an index is refused, or none if there is no such.
+fn put_replies(
+    alloc: Global,
+    owner: &mut OneOwner<RandomState, Global>,
+    script: Script<'_>,
+    refused: usize,
+    written: &mut Vec<u8>,
+) -> Result<(), Fail>
+    requires { owner.old.next ≡ None }
+    ensures { owner.new.next ≡ None }
+{
+    for (index, words) in script.requests.iter().enumerate() {
+        if index == refused {
+            written.extend_from_slice(b"-ERR 1 out of memory\r\n")?;
+        } else {
+            put_reply(alloc, owner, words, written)?;
+        }
+    }
+    Ok(written.extend_from_slice(script.error)?)
+}
+
 /// What a session comes to where the request of an index is refused, or none if there is no such.
 fn told_without(rt: &HostRuntime, script: Script<'_>, refused: usize) -> Result<Told, Fail> {
     let alloc = rt.alloc();
     let mut owner = OneOwner::new(alloc, RandomState::new(rt)?);
     let mut written = Vec::new(alloc);
-    for (index, words) in script.requests.iter().enumerate() {
-        if index == refused {
-            written.extend_from_slice(b"-ERR 1 out of memory\r\n")?;
-        } else {
-            written.extend_from_slice(reply(alloc, &mut owner, words)?.as_slice())?;
-        }
-    }
-    written.extend_from_slice(script.error)?;
+    put_replies(alloc, &mut owner, script, refused, &mut written)?;
     let listed = reply(alloc, &mut owner, LISTING)?;
     Ok(Told { written, listed })
 }
@@ -129,14 +143,18 @@ fn is_one_refused(rt: &HostRuntime, script: Script<'_>, told: &Told) -> Result<b
     Ok(false)
 }
 
+/// What a session comes to on the first so many requests of a script, none of which is refused.
+fn told_first(rt: &HostRuntime, script: Script<'_>, count: usize) -> Result<Told, Fail> {
+    told_without(rt, script.first(count), count)
+}
+
 /// Whether a session ended behind the replies to some first requests: these were run, and of the others at most the
 /// next one.
 fn is_cut_off(rt: &HostRuntime, script: Script<'_>, told: &Told) -> Result<bool, Fail> {
     for count in 0..script.requests.len().saturating_add(1) {
-        let here = told_without(rt, script.first(count), count)?;
+        let here = told_first(rt, script, count)?;
         if here.written == told.written {
-            let next = count.saturating_add(1);
-            let further = told_without(rt, script.first(next), next)?;
+            let further = told_first(rt, script, count.saturating_add(1))?;
             return Ok(told.listed == here.listed || told.listed == further.listed);
         }
     }
@@ -333,20 +351,27 @@ fn each_refused_allocation_is_told(rt: HostRuntime) -> Result<(), Fail> {
     Ok(())
 }
 
-// What is refused is not written, in part or whole.
-#[test]
-fn an_encoding_is_written_whole_or_not(rt: HostRuntime) -> Result<(), Fail> {
-    let fuse = Fuse::new(rt.alloc(), 1);
+/// Whether a score is not written in part or whole where memory is refused, and whole where it is asked again.
+fn is_score_whole_or_not(alloc: Global) -> bool {
+    let fuse = Fuse::new(alloc, 1);
     let mut score = Vec::new(&fuse);
-    assert!(rt; write_score(-3, &mut score).is_err() && score.is_empty());
-    write_score(-3, &mut score)?;
-    assert_eq!(rt; score.as_slice(), b"-3".as_slice());
-    fuse.arm(1);
-    let mut reply = Vec::new(&fuse);
-    assert!(rt;
-        write_reply::<&Fuse<Global>>(&Reply::Int(7), &mut reply).is_err() && reply.is_empty()
-    );
-    write_reply::<&Fuse<Global>>(&Reply::Int(7), &mut reply)?;
-    assert_eq!(rt; reply.as_slice(), b":7\r\n".as_slice());
-    Ok(())
+    let is_refused = write_score(-3, &mut score).is_err() && score.is_empty();
+    is_refused && write_score(-3, &mut score).is_ok() && score.as_slice() == b"-3".as_slice()
+}
+
+/// The same of a reply.
+fn is_reply_whole_or_not(alloc: Global) -> bool {
+    let fuse = Fuse::new(alloc, 1);
+    let mut bytes = Vec::new(&fuse);
+    let reply = Reply::<&Fuse<Global>>::Int(7);
+    let is_refused = write_reply(&reply, &mut bytes).is_err() && bytes.is_empty();
+    is_refused
+        && write_reply(&reply, &mut bytes).is_ok()
+        && bytes.as_slice() == b":7\r\n".as_slice()
+}
+
+#[test]
+fn an_encoding_is_written_whole_or_not(rt: HostRuntime) {
+    assert!(rt; is_score_whole_or_not(rt.alloc()));
+    assert!(rt; is_reply_whole_or_not(rt.alloc()));
 }

@@ -11,50 +11,59 @@ use zset_core::OneOwner;
 /// An addition and a range of one score: 80 bytes.
 pub const TWO_REQUESTS: &str = "*4~$4~ZADD~$1~k~$1~5~$1~a~*4~$13~ZRANGEBYSCORE~$1~k~$1~5~$1~5~";
 
-#[test]
-fn the_end_of_the_input_is_told(rt: HostRuntime) -> Result<(), Fail> {
-    let alloc = rt.alloc();
-    let input = bytes_of(alloc, TWO_REQUESTS)?;
-    assert_eq!(rt; input.len(), 80);
-    let whole = serve_bytes(&rt, &input, 65_536)?;
-    assert_eq!(rt; whole.written, bytes_of(alloc, ":1~*1~$1~a~")?);
-    assert!(rt;
-        whole.end
-            == Ok(Ended {
-                requests: 2,
-                rest: 0
-            })
-    );
-    let cut = serve_bytes(&rt, input.get(..79).unwrap_or(&[]), 65_536)?;
-    assert_eq!(rt; cut.written, bytes_of(alloc, ":1~")?);
-    assert!(rt;
-        cut.end
-            == Ok(Ended {
-                requests: 1,
-                rest: 44
-            })
-    );
-    let empty = serve_bytes(&rt, &[], 65_536)?;
-    assert_eq!(rt; empty.written.len(), 0);
-    assert!(rt;
-        empty.end
-            == Ok(Ended {
-                requests: 0,
-                rest: 0
-            })
-    );
-    Ok(())
+/// The first 79 bytes of these.
+const CUT: &str = "*4~$4~ZADD~$1~k~$1~5~$1~a~*4~$13~ZRANGEBYSCORE~$1~k~$1~5~$1~5\r";
+
+/// The input of a session, what is written, and how it ends; `~` for CR LF.
+type Talk = (&'static str, &'static str, Result<Ended, SessionFault>);
+
+const TALKS: [Talk; 4] = [
+    (
+        TWO_REQUESTS,
+        ":1~*1~$1~a~",
+        Ok(Ended {
+            requests: 2,
+            rest: 0,
+        }),
+    ),
+    (
+        CUT,
+        ":1~",
+        Ok(Ended {
+            requests: 1,
+            rest: 44,
+        }),
+    ),
+    (
+        "",
+        "",
+        Ok(Ended {
+            requests: 0,
+            rest: 0,
+        }),
+    ),
+    // a wrong byte ends the session
+    (
+        "*0~*-1~*1~$4~ping~PING~",
+        "+PONG~-ERR protocol 2 not an array~",
+        Err(SessionFault::Wire(ProtocolFault::NotAnArray)),
+    ),
+];
+
+/// Whether a session goes so.
+fn goes_so(rt: &HostRuntime, talk: Talk) -> Result<bool, Fail> {
+    let (input, written, end) = talk;
+    let input = bytes_of(rt.alloc(), input)?;
+    let session = serve_bytes(rt, &input, 65_536)?;
+    Ok(session.end == end && session.written == bytes_of(rt.alloc(), written)?)
 }
 
 #[test]
-fn a_wrong_byte_ends_the_session(rt: HostRuntime) -> Result<(), Fail> {
-    let alloc = rt.alloc();
-    let input = bytes_of(alloc, "*0~*-1~*1~$4~ping~PING~")?;
-    let session = serve_bytes(&rt, &input, 65_536)?;
-    let wanted = bytes_of(alloc, "+PONG~-ERR protocol 2 not an array~")?;
-    assert_eq!(rt; session.written, wanted);
-    let end = SessionFault::Wire(ProtocolFault::NotAnArray);
-    assert!(rt; session.end == Err(end));
+fn the_end_of_a_session_is_told(rt: HostRuntime) -> Result<(), Fail> {
+    assert_eq!(rt; bytes_of(rt.alloc(), TWO_REQUESTS)?.len(), 80);
+    for (at, talk) in TALKS.iter().enumerate() {
+        assert!(rt; goes_so(&rt, *talk)?, "case {at}");
+    }
     Ok(())
 }
 
@@ -78,8 +87,8 @@ fn one_session_serves_many_requests(rt: HostRuntime) -> Result<(), Fail> {
         requests: MANY,
         rest: 0,
     };
-    assert!(rt; session.end == Ok(whole));
-    assert_eq!(rt; session.written.len() as u64, 7 * MANY);
+    let has_all = session.written.len() as u64 == 7 * MANY;
+    assert!(rt; session.end == Ok(whole) && has_all);
     assert!(rt; session.written.ends_with(b"+PONG\r\n"));
     Ok(())
 }
@@ -89,8 +98,8 @@ fn reads_are_counted(rt: HostRuntime) -> Result<(), Fail> {
     let alloc = rt.alloc();
     let input = bytes_of(alloc, TWO_REQUESTS)?;
     let session = serve_limited(&rt, &input, 65_536, 35, 1)?;
-    assert_eq!(rt; session.written, bytes_of(alloc, ":1~")?);
-    assert!(rt; session.end == Err(SessionFault::TooManyReads));
+    let has_first = session.written == bytes_of(alloc, ":1~")?;
+    assert!(rt; has_first && session.end == Err(SessionFault::TooManyReads));
     Ok(())
 }
 
@@ -123,27 +132,34 @@ impl ByteDrain for NotingDrain {
     }
 }
 
+/// Serves the input in reads of 35 bytes over an owner of no sets, to a drain.
+fn serve_to(
+    rt: &HostRuntime,
+    input: &[u8],
+    drain: &mut NotingDrain,
+) -> Result<Result<Ended, SessionFault>, Fail> {
+    let mut owner = OneOwner::new(rt.alloc(), RandomState::new(rt)?);
+    let mut source = MemorySource::new(input, 65_536);
+    Ok(serve(rt, rt.alloc(), &mut source, drain, &mut owner, 35, 1 << 40))
+}
+
 // The two requests come in reads of 35, 35 and 10 bytes and of none: their replies, 4 and 11 bytes, are flushed
 // before the next read, and once more at the end: with 0, 4, 4, 15 and 15 bytes.
 #[test]
 fn replies_are_flushed_before_each_read(rt: HostRuntime) -> Result<(), Fail> {
-    let alloc = rt.alloc();
-    let input = bytes_of(alloc, TWO_REQUESTS)?;
-    let mut owner = OneOwner::new(alloc, RandomState::new(&rt)?);
-    let mut source = MemorySource::new(&input, 65_536);
+    let input = bytes_of(rt.alloc(), TWO_REQUESTS)?;
     let mut drain = NotingDrain {
-        drain: MemoryDrain::new(alloc, 3),
+        drain: MemoryDrain::new(rt.alloc(), 3),
         flushes: 0,
         bytes_at_flushes: 0,
     };
-    let end = serve(&rt, alloc, &mut source, &mut drain, &mut owner, 35, 1 << 40);
+    let end = serve_to(&rt, &input, &mut drain)?;
     assert!(rt;
         end == Ok(Ended {
             requests: 2,
             rest: 0
         })
     );
-    assert_eq!(rt; drain.flushes, 5);
-    assert_eq!(rt; drain.bytes_at_flushes, 38);
+    assert_eq!(rt; (drain.flushes, drain.bytes_at_flushes), (5, 38));
     Ok(())
 }

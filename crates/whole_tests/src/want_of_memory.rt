@@ -1,7 +1,7 @@
 //! Each allocation of each command refused in turn, on a set with rows that wait and on a long one. The worked examples
 //! are in `worked_examples`.
 
-ghost use Rattle.std.specs.Prelude.{◌≡◌, ◌≤◌, None};
+ghost use Rattle.std.specs.Prelude.{◌≡◌, ◌≤◌, None, IfOk};
 
 use fuse_alloc::Fuse;
 use resp_wire::{Bytes, BytesList, Reply, Request, write_reply};
@@ -22,6 +22,11 @@ pub fn request<A: Allocator + Copy>(alloc: A, words: &str) -> Result<Request<A>,
         list.push(Bytes::from_slice(alloc, word.as_bytes())?)?;
     }
     Ok(Request::new(BytesList::new(list)).ok_or("no request")?)
+}
+
+/// The command whose words stand between single blanks.
+pub fn command<A: Allocator + Copy>(alloc: A, words: &str) -> Result<Command<A>, Fail> {
+    Command::read(alloc, request(alloc, words)?).map_err(|_| Fail::from("no command"))
 }
 
 /// What an owner answers: the reply, or the refusal, of the command's reading or of its run.
@@ -68,6 +73,22 @@ pub fn reply<A: Allocator + Copy>(
     }
 }
 
+/// Puts the bytes of the reply to a command that is not refused.
+pub fn put_reply(
+    alloc: Global,
+    owner: &mut Owner<Global>,
+    words: &str,
+    out: &mut Vec<u8>,
+) -> Result<(), Fail>
+    requires { owner.old.next ≡ None }
+    ensures { owner.new.next ≡ None }
+{
+    match answer(alloc, owner, request(alloc, words)?) {
+        Ok(reply) => Ok(write_reply(&reply, out)?),
+        Err(_) => Err("refused")?,
+    }
+}
+
 /// The bytes of what a client is told where there is memory.
 fn told_bytes<A: Allocator + Copy>(
     alloc: A,
@@ -107,16 +128,29 @@ pub struct Ample {
     pub reply: Vec<u8>,
 }
 
+/// The owner of the sets that commands set up.
+fn set_up_with_memory(rt: &HostRuntime, setup: &[&str]) -> Result<Owner<Global>, Fail>
+    ensures { IfOk result (λ owner. owner.next ≡ None) }
+{
+    let mut owner = OneOwner::new(rt.alloc(), RandomState::new(rt)?);
+    run_all(rt.alloc(), &mut owner, setup)?;
+    Ok(owner)
+}
+
+fn listed_before(rt: &HostRuntime, setup: &[&str]) -> Result<Vec<u8>, Fail> {
+    let mut owner = set_up_with_memory(rt, setup)?;
+    reply(rt.alloc(), &mut owner, LISTING)
+}
+
+fn told_with_memory(rt: &HostRuntime, setup: &[&str], words: &str) -> Result<Vec<u8>, Fail> {
+    let mut owner = set_up_with_memory(rt, setup)?;
+    told_bytes(rt.alloc(), &mut owner, words)
+}
+
 pub fn with_memory(rt: &HostRuntime, setup: &[&str], words: &str) -> Result<Ample, Fail> {
-    let alloc = rt.alloc();
-    let hasher = RandomState::new(rt)?;
-    let mut listed = OneOwner::new(alloc, hasher);
-    run_all(alloc, &mut listed, setup)?;
-    let mut asked = OneOwner::new(alloc, hasher);
-    run_all(alloc, &mut asked, setup)?;
     Ok(Ample {
-        before: reply(alloc, &mut listed, LISTING)?,
-        reply: told_bytes(alloc, &mut asked, words)?,
+        before: listed_before(rt, setup)?,
+        reply: told_with_memory(rt, setup, words)?,
     })
 }
 
@@ -158,7 +192,32 @@ fn recovers<A: Allocator + Copy>(
     Ok(stayed && again)
 }
 
-/// Refuses one allocation of the command behind those that set up its set.
+/// Refuses one allocation of a command.
+fn refuse_one<'f>(
+    heap: &'f Fuse<Global>,
+    owner: &mut Owner<&'f Fuse<Global>>,
+    words: &str,
+    ample: &Ample,
+    allocation: u64,
+) -> Result<Outcome, Fail>
+    requires { owner.old.next ≡ None }
+{
+    let request = request(heap, words)?;
+    heap.arm(allocation);
+    let found = told(answer(heap, owner, request));
+    let is_whole = heap.is_armed();
+    heap.arm(0);
+    match found {
+        Some(reply) => {
+            let bytes = bytes_of(heap, &reply)?;
+            Ok(Outcome::of_reply(is_whole, bytes.as_slice(), ample))
+        }
+        None if !is_whole && recovers(heap, owner, words, ample)? => Ok(Outcome::Refused),
+        None => Ok(Outcome::Wrong),
+    }
+}
+
+/// The same, behind the commands that set up its set.
 fn refuse(
     rt: &HostRuntime,
     setup: &[&str],
@@ -166,24 +225,10 @@ fn refuse(
     ample: &Ample,
     allocation: u64,
 ) -> Result<Outcome, Fail> {
-    let alloc = rt.alloc();
-    let fuse = Fuse::new(alloc, 0);
-    let heap = &fuse;
-    let mut owner = OneOwner::new(heap, RandomState::new(rt)?);
-    run_all(heap, &mut owner, setup)?;
-    let request = request(heap, words)?;
-    fuse.arm(allocation);
-    let found = told(answer(heap, &mut owner, request));
-    let is_whole = fuse.is_armed();
-    fuse.arm(0);
-    match found {
-        Some(reply) => {
-            let bytes = bytes_of(heap, &reply)?;
-            Ok(Outcome::of_reply(is_whole, bytes.as_slice(), ample))
-        }
-        None if !is_whole && recovers(heap, &mut owner, words, ample)? => Ok(Outcome::Refused),
-        None => Ok(Outcome::Wrong),
-    }
+    let fuse = Fuse::new(rt.alloc(), 0);
+    let mut owner = OneOwner::new(&fuse, RandomState::new(rt)?);
+    run_all(&fuse, &mut owner, setup)?;
+    refuse_one(&fuse, &mut owner, words, ample, allocation)
 }
 
 /// How many allocations of a command were refused, one in each run, and how often it was refused for want of one.
@@ -244,13 +289,15 @@ fn each_command_is_refused_or_answered(rt: HostRuntime) -> Result<(), Fail> {
     Ok(())
 }
 
-// A removal takes what was kept back.
+/// Removals, which take what was kept back.
+const REMOVALS: [&str; 2] = [
+    "ZREM k a-member-that-takes-memory b nobody",
+    "ZREMRANGEBYSCORE k (6 8",
+];
+
 #[test]
 fn a_removal_is_made_whichever_allocation_is_refused(rt: HostRuntime) -> Result<(), Fail> {
-    for words in [
-        "ZREM k a-member-that-takes-memory b nobody",
-        "ZREMRANGEBYSCORE k (6 8",
-    ] {
+    for words in REMOVALS {
         let points = refused(&rt, &SETUP, words)?;
         assert!(rt;
             points.all >= 1 && points.refused == 0,
@@ -260,12 +307,17 @@ fn a_removal_is_made_whichever_allocation_is_refused(rt: HostRuntime) -> Result<
     Ok(())
 }
 
+/// Puts a number as a score, and a member that takes memory.
+fn put_pair(alloc: Global, number: u64, text: &mut String) -> Result<(), Fail> {
+    let pair = format!(in alloc; " {number} member-of-a-long-set-{number}")?;
+    Ok(text.push_str(&pair)?)
+}
+
 /// `ZADD k` with 500 pairs from a number on, each with its number as its score and a member that takes memory.
 fn addition(alloc: Global, first: u64) -> Result<String, Fail> {
     let mut text = "ZADD k".to_string(alloc)?;
     for index in 0..500u64 {
-        let number = first.saturating_add(index);
-        text.push_str(&format!(in alloc; " {number} member-of-a-long-set-{number}")?)?;
+        put_pair(alloc, first.saturating_add(index), &mut text)?;
     }
     Ok(text)
 }
@@ -287,20 +339,22 @@ const LONG_READINGS: [(&str, u64, u64); 2] = [
     ("ZRANGEBYSCORE k -inf +inf LIMIT 700 3", 4, 1),
 ];
 
+/// Whether a reading of that set is refused and made as often as it is to be at the least.
+fn is_read_so(rt: &HostRuntime, setup: &[&str], reading: (&str, u64, u64)) -> Result<bool, Fail> {
+    let (words, least_refused, least_made) = reading;
+    let points = refused(rt, setup, words)?;
+    let made = points.all.saturating_sub(points.refused);
+    Ok(points.refused >= least_refused && made >= least_made)
+}
+
 // The removed row is searched for in a long piece, which is parted first, as is the one around a window. An inner
 // pivot for which there is no memory is done without.
 #[test]
 fn a_long_set_is_read_without_inner_pivots(rt: HostRuntime) -> Result<(), Fail> {
-    let alloc = rt.alloc();
-    let texts = long_setup(alloc)?;
-    let setup: Vec<&str> = texts.iter().map(|text| text.as_str()).collect(alloc)?;
-    for (words, least_refused, least_made) in LONG_READINGS {
-        let points = refused(&rt, &setup, words)?;
-        let made = points.all.saturating_sub(points.refused);
-        assert!(rt;
-            points.refused >= least_refused && made >= least_made,
-            "{words}: {points:?}"
-        );
+    let texts = long_setup(rt.alloc())?;
+    let setup: Vec<&str> = texts.iter().map(|text| text.as_str()).collect(rt.alloc())?;
+    for reading in LONG_READINGS {
+        assert!(rt; is_read_so(&rt, &setup, reading)?, "{}", reading.0);
     }
     Ok(())
 }

@@ -66,8 +66,7 @@ fn an_announced_length_reserves_nothing(rt: HostRuntime) -> Result<(), Fail> {
     let mut decoder = Decoder::new(&heap);
     decoder.feed(b"*1027\r\n$65536\r\n")?;
     assert!(rt; matches!(decoder.next(), Ok(None)));
-    assert_eq!(rt; decoder.rest_len(), 15);
-    assert_eq!(rt; decoder.taken(), 0);
+    assert_eq!(rt; (decoder.rest_len(), decoder.taken()), (15, 0));
     Ok(())
 }
 
@@ -95,31 +94,35 @@ fn a_decoder_keeps_nothing_that_it_gave(rt: HostRuntime) -> Result<(), Fail> {
     Ok(())
 }
 
-/// A request of `count` words of `length` bytes each.
-fn request(
-    alloc: Global,
-    count: usize,
-    length: usize,
-) -> Result<Option<Request<Global>>, AllocError> {
+/// A word of so many bytes.
+fn word(alloc: Global, length: usize) -> Result<Bytes<Global>, AllocError> {
+    Ok(Bytes::new(vec![in alloc; b'x'; length]?))
+}
+
+/// Whether there is a request of `count` words of `length` bytes each.
+fn is_request(alloc: Global, count: usize, length: usize) -> Result<bool, AllocError> {
     let mut list = Vec::new(alloc);
     for _ in 0..count {
-        let mut word = Vec::new(alloc);
-        for _ in 0..length {
-            word.push(b'x')?;
-        }
-        list.push(Bytes::new(word))?;
+        list.push(word(alloc, length)?)?;
     }
-    Ok(Request::new(BytesList::new(list)))
+    Ok(Request::new(BytesList::new(list)).is_some())
 }
+
+/// How many words of how many bytes, and whether there is such a request.
+const SIZES: [(usize, usize, bool); 5] = [
+    (0, 1, false),
+    (1027, 1, true),
+    (1028, 1, false),
+    (1, 65_536, true),
+    (1, 65_537, false),
+];
 
 #[test]
 fn requests_keep_their_limits(rt: HostRuntime) -> Result<(), Fail> {
-    let alloc = rt.alloc();
-    assert!(rt; request(alloc, 0, 1)?.is_none());
-    assert!(rt; request(alloc, 1027, 1)?.is_some());
-    assert!(rt; request(alloc, 1028, 1)?.is_none());
-    assert!(rt; request(alloc, 1, 65_536)?.is_some());
-    assert!(rt; request(alloc, 1, 65_537)?.is_none());
+    for (count, length, wanted) in SIZES {
+        let found = is_request(rt.alloc(), count, length)?;
+        assert_eq!(rt; found, wanted, "{count} words of {length} bytes");
+    }
     Ok(())
 }
 
@@ -183,6 +186,19 @@ fn take_next<A: Allocator + Copy>(
 }
 
 /// Feeds a text byte by byte, and asks for a request behind each.
+fn feed_all<A: Allocator + Copy>(
+    decoder: &mut Decoder<A>,
+    text: &[u8],
+    given: &mut Given,
+) -> Result<(), Fail> {
+    for byte in text {
+        feed(decoder, *byte, given)?;
+        take_next(decoder, given)?;
+    }
+    Ok(())
+}
+
+/// What a decoder of its own gives.
 fn decode<A: Allocator + Copy>(alloc: Global, heap: A, text: &[u8]) -> Result<Given, Fail> {
     let mut decoder = Decoder::new(heap);
     let mut given = Given {
@@ -191,10 +207,7 @@ fn decode<A: Allocator + Copy>(alloc: Global, heap: A, text: &[u8]) -> Result<Gi
         was_fed_again: false,
         was_asked_again: false,
     };
-    for byte in text {
-        feed(&mut decoder, *byte, &mut given)?;
-        take_next(&mut decoder, &mut given)?;
-    }
+    feed_all(&mut decoder, text, &mut given)?;
     Ok(given)
 }
 
@@ -211,21 +224,28 @@ fn is_whole(given: &Given) -> bool {
         && given.fault == Some(WireFault::Protocol(ProtocolFault::NotAnArray))
 }
 
+/// A decoder one of whose allocations is refused: whether there were fewer, and whether a byte was fed again and a
+/// request asked for again.
+fn refuse(alloc: Global, allocation: u64) -> Result<(bool, bool, bool), Fail> {
+    let fuse = Fuse::new(alloc, allocation);
+    let given = decode(alloc, &fuse, TEXT)?;
+    if !is_whole(&given) {
+        return Err("not what stands there")?;
+    }
+    Ok((fuse.is_armed(), given.was_fed_again, given.was_asked_again))
+}
+
 /// Refuses each allocation of a decoder, until it has no more: how many runs had a byte that was fed again, and how
 /// many a request that was asked for again. Each gives all that stands there.
 fn refused(alloc: Global) -> Result<(u64, u64), Fail> {
     let (mut fed, mut asked) = (0u64, 0u64);
     for allocation in 1..1000u64 {
-        let fuse = Fuse::new(alloc, allocation);
-        let given = decode(alloc, &fuse, TEXT)?;
-        if !is_whole(&given) {
-            return Err("not what stands there")?;
-        }
-        if fuse.is_armed() {
+        let (has_fewer, was_fed_again, was_asked_again) = refuse(alloc, allocation)?;
+        if has_fewer {
             return Ok((fed, asked));
         }
-        fed = fed.saturating_add(u64::from(given.was_fed_again));
-        asked = asked.saturating_add(u64::from(given.was_asked_again));
+        fed = fed.saturating_add(u64::from(was_fed_again));
+        asked = asked.saturating_add(u64::from(was_asked_again));
     }
     Err("no end")?
 }

@@ -1,0 +1,168 @@
+//! What is done with files, step by step, and what each step has to come to.
+
+ghost use Rattle.std.specs.Prelude.{◌≡◌, None, IfOk};
+
+use crate::failing::{Failing, Fails};
+use crate::records::Owner;
+use append_log::{Loaded, OpenFault, RenewFault, open_to_append, open_to_read, reload, write_anew};
+use resp_wire::MemorySource;
+use std::fs::{self, Permissions};
+use std::hash::RandomState;
+use std::os::unix::fs::{PermissionsExt, symlink};
+use std::test::Fail;
+use zset_core::OneOwner;
+
+/// ZADD k 1 a: a file of version 1.
+pub const RECORD: &[u8] = b"*4\r\n$4\r\nZADD\r\n$1\r\nk\r\n$1\r\n1\r\n$1\r\na\r\n";
+
+/// The same, and a prefix of one more.
+pub const TORN: &[u8] = b"*4\r\n$4\r\nZADD\r\n$1\r\nk\r\n$1\r\n1\r\n$1\r\na\r\n*3";
+
+/// The header, of 24 bytes: a file of version 2.
+pub const HEADER: &[u8] = b"*2\r\n$7\r\nZCRACKD\r\n$1\r\n2\r\n";
+
+/// The header, and ZADD k 1 a: 59 bytes.
+pub const EFFECT: &[u8] =
+    b"*2\r\n$7\r\nZCRACKD\r\n$1\r\n2\r\n*4\r\n$4\r\nZADD\r\n$1\r\nk\r\n$1\r\n1\r\n$1\r\na\r\n";
+
+/// The same, and a prefix of one record more.
+pub const TORN_EFFECT: &[u8] =
+    b"*2\r\n$7\r\nZCRACKD\r\n$1\r\n2\r\n*4\r\n$4\r\nZADD\r\n$1\r\nk\r\n$1\r\n1\r\n$1\r\na\r\n*3";
+
+/// How a file is opened.
+pub type Opened = Result<Loaded, OpenFault>;
+
+/// A step: what is done with the file of a name, or what has to be seen of it.
+#[derive(Clone, Copy)]
+pub enum Step {
+    /// It is written, with these bytes.
+    Write(&'static str, &'static [u8]),
+    Remove(&'static str),
+    MakeFolder(&'static str),
+    /// A folder goes that has nothing in it.
+    RemoveFolder(&'static str),
+    /// A file gets a second name.
+    HardLink(&'static str, &'static str),
+    /// A path gets a link that leads to it.
+    Symlink(&'static str, &'static str),
+    SetMode(&'static str, u32),
+    /// It is opened for appending, where such calls fail.
+    Append(&'static str, Fails, Opened),
+    /// It is opened for reading, where such calls fail.
+    Read(&'static str, Fails, Opened),
+    /// It is written anew for the sets of [`RECORD`], where such calls fail: how many records it has.
+    Renew(&'static str, Fails, Result<u64, RenewFault>),
+    Has(&'static str, &'static [u8]),
+    HasMode(&'static str, u32),
+    /// Whether it is a link.
+    IsLink(&'static str, bool),
+    IsMissing(&'static str),
+}
+
+/// A name for steps that are taken in turn.
+pub type Tale = (&'static str, &'static [Step]);
+
+fn failing(rt: &HostRuntime, fails: Fails) -> Failing<'_> {
+    Failing { rt, fails }
+}
+
+/// Whether a file is opened so, for appending.
+fn appends(rt: &HostRuntime, path: &str, fails: Fails, wanted: Opened) -> Result<bool, Fail> {
+    let mut owner = OneOwner::new(rt.alloc(), RandomState::new(rt)?);
+    match open_to_append(&failing(rt, fails), rt.alloc(), path, &mut owner) {
+        Ok((_, loaded)) => Ok(Ok(loaded) == wanted),
+        Err(fault) => Ok(Err(fault) == wanted),
+    }
+}
+
+/// Whether a file is opened so, for reading.
+fn reads(rt: &HostRuntime, path: &str, fails: Fails, wanted: Opened) -> Result<bool, Fail> {
+    let mut owner = OneOwner::new(rt.alloc(), RandomState::new(rt)?);
+    match open_to_read(&failing(rt, fails), rt.alloc(), path, &mut owner) {
+        Ok((_, loaded)) => Ok(Ok(loaded) == wanted),
+        Err(fault) => Ok(Err(fault) == wanted),
+    }
+}
+
+/// The owner of the record's set.
+pub fn owner_of_record(rt: &HostRuntime) -> Result<Owner, Fail>
+    ensures { IfOk result (λ owner. owner.next ≡ None) }
+{
+    let mut owner = OneOwner::new(rt.alloc(), RandomState::new(rt)?);
+    let mut source = MemorySource::new(RECORD, 64);
+    reload(rt.alloc(), &mut source, &mut owner, 64, 10)?;
+    Ok(owner)
+}
+
+/// Whether this becomes of a new file for the sets of the record.
+fn renews(
+    rt: &HostRuntime,
+    path: &str,
+    fails: Fails,
+    wanted: Result<u64, RenewFault>,
+) -> Result<bool, Fail> {
+    let owner = owner_of_record(rt)?;
+    Ok(write_anew(&failing(rt, fails), rt.alloc(), path, &owner) == wanted)
+}
+
+fn has_bytes(rt: &HostRuntime, path: &str, wanted: &[u8]) -> Result<bool, Fail> {
+    Ok(fs::read(rt, path)?.as_slice() == wanted)
+}
+
+fn mode_of(rt: &HostRuntime, path: &str) -> Result<u32, Fail> {
+    Ok(fs::metadata(rt, path)?.permissions().mode() & 0o777)
+}
+
+fn is_link(rt: &HostRuntime, path: &str) -> Result<bool, Fail> {
+    Ok(fs::symlink_metadata(rt, path)?.is_symlink())
+}
+
+/// Whether a step goes as it says.
+fn goes(rt: &HostRuntime, step: Step) -> Result<bool, Fail> {
+    match step {
+        Step::Write(path, bytes) => Ok(fs::write(rt, path, bytes).is_ok()),
+        Step::Remove(path) => Ok(fs::remove_file(rt, path).is_ok()),
+        Step::MakeFolder(path) => Ok(fs::create_dir(rt, path).is_ok()),
+        Step::RemoveFolder(path) => Ok(fs::remove_dir(rt, path).is_ok()),
+        Step::HardLink(path, link) => Ok(fs::hard_link(rt, path, link).is_ok()),
+        Step::Symlink(path, link) => Ok(symlink(rt, path, link).is_ok()),
+        Step::SetMode(path, mode) => {
+            Ok(fs::set_permissions(rt, path, Permissions::from_mode(mode)).is_ok())
+        }
+        Step::Append(path, fails, wanted) => appends(rt, path, fails, wanted),
+        Step::Read(path, fails, wanted) => reads(rt, path, fails, wanted),
+        Step::Renew(path, fails, wanted) => renews(rt, path, fails, wanted),
+        Step::Has(path, bytes) => has_bytes(rt, path, bytes),
+        Step::HasMode(path, mode) => Ok(mode_of(rt, path)? == mode),
+        Step::IsLink(path, wanted) => Ok(is_link(rt, path)? == wanted),
+        Step::IsMissing(path) => Ok(fs::metadata(rt, path).is_err()),
+    }
+}
+
+/// How many steps go as they say, before one does not.
+pub fn taken(rt: &HostRuntime, steps: &[Step]) -> Result<usize, Fail> {
+    for (at, step) in steps.iter().enumerate() {
+        if !goes(rt, *step)? {
+            return Ok(at);
+        }
+    }
+    Ok(steps.len())
+}
+
+/// The same of steps that are taken while a file is open for appending.
+pub fn taken_beside_an_appender(
+    rt: &HostRuntime,
+    path: &str,
+    steps: &[Step],
+) -> Result<usize, Fail> {
+    let mut owner = OneOwner::new(rt.alloc(), RandomState::new(rt)?);
+    let _held = open_to_append(rt, rt.alloc(), path, &mut owner)?;
+    taken(rt, steps)
+}
+
+/// The same of steps that are taken while a file is open for reading.
+pub fn taken_beside_a_reader(rt: &HostRuntime, path: &str, steps: &[Step]) -> Result<usize, Fail> {
+    let mut owner = OneOwner::new(rt.alloc(), RandomState::new(rt)?);
+    let _held = open_to_read(rt, rt.alloc(), path, &mut owner)?;
+    taken(rt, steps)
+}
