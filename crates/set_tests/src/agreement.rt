@@ -6,10 +6,34 @@ use crate::columns::{Set, expect_run, new_set, run};
 use crate::examples::{command, text_of};
 use crate::questions::{Question, listing_text, plain_reply, plain_rows, random_question};
 use crate::random_changes::{Extent, Plain, next, random_change};
+use resp_wire::Reply;
 use std::alloc::Global;
 use std::collections::BTreeMap;
 use std::process::Abort;
 use std::test::*;
+use zset_core::Command;
+
+// The reply of a set as it stands.
+fn told_ready(set: &Set, command: &Command<Global>) -> Result<Reply<Global>, Fail>
+    requires { set.now.next ≡ None }
+{
+    if command.key().is_none() {
+        Err("no key")?;
+    }
+    match set.ready(command) {
+        None => Err("not ready")?,
+        Some(told) => Ok(told?),
+    }
+}
+
+// The text of it.
+fn ready_text(alloc: Global, set: &Set, text: &str) -> Result<String, Fail>
+    requires { set.now.next ≡ None }
+{
+    let command = command(alloc, text)?;
+    let told = told_ready(set, &command)?;
+    text_of(alloc, &told)
+}
 
 // Asks a set as it stands: the reply is as wanted.
 fn expect_ready<R: Abort>(
@@ -21,12 +45,7 @@ fn expect_ready<R: Abort>(
 ) -> Result<(), Fail>
     requires { set.now.next ≡ None }
 {
-    let command = command(alloc, text)?;
-    if command.key().is_none() {
-        Err("no key")?;
-    }
-    let told = set.ready(&command).ok_or("not ready")??;
-    assert_eq!(rt; text_of(alloc, &told)?.as_str(), want, "{text}");
+    assert_eq!(rt; ready_text(alloc, set, text)?.as_str(), want, "{text}");
     Ok(())
 }
 

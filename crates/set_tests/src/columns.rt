@@ -145,8 +145,8 @@ const LEFT: &str = "8 rows +0 -0 (0, 0) (3, 3) (4, 4) (7, 4) (8, 4) (11, 8)";
 
 const NONE_LEFT: &str = "0 rows +0 -0 (0, 0) (3, 0) (4, 0) (7, 0) (8, 0) (11, 0)";
 
-/// Twelve members, and two pivots.
-const TWELVE: [(&str, &str, &str); 3] = [
+/// Commands with the column that each leaves, where twelve members stand between pivots and ranges of them go.
+const CLOSED_UP: [(&str, &str, &str); 9] = [
     (
         "ZADD k 1 m1 2 m2 3 m3 4 m4 5 m5 6 m6",
         ":6~",
@@ -158,10 +158,6 @@ const TWELVE: [(&str, &str, &str); 3] = [
         "0 rows +12 -0",
     ),
     ("ZCOUNT k 3 6", ":4~", "4 rows +8 -0 (3, 0) (7, 4)"),
-];
-
-/// Commands with the column that each leaves, once twelve members stand there.
-const CLOSED_UP: [(&str, &str, &str); 6] = [
     (
         "ZCOUNT k 0 10",
         ":12~",
@@ -177,10 +173,7 @@ const CLOSED_UP: [(&str, &str, &str); 6] = [
 // Rows leave with their range: those behind them and the pivots close up, and no pivot goes.
 #[test]
 fn a_removed_range_closes_up(rt: HostRuntime) -> Result<(), Fail> {
-    let alloc = rt.alloc();
-    let mut set = new_set(&rt)?;
-    expect(&rt, alloc, &mut set, &TWELVE)?;
-    expect(&rt, alloc, &mut set, &CLOSED_UP)
+    expect_of(&rt, rt.alloc(), new_set(&rt)?, &CLOSED_UP)
 }
 
 /// Commands with the column that each leaves, where rows wait in a range that is removed, and outside it.
@@ -268,20 +261,20 @@ fn count_all(alloc: Global, set: &mut Set) -> Result<(), Fail>
     Ok(())
 }
 
-// As many pivots as there may be, and two in their place then.
-fn expect_few_pivots<R: Abort>(rt: &R, alloc: Global, set: &mut Set) -> Result<(), Fail>
-    requires { set.old.next ≡ None }
+// How many pivots there are once there are as many as there may be, and after one count more.
+fn pivots_of(alloc: Global, set: Set) -> Result<(usize, usize), Fail>
+    requires { set.next ≡ None }
 {
-    run(alloc, set, "ZADD k 5 a")?;
-    count_all(alloc, set)?;
-    assert_eq!(rt; set.column().pivot_list().len(), 4096);
-    count_from(alloc, set, 50001)?;
-    assert_eq!(rt; set.column().pivot_list().len(), 2);
-    Ok(())
+    let mut set = set;
+    run(alloc, &mut set, "ZADD k 5 a")?;
+    count_all(alloc, &mut set)?;
+    let most = set.column().pivot_list().len();
+    count_from(alloc, &mut set, 50001)?;
+    Ok((most, set.column().pivot_list().len()))
 }
 
 #[test]
 fn pivots_past_the_limit_go(rt: HostRuntime) -> Result<(), Fail> {
-    let mut set = new_set(&rt)?;
-    expect_few_pivots(&rt, rt.alloc(), &mut set)
+    assert_eq!(rt; pivots_of(rt.alloc(), new_set(&rt)?)?, (4096, 2));
+    Ok(())
 }

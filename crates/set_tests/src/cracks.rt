@@ -12,16 +12,18 @@ fn rows_of(alloc: Global, scores: &[i64]) -> Result<Vec<Row<Global>>, AllocError
     Ok(rows)
 }
 
+// Where rows of these scores are cracked in two at 5, and in three at 3 and 6.
+fn places_of(alloc: Global, scores: &[i64]) -> Result<(usize, (usize, usize)), AllocError> {
+    let mut rows = rows_of(alloc, scores)?;
+    let place = crack_two(&mut rows, 5);
+    let mut rows = rows_of(alloc, scores)?;
+    Ok((place, crack_three(&mut rows, 3, 6)))
+}
+
 #[test]
 fn rows_are_cracked(rt: HostRuntime) -> Result<(), AllocError> {
-    let alloc = rt.alloc();
-    let mut rows = rows_of(alloc, &[5, 1, 5, 9, 3])?;
-    assert_eq!(rt; crack_two(&mut rows, 5), 2);
-    let mut rows = rows_of(alloc, &[5, 1, 5, 9, 3])?;
-    assert_eq!(rt; crack_three(&mut rows, 3, 6), (1, 4));
-    let mut none = rows_of(alloc, &[])?;
-    assert_eq!(rt; crack_two(&mut none, 5), 0);
-    assert_eq!(rt; crack_three(&mut none, 3, 6), (0, 0));
+    assert_eq!(rt; places_of(rt.alloc(), &[5, 1, 5, 9, 3])?, (2, (1, 4)));
+    assert_eq!(rt; places_of(rt.alloc(), &[])?, (0, (0, 0)));
     Ok(())
 }
 
@@ -76,13 +78,17 @@ fn rows_on_their_side_stay(rt: HostRuntime) -> Result<(), AllocError> {
 // Each score stands in this piece among ten rows.
 const PIECES: [(i64, (usize, usize)); 4] = [(1, (0, 2)), (3, (2, 6)), (5, (2, 6)), (7, (6, 10))];
 
-// Two pivots are found by their values, and pieces by the scores in them.
-fn expect_two<R: Abort>(rt: &R, pivots: &Pivots<Global>) {
-    assert_eq!(rt; pivots.list(), [(3, 2), (7, 6)].as_slice());
+// Pieces are found by the scores in them.
+fn expect_pieces<R: Abort>(rt: &R, pivots: &Pivots<Global>) {
     for (value, piece) in PIECES {
         assert_eq!(rt; pivots.piece_of(value, 10), piece, "at {value}");
     }
-    assert_eq!(rt; (pivots.find(3), pivots.find(4)), (Some(2), None));
+}
+
+// Two pivots are found by their values.
+fn has_two(pivots: &Pivots<Global>) -> bool {
+    pivots.list() == [(3, 2), (7, 6)].as_slice()
+        && (pivots.find(3), pivots.find(4)) == (Some(2), None)
 }
 
 // The places of two pivots are moved, and close up.
@@ -105,7 +111,8 @@ fn pivots_are_kept(rt: HostRuntime) -> Result<(), AllocError> {
     pivots.add(3, 2);
     assert!(rt; pivots.find(7).is_none() && pivots.len() == 1);
     pivots.add(7, 6);
-    expect_two(&rt, &pivots);
+    assert!(rt; has_two(&pivots));
+    expect_pieces(&rt, &pivots);
     expect_moved(&rt, &mut pivots);
     pivots.clear();
     assert_eq!(rt; pivots.len(), 0);

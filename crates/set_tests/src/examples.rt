@@ -11,14 +11,18 @@ use zset_core::{Command, OneOwner, Outline};
 
 pub type Owner = OneOwner<RandomState, Global>;
 
-/// The command of a text's words, which single spaces part.
-pub fn command(alloc: Global, text: &str) -> Result<Command<Global>, Fail> {
+/// The request of a text's words, which single spaces part.
+pub fn request(alloc: Global, text: &str) -> Result<Request<Global>, Fail> {
     let mut words = Vec::new(alloc);
     for word in text.split(' ') {
         words.push(Bytes::from_slice(alloc, word.as_bytes())?)?;
     }
-    let request = Request::new(BytesList::new(words)).ok_or("no request")?;
-    match Command::read(alloc, request) {
+    Ok(Request::new(BytesList::new(words)).ok_or("no request")?)
+}
+
+/// The command of a text's words.
+pub fn command(alloc: Global, text: &str) -> Result<Command<Global>, Fail> {
+    match Command::read(alloc, request(alloc, text)?) {
         Ok(command) => Ok(command),
         Err(_) => Err("no command")?,
     }
@@ -55,7 +59,7 @@ pub fn reply_to(alloc: Global, owner: &mut Owner, text: &str) -> Result<String, 
 }
 
 // Commands in turn, with their replies. Each key begins an example of its own.
-const EXAMPLES: [(&str, &str); 51] = [
+const EXAMPLES: [(&str, &str); 67] = [
     ("PING", "+PONG~"),
     ("PING hi", "$2~hi~"),
     ("ZADD one 5 a", ":1~"),
@@ -116,6 +120,26 @@ const EXAMPLES: [(&str, &str); 51] = [
     ("ZREMRANGEBYSCORE cut -inf +inf", ":2~"),
     ("ZCARD cut", ":0~"),
     ("ZREMRANGEBYSCORE missing -inf +inf", ":0~"),
+    // GT and LT
+    ("ZADD k 5 a", ":1~"),
+    ("ZADD k GT CH 5 a", ":0~"),
+    ("ZADD k GT CH 6 a 1 b", ":2~"),
+    ("ZADD k LT 7 a", ":0~"),
+    ("ZADD k LT INCR -1 a", "$1~5~"),
+    ("ZADD k GT INCR -1 a", "$-1~"),
+    ("ZADD k GT INCR 0 a", "$-1~"),
+    ("ZADD k LT INCR 0 a", "$-1~"),
+    ("ZADD k GT INCR 9223372036854775807 a", "r13"),
+    ("ZADD k LT INCR 9223372036854775807 a", "r13"),
+    ("ZADD k XX GT 9 c", ":0~"),
+    ("ZADD k LT LT CH 4 a", ":1~"),
+    ("ZADD k LT CH 4 a", ":0~"),
+    ("ZADD k gt INCR 7 c", "$1~7~"),
+    ("ZADD k LT INCR 8 d", "$1~8~"),
+    (
+        "ZRANGEBYSCORE k -inf +inf WITHSCORES",
+        "*8~$1~b~$1~1~$1~a~$1~4~$1~c~$1~7~$1~d~$1~8~",
+    ),
 ];
 
 // Commands in turn on one owner's sets, with their replies.
@@ -138,35 +162,6 @@ fn expect_replies<R: Abort>(
 fn examples_are_answered(rt: HostRuntime) -> Result<(), Fail> {
     let mut owner = new_owner(&rt)?;
     expect_replies(&rt, rt.alloc(), &mut owner, &EXAMPLES)
-}
-
-// Commands with GT and LT in turn, with their replies.
-const GREATER_OR_LESS: [(&str, &str); 16] = [
-    ("ZADD k 5 a", ":1~"),
-    ("ZADD k GT CH 5 a", ":0~"),
-    ("ZADD k GT CH 6 a 1 b", ":2~"),
-    ("ZADD k LT 7 a", ":0~"),
-    ("ZADD k LT INCR -1 a", "$1~5~"),
-    ("ZADD k GT INCR -1 a", "$-1~"),
-    ("ZADD k GT INCR 0 a", "$-1~"),
-    ("ZADD k LT INCR 0 a", "$-1~"),
-    ("ZADD k GT INCR 9223372036854775807 a", "r13"),
-    ("ZADD k LT INCR 9223372036854775807 a", "r13"),
-    ("ZADD k XX GT 9 c", ":0~"),
-    ("ZADD k LT LT CH 4 a", ":1~"),
-    ("ZADD k LT CH 4 a", ":0~"),
-    ("ZADD k gt INCR 7 c", "$1~7~"),
-    ("ZADD k LT INCR 8 d", "$1~8~"),
-    (
-        "ZRANGEBYSCORE k -inf +inf WITHSCORES",
-        "*8~$1~b~$1~1~$1~a~$1~4~$1~c~$1~7~$1~d~$1~8~",
-    ),
-];
-
-#[test]
-fn greater_and_less_are_asked_for(rt: HostRuntime) -> Result<(), Fail> {
-    let mut owner = new_owner(&rt)?;
-    expect_replies(&rt, rt.alloc(), &mut owner, &GREATER_OR_LESS)
 }
 
 // What a command that changes sets is prepared to do in its set.
@@ -251,20 +246,25 @@ const TWO_KEYS: [(&str, &str); 4] = [
 fn expect_keys<R: Abort>(rt: &R, owner: &Owner)
     requires { owner.now.next ≡ None }
 {
-    assert_eq!(rt; owner.key_count(), 2);
-    assert_eq!(rt; owner.key_at(0), Some(b"j".as_slice()));
-    assert_eq!(rt; owner.key_at(1), Some(b"k".as_slice()));
-    assert_eq!(rt; owner.key_at(2), None);
-    assert_eq!(rt; owner.key_after(None), Some(b"j".as_slice()));
-    assert!(rt; owner.set(b"empty".as_slice()).is_none());
+    let first = Some(b"j".as_slice());
+    let keys = [
+        owner.key_at(0),
+        owner.key_at(1),
+        owner.key_at(2),
+        owner.key_after(None),
+    ];
+    assert!(rt; keys == [first, Some(b"k".as_slice()), None, first]);
+    assert!(rt; owner.key_count() == 2 && owner.set(b"empty".as_slice()).is_none());
 }
 
-// Rows are these members, each with the score 1.
-fn expect_rows<R: Abort>(rt: &R, rows: &[Row<Global>], members: &[&[u8]]) {
-    assert_eq!(rt; rows.len(), members.len());
+// Whether rows are these members, each with the score 1.
+fn are_rows(rows: &[Row<Global>], members: &[&[u8]]) -> bool {
     for (row, member) in rows.iter().zip(members) {
-        assert_eq!(rt; (row.score(), row.member()), (1, *member));
+        if row.score() != 1 || row.member() != *member {
+            return false;
+        }
     }
+    rows.len() == members.len()
 }
 
 fn expect_listed<R: Abort>(rt: &R, alloc: Global, owner: &mut Owner) -> Result<(), Fail>
@@ -273,7 +273,7 @@ fn expect_listed<R: Abort>(rt: &R, alloc: Global, owner: &mut Owner) -> Result<(
     expect_replies(rt, alloc, owner, &TWO_KEYS)?;
     expect_keys(rt, owner);
     let rows = owner.pairs(b"k".as_slice())?;
-    expect_rows(rt, &rows, &MEMBERS);
+    assert!(rt; are_rows(&rows, &MEMBERS));
     Ok(())
 }
 

@@ -57,6 +57,12 @@ pub fn listing_text(alloc: Global, asked: &Question) -> Result<String, Fail> {
     })
 }
 
+// Appends an element of a reply.
+fn note_element(alloc: Global, element: &str, out: &mut String) -> Result<(), Fail> {
+    out.push_str(format!(in alloc; "${}~{element}~", element.len())?.as_str())?;
+    Ok(())
+}
+
 // The reply to it, an end of line as `~`.
 fn listing_reply(alloc: Global, rows: &[(i64, String)], asked: &Question) -> Result<String, Fail> {
     let mut elements = 0u64;
@@ -66,11 +72,10 @@ fn listing_reply(alloc: Global, rows: &[(i64, String)], asked: &Question) -> Res
             continue;
         }
         elements = elements.wrapping_add(1);
-        text.push_str(format!(in alloc; "${}~{name}~", name.len())?.as_str())?;
+        note_element(alloc, name, &mut text)?;
         if asked.with_scores {
             elements = elements.wrapping_add(1);
-            let score = format!(in alloc; "{score}")?;
-            text.push_str(format!(in alloc; "${}~{score}~", score.len())?.as_str())?;
+            note_element(alloc, format!(in alloc; "{score}")?.as_str(), &mut text)?;
         }
     }
     Ok(format!(in alloc; "*{elements}~{text}")?)

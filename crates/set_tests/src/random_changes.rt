@@ -77,12 +77,29 @@ pub fn random_change(
         }
         _ => {
             let other = extent.member(number / 4096);
-            let option = random_option(number / 512);
-            give(plain, option, member, score)?;
-            give(plain, option, other, 3)?;
-            format!(in alloc; "ZADD k {option} {score} m{member} 3 m{other}")?
+            give_two(
+                alloc,
+                plain,
+                random_option(number / 512),
+                (member, score),
+                other,
+            )?
         }
     })
+}
+
+// Two members get a score by one ZADD with an option, the second the score 3.
+fn give_two(
+    alloc: Global,
+    plain: &mut Plain,
+    option: &str,
+    first: (u64, i64),
+    other: u64,
+) -> Result<String, Fail> {
+    let (member, score) = first;
+    give(plain, option, member, score)?;
+    give(plain, option, other, 3)?;
+    Ok(format!(in alloc; "ZADD k {option} {score} m{member} 3 m{other}")?)
 }
 
 // An option of ZADD, by a number: GT, LT, or CH, which stops no pair.

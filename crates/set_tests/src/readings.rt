@@ -1,17 +1,8 @@
-use resp_wire::{Bytes, BytesList, Request};
+use crate::examples::{command, request};
 use std::alloc::Global;
 use std::process::Abort;
 use std::test::*;
 use zset_core::{Command, Refusal};
-
-// The request of a text's words, which single spaces part.
-fn request(alloc: Global, text: &str) -> Result<Request<Global>, Fail> {
-    let mut words = Vec::new(alloc);
-    for word in text.split(' ') {
-        words.push(Bytes::from_slice(alloc, word.as_bytes())?)?;
-    }
-    Ok(Request::new(BytesList::new(words)).ok_or("no request")?)
-}
 
 // Requests that are refused, and the refusals.
 const REFUSED: [(&str, Refusal); 45] = [
@@ -87,13 +78,18 @@ const REFUSED_OPTIONS: [(&str, Refusal); 15] = [
     ("ZADD k 1 GT 2 a LT b", Refusal::BadScore),
 ];
 
+// Why a request is refused, or None where it is read.
+fn refusal_of(alloc: Global, text: &str) -> Result<Option<Refusal>, Fail> {
+    match Command::read(alloc, request(alloc, text)?) {
+        Ok(_) => Ok(None),
+        Err(refusal) => Ok(Some(refusal)),
+    }
+}
+
 #[test]
 fn refused_requests(rt: HostRuntime) -> Result<(), Fail> {
     for (text, refusal) in REFUSED.iter().chain(&REFUSED_OPTIONS) {
-        match Command::read(rt.alloc(), request(rt.alloc(), text)?) {
-            Ok(_) => assert!(rt; false, "{text} is read"),
-            Err(given) => assert_eq!(rt; given, *refusal, "at {text}"),
-        }
+        assert_eq!(rt; refusal_of(rt.alloc(), text)?, Some(*refusal), "at {text}");
     }
     Ok(())
 }
@@ -102,10 +98,10 @@ fn refused_requests(rt: HostRuntime) -> Result<(), Fail> {
 #[test]
 fn the_longest_name_is_unknown(rt: HostRuntime) -> Result<(), Fail> {
     let name = "P".repeat(rt.alloc(), 65_536)?;
-    match Command::read(rt.alloc(), request(rt.alloc(), name.as_str())?) {
-        Ok(_) => Err("it is read")?,
-        Err(given) => assert_eq!(rt; given, Refusal::UnknownCommand),
-    }
+    assert_eq!(rt;
+        refusal_of(rt.alloc(), &name)?,
+        Some(Refusal::UnknownCommand)
+    );
     Ok(())
 }
 
@@ -142,41 +138,24 @@ const READ: [(&str, Option<&str>, bool, bool); 19] = [
     ),
 ];
 
-// Reads a request: its key, whether it writes and creates, and its words are as wanted.
-fn expect_read<R: Abort>(
-    rt: &R,
+// Reads a request: whether it has this key, whether it writes and creates, and whether its words are kept.
+fn reading_of(
     alloc: Global,
     text: &str,
     key: Option<&str>,
-    writes: bool,
-    creates: bool,
-) -> Result<(), Fail> {
-    let command = match Command::read(alloc, request(alloc, text)?) {
-        Ok(command) => command,
-        Err(_) => Err("it is refused")?,
-    };
-    assert_eq!(rt;
-        command.key(),
-        key.map(|k| k.as_bytes()),
-        "the key of {text}"
-    );
-    assert_eq!(rt;
-        (command.writes(), command.creates()),
-        (writes, creates),
-        "at {text}"
-    );
+) -> Result<(bool, bool, bool, bool), Fail> {
+    let command = command(alloc, text)?;
     let words = request(alloc, text)?;
-    assert!(rt;
-        command.request().words() == words.words(),
-        "the words of {text}"
-    );
-    Ok(())
+    let has_key = command.key() == key.map(|k| k.as_bytes());
+    let has_words = command.request().words() == words.words();
+    Ok((has_key, command.writes(), command.creates(), has_words))
 }
 
 #[test]
 fn read_requests(rt: HostRuntime) -> Result<(), Fail> {
-    for (text, key, writes, creates) in READ {
-        expect_read(&rt, rt.alloc(), text, key, writes, creates)?;
+    for (text, key, writes, creates) in &READ {
+        let reading = reading_of(rt.alloc(), text, *key)?;
+        assert_eq!(rt; reading, (true, *writes, *creates, true), "at {text}");
     }
     Ok(())
 }
@@ -190,8 +169,8 @@ fn expect_shown<R: Abort>(rt: &R, alloc: Global, refusal: Refusal) -> Result<(),
 
 #[test]
 fn refusal_texts(rt: HostRuntime) -> Result<(), Fail> {
-    for (_, refusal) in REFUSED {
-        expect_shown(&rt, rt.alloc(), refusal)?;
+    for (_, refusal) in &REFUSED {
+        expect_shown(&rt, rt.alloc(), *refusal)?;
     }
     assert_eq!(rt; Refusal::OutOfStep.number(), 17);
     assert_eq!(rt; Refusal::NoMemory.text(), "ERR 1 out of memory");

@@ -31,28 +31,33 @@ const SCORES: [(&[u8], Option<i64>); 24] = [
 
 #[test]
 fn score_texts(rt: HostRuntime) {
-    for (text, score) in SCORES {
-        assert_eq!(rt; read_score(text), score);
+    for (text, score) in &SCORES {
+        assert_eq!(rt; read_score(text), *score);
     }
 }
 
+// Texts of integers and the numbers that they spell.
+const INTEGERS: [(&[u8], Option<i64>); 4] = [
+    (b"-12", Some(-12)),
+    (b"+9223372036854775807", Some(i64::MAX)),
+    (b"1.0", None),
+    (b"", None),
+];
+
 #[test]
 fn integer_texts(rt: HostRuntime) {
-    assert_eq!(rt; read_integer(b"-12"), Some(-12));
-    assert_eq!(rt; read_integer(b"+9223372036854775807"), Some(i64::MAX));
-    assert_eq!(rt; read_integer(b"1.0"), None);
-    assert_eq!(rt; read_integer(b""), None);
+    for (text, integer) in &INTEGERS {
+        assert_eq!(rt; read_integer(text), *integer);
+    }
 }
 
 #[test]
 fn long_texts(rt: HostRuntime) -> Result<(), Fail> {
     let mut text = vec![in rt.alloc(); b'0'; 1000]?;
-    text.push(b'7')?;
-    assert_eq!(rt; read_score(&text), Some(7));
-    text.push(b'.')?;
-    assert_eq!(rt; read_score(&text), None);
-    text.push(b'0')?;
-    assert_eq!(rt; read_score(&text), Some(7));
+    for (next, score) in [(b'7', Some(7)), (b'.', None), (b'0', Some(7))] {
+        text.push(next)?;
+        assert_eq!(rt; read_score(&text), score);
+    }
     Ok(())
 }
 
@@ -91,11 +96,14 @@ const BOUNDS: [(&[u8], Option<Bound>); 17] = [
 
 #[test]
 fn bound_texts(rt: HostRuntime) {
-    for (text, bound) in BOUNDS {
+    for (text, bound) in &BOUNDS {
         let both = bound.map(|end| Range { min: end, max: end });
-        assert_eq!(rt; Range::read(text, text), both);
-        assert_eq!(rt; Range::read(b"1", text).is_some(), bound.is_some());
-        assert_eq!(rt; Range::read(text, b"2").is_some(), bound.is_some());
+        let reads = (
+            Range::read(b"1", text).is_some(),
+            Range::read(text, b"2").is_some(),
+        );
+        let wanted = (both, (bound.is_some(), bound.is_some()));
+        assert_eq!(rt; (Range::read(text, text), reads), wanted);
     }
 }
 
@@ -154,17 +162,15 @@ const RANGES: [(&[u8], &[u8], i64, bool, (Cut, Cut)); 13] = [
 
 #[test]
 fn ranges(rt: HostRuntime) -> Result<(), Fail> {
-    for (min, max, score, is_in, cuts) in RANGES {
+    for (min, max, score, is_in, cuts) in &RANGES {
         let range = Range::read(min, max).ok_or("no range")?;
-        assert_eq!(rt; range.contains(score), is_in);
-        assert_eq!(rt; range.cuts(), cuts);
+        assert_eq!(rt; (range.contains(*score), range.cuts()), (*is_in, *cuts));
     }
     Ok(())
 }
 
 #[test]
 fn cuts_in_order(rt: HostRuntime) {
-    assert!(rt; Cut::Start < Cut::At(i64::MIN));
-    assert!(rt; Cut::At(-1) < Cut::At(0));
-    assert!(rt; Cut::At(i64::MAX) < Cut::End);
+    let are_ends_outside = Cut::Start < Cut::At(i64::MIN) && Cut::At(i64::MAX) < Cut::End;
+    assert!(rt; are_ends_outside && Cut::At(-1) < Cut::At(0));
 }

@@ -2,7 +2,7 @@
 
 ghost use Rattle.std.specs.Prelude.{◌≡◌, ◌≤◌, None};
 
-use crate::exchange::{Owner, command, owner_of, reply_text};
+use crate::exchange::{Owner, command, owner_of, refusal_text, reply_text};
 use append_log::{Log, LogSink, MemorySink};
 use set_table::{Cell, Shares};
 use std::alloc::Global;
@@ -29,7 +29,7 @@ fn answer_of<S: LogSink, L: Ledger, R: Wait>(
     }
     match cell.run(rt, &command, shares, log) {
         Ok(answer) => reply_text(alloc, &answer.into_reply()),
-        Err(refusal) => Ok(format!(in alloc; "r{}", refusal.number())?),
+        Err(refusal) => refusal_text(alloc, refusal),
     }
 }
 
@@ -59,9 +59,10 @@ fn by_the_wrong_shares<L: Ledger, R: Wait + AllocGlobal>(
     requires many { 4 ≤ blank.parts }
 {
     let alloc = rt.alloc();
+    let set = owner.empty_set()?;
     let mut log = Log::<_, L>::new(blank, MemorySink::new(alloc, 64), 1000);
     let share = log.split();
-    let mut cell = Cell::new(alloc, 0, owner.empty_set()?, 1000, 2, share)?;
+    let mut cell = Cell::new(alloc, 0, set, 1000, 2, share)?;
     let log = Mutex::new(log);
     answers_of_both(rt, alloc, &mut cell, &log)
 }
@@ -74,7 +75,6 @@ fn a_cell_refuses_shares_of_another_place(rt: HostRuntime) -> Result<(), Fail> {
         Blank::new(4),
         &owner_of(&rt, &[])?,
     )?;
-    assert_eq!(rt; refused.as_str(), "r17");
-    assert_eq!(rt; card.as_str(), ":0~");
+    assert!(rt; (refused.as_str(), card.as_str()) == ("r17", ":0~"));
     Ok(())
 }

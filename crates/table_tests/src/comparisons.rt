@@ -1,9 +1,10 @@
 //! How many names are compared with a key to find its place.
 
-ghost use Rattle.std.specs.Prelude.{◌≡◌, ◌≤◌, ◌+◌, None};
+ghost use Rattle.std.specs.Prelude.{◌≡◌, ◌≤◌, None};
 ghost use Rattle.set_table.specs.WorkerPasses.{IsPassOf};
 
-use crate::exchange::{Owner, Sets, Size, opened, owner_of};
+use crate::exchange::{Owner, owner_of};
+use crate::tables::{FOUR_PLACES, Plan, Sets, opened};
 use set_table::Pass;
 use std::alloc::Global;
 use std::marker::Brand;
@@ -20,11 +21,11 @@ fn users(alloc: Global, places: usize) -> Result<Vec<String>, Fail> {
 }
 
 // Gives each key a place, and tells how many got one.
-fn claim_all<L: Ledger>(table: &Sets<L>, pass: &mut Pass<Global>, keys: &[String]) -> usize
+fn claim_all<L: Ledger>(table: &Sets<L>, pass: &mut Pass<Global>, keys: &[String]) -> u64
     requires { IsPassOf table.now pass.old }
     ensures { IsPassOf table.now pass.new }
 {
-    let mut claimed = 0usize;
+    let mut claimed = 0u64;
     for key in keys {
         if table.claim(pass, key.as_bytes()).is_ok() {
             claimed = claimed.wrapping_add(1);
@@ -45,79 +46,72 @@ fn cost<L: Ledger>(table: &Sets<L>, pass: &mut Pass<Global>, keys: &[String]) ->
     Some(pass.compared().wrapping_sub(before))
 }
 
-// How many comparisons it takes in a full table to find all keys: for the pass that claimed their
-// places, for another pass, for which they are new, and for that pass once more; and to find that one
-// more key has no place.
-#[derive(Debug, Drop, PartialEq)]
-struct Comparisons {
-    claimed: usize,
-    by_claimer: Option<u64>,
-    by_stranger: Option<u64>,
-    once_more: Option<u64>,
-    in_vain: u64,
+// How many comparisons it takes to find that a key has no place.
+fn cost_in_vain<L: Ledger>(table: &Sets<L>, pass: &mut Pass<Global>, key: &[u8]) -> Option<u64>
+    requires { IsPassOf table.now pass.old }
+    ensures { IsPassOf table.now pass.new }
+{
+    let before = pass.compared();
+    match table.find(pass, key) {
+        Some(_) => None,
+        None => Some(pass.compared().wrapping_sub(before)),
+    }
 }
 
+// How many keys the first pass gives places to that fill the table, and how many comparisons it takes then to find
+// all of them: for that pass, for the second, for which they are new, and for that one once more; and to find that
+// one more key has no place.
+fn compared<L: Ledger>(
+    table: &Sets<L>,
+    first: &mut Pass<Global>,
+    second: &mut Pass<Global>,
+    keys: &[String],
+) -> [Option<u64>; 5]
+    requires first { IsPassOf table.now first.old }
+    requires second { IsPassOf table.now second.old }
+{
+    [
+        Some(claim_all(table, first, keys)),
+        cost(table, first, keys),
+        cost(table, second, keys),
+        cost(table, second, keys),
+        cost_in_vain(table, second, b"nobody"),
+    ]
+}
+
+// The same of a table of so many places.
 fn in_full_table<L: Ledger>(
     alloc: Global,
     blank: Blank,
     owner: Owner,
     places: usize,
-) -> Result<Comparisons, Fail>
+) -> Result<[Option<u64>; 5], Fail>
     requires idle { owner.next ≡ None }
     requires name { blank.name ≡ L.name }
     requires parts { blank.parts ≡ L.parts }
-    requires many { places + 2 ≤ blank.parts }
-    requires places { (1 ≤ places) × (places ≤ 4096) }
+    requires many { 4098 ≤ blank.parts }
 {
-    let size = Size {
+    let plan = Plan {
         places,
-        max_runs: 1,
+        ..FOUR_PLACES
     };
-    let (table, first, second) = opened::<L>(alloc, blank, owner, size)?;
-    let mut first = first;
-    let mut second = second;
     let keys = users(alloc, places)?;
-    let claimed = claim_all(&table, &mut first, &keys);
-    let by_claimer = cost(&table, &mut first, &keys);
-    let by_stranger = cost(&table, &mut second, &keys);
-    let once_more = cost(&table, &mut second, &keys);
-    let before = second.compared();
-    let _none = table.find(&mut second, b"nobody");
-    Ok(Comparisons {
-        claimed,
-        by_claimer,
-        by_stranger,
-        once_more,
-        in_vain: second.compared().wrapping_sub(before),
-    })
+    let (table, mut first, mut second) = opened::<L>(alloc, blank, owner, plan)?;
+    Ok(compared(&table, &mut first, &mut second, &keys))
 }
 
-#[test]
-fn everyday_keys_in_a_full_table(rt: HostRuntime) -> Result<(), Fail> {
-    let owner = owner_of(&rt, &[])?;
-    let told = in_full_table::<Brand>(rt.alloc(), Blank::new(1026), owner, 1024)?;
-    let wanted = Comparisons {
-        claimed: 1024,
-        by_claimer: Some(1024),
-        by_stranger: Some(1024),
-        once_more: Some(1024),
-        in_vain: 0,
-    };
-    assert_eq!(rt; told, wanted);
-    Ok(())
-}
+const FULL_TABLES: [(usize, [u64; 5]); 2] = [
+    (1024, [1024, 1024, 1024, 1024, 0]),
+    (4096, [4096, 4096, 4096, 4096, 0]),
+];
 
+// 4096 places are those of the greatest table.
 #[test]
-fn everyday_keys_in_the_greatest_table(rt: HostRuntime) -> Result<(), Fail> {
-    let owner = owner_of(&rt, &[])?;
-    let told = in_full_table::<Brand>(rt.alloc(), Blank::new(4098), owner, 4096)?;
-    let wanted = Comparisons {
-        claimed: 4096,
-        by_claimer: Some(4096),
-        by_stranger: Some(4096),
-        once_more: Some(4096),
-        in_vain: 0,
-    };
-    assert_eq!(rt; told, wanted);
+fn everyday_keys_in_full_tables(rt: HostRuntime) -> Result<(), Fail> {
+    for (places, wanted) in FULL_TABLES {
+        let owner = owner_of(&rt, &[])?;
+        let told = in_full_table::<Brand>(rt.alloc(), Blank::new(4098), owner, places)?;
+        assert_eq!(rt; told, wanted.map(Some), "of {places} places");
+    }
     Ok(())
 }

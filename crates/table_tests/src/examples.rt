@@ -1,130 +1,280 @@
 //! Worked examples on one thread: commands and the bytes of their replies.
 
-ghost use Rattle.std.specs.Prelude.{◌≤◌, ◌^◌};
-
-use crate::exchange::{Size, answers_of, owner_of};
-use std::marker::Brand;
-use std::process::Abort;
-use std::sync::Wait;
-use std::sync::ledger::Blank;
+use crate::tables::{DEFERRED, Example, FOUR_PLACES, Plan, SILENCE, Talk, expect_each};
 use std::test::*;
 
-/// A new table of four places answers commands as wanted. `locks` waits for the table's locks.
-pub fn expect_answers<R: Abort + Wait + AllocGlobal>(
-    rt: &HostRuntime,
-    locks: &R,
-    max_runs: u64,
-    texts: &[&str],
-    wanted: &str,
-) -> Result<(), Fail>
-    requires { (1 ≤ max_runs) × (max_runs ≤ 2 ^ 40) }
-{
-    let size = Size {
-        places: 4,
-        max_runs,
-    };
-    let owner = owner_of(rt, &[])?;
-    let replies = answers_of::<Brand, _>(locks, Blank::new(6), owner, size, texts)?;
-    assert_eq!(locks; replies.as_str(), wanted);
-    Ok(())
-}
-
-const CHANGED_TWICE: [&str; 3] = ["ZADD k CH 1 a 2 a", "ZCARD k", "ZSCORE k a"];
-
-// A member that is named twice is added once and then changed.
-#[test]
-fn a_member_named_twice(rt: HostRuntime) -> Result<(), Fail> {
-    expect_answers(&rt, &rt, 1000, &CHANGED_TWICE, ":2~ :1~ $1~2~ ")?;
-    expect_answers(&rt, &rt, 1000, &["ZADD k 1 a 2 a"], ":1~ ")
-}
-
-const SUMS: [&str; 7] = [
-    "ZADD k 1 a",
-    "ZADD k INCR 9223372036854775807 a",
-    "ZSCORE k a",
-    "ZADD k NX INCR 9223372036854775807 a",
-    "ZADD k XX INCR 5 b",
-    "ZADD k INCR 1.0 a",
-    "ZADD k XX CH 7 a 8 b",
+const EXAMPLES: [Example; 9] = [
+    (
+        "a member that is named twice is added once and then changed",
+        Talk {
+            first: &["ZADD k CH 1 a 2 a", "ZCARD k", "ZSCORE k a"],
+            ..SILENCE
+        },
+        ":2~ :1~ $1~2~ ",
+    ),
+    (
+        "a member that is named twice is told once without CH",
+        Talk {
+            first: &["ZADD k 1 a 2 a"],
+            ..SILENCE
+        },
+        ":1~ ",
+    ),
+    (
+        "a sum outside the scores is refused and leaves the set",
+        Talk {
+            first: &[
+                "ZADD k 1 a",
+                "ZADD k INCR 9223372036854775807 a",
+                "ZSCORE k a",
+                "ZADD k NX INCR 9223372036854775807 a",
+                "ZADD k XX INCR 5 b",
+                "ZADD k INCR 1.0 a",
+                "ZADD k XX CH 7 a 8 b",
+            ],
+            ..SILENCE
+        },
+        ":1~ r13 $1~1~ $-1~ $-1~ $1~2~ :1~ ",
+    ),
+    (
+        "the first reading of a range readies the set, the second finds it ready",
+        Talk {
+            first: &[
+                "ZADD k 1 a 2 b 3 c",
+                "ZRANGEBYSCORE k 2 +inf",
+                "ZRANGEBYSCORE k 2 +inf",
+                "ZREM k b x",
+                "ZRANGEBYSCORE k -inf +inf WITHSCORES",
+                "ZCOUNT k (1 3",
+            ],
+            ..SILENCE
+        },
+        ":3~ *2~$1~b~$1~c~ *2~$1~b~$1~c~ :1~ *4~$1~a~$1~1~$1~c~$1~3~ :1~ ",
+    ),
+    (
+        "a range is removed, and what it leaves is read",
+        Talk {
+            first: &[
+                "ZADD k 1 a 2 b 3 c",
+                "ZREMRANGEBYSCORE k (1 2",
+                "ZREMRANGEBYSCORE k (1 2",
+                "ZRANGEBYSCORE k -inf +inf",
+                "ZREMRANGEBYSCORE k -inf +inf",
+                "ZCARD k",
+                "ZREMRANGEBYSCORE j 1 2",
+            ],
+            ..SILENCE
+        },
+        ":3~ :1~ :0~ *2~$1~a~$1~c~ :2~ :0~ :0~ ",
+    ),
+    (
+        "commands that make no set get the reply of an empty one, and PING its own",
+        Talk {
+            first: &[
+                "PING",
+                "PING hi",
+                "ZCARD k",
+                "ZADD k XX 1 a",
+                "ZRANGEBYSCORE k 0 1",
+                "ZREM k a",
+                "ZSCORE k a",
+            ],
+            ..SILENCE
+        },
+        "+PONG~ $2~hi~ :0~ :0~ *0~ :0~ $-1~ ",
+    ),
+    (
+        "a place that answered as many runs as it may still answers under the shared lock",
+        Talk {
+            plan: Plan {
+                max_runs: 2,
+                ..FOUR_PLACES
+            },
+            first: &["ZADD k 1 a", "ZADD k 1 a", "ZADD k 2 b", "ZCARD k"],
+            ..SILENCE
+        },
+        ":1~ :0~ r12 :1~ ",
+    ),
+    (
+        "ranges that a spent place is ready for are read, others refused",
+        Talk {
+            plan: Plan {
+                max_runs: 2,
+                ..FOUR_PLACES
+            },
+            first: &[
+                "ZADD k 1 a 5 b",
+                "ZCOUNT k 3 6",
+                "ZCOUNT k 3 6",
+                "ZCOUNT k 6 3",
+                "ZCOUNT k 4 6",
+                "ZCOUNT k -inf +inf",
+            ],
+            ..SILENCE
+        },
+        ":2~ :1~ :1~ :0~ r12 r12 ",
+    ),
+    (
+        "windows are listed by LIMIT",
+        Talk {
+            first: &[
+                "ZADD k 1 a 2 b 3 c 4 d",
+                "ZRANGEBYSCORE k -inf +inf LIMIT 1 2",
+                "ZRANGEBYSCORE k -inf +inf LIMIT 1 2",
+                "ZRANGEBYSCORE k 2 +inf LIMIT 0 1",
+                "ZRANGEBYSCORE k 2 +inf WITHSCORES LIMIT 2 -1",
+                "ZRANGEBYSCORE k -inf (4 LIMIT 3 1",
+                "ZRANGEBYSCORE k -inf +inf LIMIT -1 2",
+                "ZRANGEBYSCORE j -inf +inf LIMIT 0 2",
+            ],
+            ..SILENCE
+        },
+        ":4~ *2~$1~b~$1~c~ *2~$1~b~$1~c~ *1~$1~b~ *2~$1~d~$1~4~ *0~ *0~ *0~ ",
+    ),
 ];
 
-// A sum outside the scores is refused and leaves the set.
-#[test]
-fn sums_of_scores(rt: HostRuntime) -> Result<(), Fail> {
-    let wanted = ":1~ r13 $1~1~ $-1~ $-1~ $1~2~ :1~ ";
-    expect_answers(&rt, &rt, 1000, &SUMS, wanted)
-}
-
-const RANGES_AND_REMOVALS: [&str; 6] = [
-    "ZADD k 1 a 2 b 3 c",
-    "ZRANGEBYSCORE k 2 +inf",
-    "ZRANGEBYSCORE k 2 +inf",
-    "ZREM k b x",
-    "ZRANGEBYSCORE k -inf +inf WITHSCORES",
-    "ZCOUNT k (1 3",
+// Places of keys, and commands then.
+const PLACES: [Example; 5] = [
+    (
+        "the walk of c begins at the place of a, and b finds none left",
+        Talk {
+            plan: Plan {
+                places: 2,
+                ..FOUR_PLACES
+            },
+            first: &[
+                "claim a",
+                "claim c",
+                "claim a",
+                "find b",
+                "ZADD b 1 x",
+                "ZADD b XX 1 x",
+                "ZCARD b",
+            ],
+            second: &["find a"],
+            ..SILENCE
+        },
+        "0 1 0 none r11 :0~ :0~ 0 ",
+    ),
+    (
+        "the walks of both begin at place 3, which the first by its bytes has",
+        Talk {
+            sets: &["ZADD Aa 1 x", "ZADD BB 1 y"],
+            first: &["find Aa", "find BB"],
+            ..SILENCE
+        },
+        "3 0 ",
+    ),
+    (
+        "whichever came first",
+        Talk {
+            sets: &["ZADD BB 1 y", "ZADD Aa 1 x"],
+            first: &["find Aa", "find BB"],
+            ..SILENCE
+        },
+        "3 0 ",
+    ),
+    (
+        "three keys of one hash and a fourth are told apart",
+        Talk {
+            first: &[
+                "claim Aa",
+                "claim BB",
+                "claim C#",
+                "claim a",
+                "ZADD b 1 x",
+                "ZCARD b",
+                "ZADD BB 1 x",
+                "ZCARD Aa",
+                "ZCARD C#",
+            ],
+            ..SILENCE
+        },
+        "3 0 1 2 r11 :0~ :1~ :0~ :0~ ",
+    ),
+    (
+        "each set is opened at its own key's place",
+        Talk {
+            sets: &["ZADD a 1 x", "ZADD b 2 y"],
+            first: &["ZSCORE a x", "ZSCORE b y"],
+            ..SILENCE
+        },
+        "$1~1~ $1~2~ ",
+    ),
 ];
 
-// The first reading of a range readies the set, the second finds it ready.
 #[test]
-fn ranges_and_removals(rt: HostRuntime) -> Result<(), Fail> {
-    let wanted = ":3~ *2~$1~b~$1~c~ *2~$1~b~$1~c~ :1~ *4~$1~a~$1~1~$1~c~$1~3~ :1~ ";
-    expect_answers(&rt, &rt, 1000, &RANGES_AND_REMOVALS, wanted)
+fn keys_find_their_places(rt: HostRuntime) -> Result<(), Fail> {
+    expect_each(&rt, &rt, &PLACES)
 }
 
-const REMOVED_RANGES: [&str; 7] = [
-    "ZADD k 1 a 2 b 3 c",
-    "ZREMRANGEBYSCORE k (1 2",
-    "ZREMRANGEBYSCORE k (1 2",
-    "ZRANGEBYSCORE k -inf +inf",
-    "ZREMRANGEBYSCORE k -inf +inf",
-    "ZCARD k",
-    "ZREMRANGEBYSCORE j 1 2",
+// What an answer tells beside its reply: its place, the counts that the command found there, and how many members came
+// in and left by it.
+const COUNTS: [Example; 2] = [
+    (
+        "of two pairs that name one member, the first adds it and the second changes it",
+        Talk {
+            first: &["counts ZADD k 1 a 2 a"],
+            ..SILENCE
+        },
+        ":1~@0:0+0-0:+1-0 ",
+    ),
+    (
+        "the set had one member at opening",
+        Talk {
+            sets: &["ZADD k 9 z"],
+            first: &[
+                "counts ZADD k 1 a 2 a",
+                "counts ZADD k CH 3 b 4 z",
+                "counts ZADD k INCR 1 c",
+                "counts ZREM k a z x",
+                "counts ZCARD k",
+                "counts ZCOUNT k 2 9",
+                "counts ZREMRANGEBYSCORE k 2 9",
+                "counts ZSCORE k c",
+            ],
+            ..SILENCE
+        },
+        ":1~@0:1+0-0:+1-0 :2~@0:1+1-0:+1-0 $1~1~@0:1+2-0:+1-0 :2~@0:1+3-0:+0-2 :2~@0:1+3-2:+0-0 :1~@0:1+3-2:+0-0 :1~@0:1+3-2:+0-1 $1~1~@0:1+3-3:+0-0 ",
+    ),
 ];
 
-// A range is removed, and what it leaves is read.
 #[test]
-fn removed_ranges(rt: HostRuntime) -> Result<(), Fail> {
-    let wanted = ":3~ :1~ :0~ *2~$1~a~$1~c~ :2~ :0~ :0~ ";
-    expect_answers(&rt, &rt, 1000, &REMOVED_RANGES, wanted)
+fn counts_are_told(rt: HostRuntime) -> Result<(), Fail> {
+    expect_each(&rt, &rt, &COUNTS)
 }
 
-const WITHOUT_A_PLACE: [&str; 7] = [
-    "PING",
-    "PING hi",
-    "ZCARD k",
-    "ZADD k XX 1 a",
-    "ZRANGEBYSCORE k 0 1",
-    "ZREM k a",
-    "ZSCORE k a",
-];
+// Which records answers may tell of.
+const RECORDS: [Example; 1] = [(
+    "an answer tells of its set's last change, whoever made it: one that changes nothing too, and a refusal",
+    Talk {
+        plan: DEFERRED,
+        sets: &["ZADD i 3 z"],
+        first: &[
+            "record ZADD k 1 a",
+            "record ZADD j 1 a",
+            "record ZCARD k",
+            "record ZADD k 1 a",
+            "record PING",
+            "record ZCARD nothing",
+        ],
+        second: &[
+            "record ZRANGEBYSCORE j 0 5",
+            "record ZADD k INCR 9223372036854775807 a",
+            "record ZREM k a",
+            "record ZSCORE k a",
+            "record ZCARD i",
+        ],
+    },
+    ":1~1 :1~2 :1~1 :0~1 +PONG~0 :0~0 *1~$1~a~2 r131 :1~3 $-1~3 :1~0 ",
+)];
 
-// Commands that make no set get the reply of an empty one, and PING its own.
 #[test]
-fn commands_without_a_place(rt: HostRuntime) -> Result<(), Fail> {
-    let wanted = "+PONG~ $2~hi~ :0~ :0~ *0~ :0~ $-1~ ";
-    expect_answers(&rt, &rt, 1000, &WITHOUT_A_PLACE, wanted)
+fn an_answer_tells_of_the_last_record_of_its_set(rt: HostRuntime) -> Result<(), Fail> {
+    expect_each(&rt, &rt, &RECORDS)
 }
 
-const SPENT: [&str; 4] = ["ZADD k 1 a", "ZADD k 1 a", "ZADD k 2 b", "ZCARD k"];
-
-// A place that answered as many runs as it may still answers under the shared lock.
 #[test]
-fn a_spent_place_is_read(rt: HostRuntime) -> Result<(), Fail> {
-    expect_answers(&rt, &rt, 2, &SPENT, ":1~ :0~ r12 :1~ ")
-}
-
-const SPENT_AND_COUNTED: [&str; 6] = [
-    "ZADD k 1 a 5 b",
-    "ZCOUNT k 3 6",
-    "ZCOUNT k 3 6",
-    "ZCOUNT k 6 3",
-    "ZCOUNT k 4 6",
-    "ZCOUNT k -inf +inf",
-];
-
-// Ranges that the set is ready for are read, those that it would have to be made ready for refused.
-#[test]
-fn a_spent_place_is_not_made_ready(rt: HostRuntime) -> Result<(), Fail> {
-    let wanted = ":2~ :1~ :1~ :0~ r12 r12 ";
-    expect_answers(&rt, &rt, 2, &SPENT_AND_COUNTED, wanted)
+fn examples_are_answered(rt: HostRuntime) -> Result<(), Fail> {
+    expect_each(&rt, &rt, &EXAMPLES)
 }

@@ -17,13 +17,11 @@ mod gate_places;
 #[cfg(test)]
 mod gates;
 #[cfg(test)]
-mod hardship;
-#[cfg(test)]
 mod last_run;
 #[cfg(test)]
 mod long_words;
 #[cfg(test)]
-mod places;
+mod opening;
 #[cfg(test)]
 mod runs;
 #[cfg(test)]
@@ -31,10 +29,12 @@ mod settled;
 #[cfg(test)]
 mod sink_sweeps;
 #[cfg(test)]
-mod told_counts;
+mod tables;
 #[cfg(test)]
 mod two_adders;
 #[cfg(test)]
 mod two_workers;
 #[cfg(test)]
 mod windows;
+#[cfg(test)]
+mod workers;

@@ -1,63 +1,54 @@
 //! Long keys, and commands of as many words as there may be, through a table.
 
-ghost use Rattle.std.specs.Prelude.{◌≡◌, ◌≤◌, None};
-
-use crate::closing::closed;
-use crate::exchange::{Owner, Size, answers, opened, owner_of};
-use set_table::Totals;
+use crate::tables::{FOUR_PLACES, day_of_texts};
 use std::alloc::Global;
-use std::marker::Brand;
 use std::sync::Wait;
-use std::sync::ledger::{Blank, Ledger};
 use std::test::*;
 
-// What two passes of a table are told, one after the other, and its totals.
-fn told_to_both<L: Ledger, R: Wait + AllocGlobal>(
-    rt: &R,
-    blank: Blank,
-    owner: Owner,
-    first_texts: &[&str],
-    second_texts: &[&str],
-) -> Result<(String, Totals), Fail>
-    requires idle { owner.next ≡ None }
-    requires name { blank.name ≡ L.name }
-    requires parts { blank.parts ≡ L.parts }
-    requires many { 6 ≤ blank.parts }
-{
-    let size = Size {
-        places: 4,
-        max_runs: 1000,
-    };
-    let alloc = rt.alloc();
-    let (table, first, second) = opened::<L>(alloc, blank, owner, size)?;
-    let mut first = first;
-    let mut second = second;
-    let mut told = answers(rt, alloc, &table, &mut first, first_texts)?;
-    told.push_str(answers(rt, alloc, &table, &mut second, second_texts)?.as_str())?;
-    let (totals, _sink) = closed(alloc, table, first, second)?;
-    Ok((told, totals))
+// Commands with a long word in the place of each `_`.
+fn with_word(alloc: Global, texts: &[&str], word: &str) -> Result<Vec<String>, Fail> {
+    let mut long = Vec::new(alloc);
+    for text in texts {
+        long.push(text.replace(alloc, "_", word)?)?;
+    }
+    Ok(long)
 }
 
-// What is told of two keys of so many bytes that differ in the last one. `locks` waits for the table's
-// locks.
+// Texts as a talk has them.
+fn borrowed(alloc: Global, texts: &[String]) -> Result<Vec<&str>, Fail> {
+    let mut borrowed = Vec::new(alloc);
+    for text in texts {
+        borrowed.push(text.as_str())?;
+    }
+    Ok(borrowed)
+}
+
+// What two workers are told, one after the other. `locks` waits for the table's locks.
+fn told_of<R: Wait + AllocGlobal>(
+    rt: &HostRuntime,
+    locks: &R,
+    first: &[String],
+    second: &[String],
+) -> Result<String, Fail> {
+    let first = borrowed(rt.alloc(), first)?;
+    let second = borrowed(rt.alloc(), second)?;
+    Ok(day_of_texts(rt, locks, FOUR_PLACES, &first, &second)?.told)
+}
+
+const ADDITIONS: [&str; 2] = ["ZADD _a 1 x 2 y", "ZADD _b 3 z"];
+
+const READINGS: [&str; 3] = ["ZCARD _a", "ZCOUNT _a 2 9", "ZSCORE _b z"];
+
+// What is told of two keys of so many bytes that differ in the last one.
 fn told_of_long_keys<R: Wait + AllocGlobal>(
     rt: &HostRuntime,
     locks: &R,
     bytes: usize,
 ) -> Result<String, Fail> {
-    let alloc = rt.alloc();
-    let start = "k".repeat(alloc, bytes.wrapping_sub(1))?;
-    let first_addition = format!(in alloc; "ZADD {start}a 1 x 2 y")?;
-    let second_addition = format!(in alloc; "ZADD {start}b 3 z")?;
-    let card = format!(in alloc; "ZCARD {start}a")?;
-    let count = format!(in alloc; "ZCOUNT {start}a 2 9")?;
-    let score = format!(in alloc; "ZSCORE {start}b z")?;
-    let additions = [first_addition.as_str(), second_addition.as_str()];
-    let readings = [card.as_str(), count.as_str(), score.as_str()];
-    let owner = owner_of(rt, &[])?;
-    let blank = Blank::new(6);
-    let (told, _totals) = told_to_both::<Brand, _>(locks, blank, owner, &additions, &readings)?;
-    Ok(told)
+    let start = "k".repeat(rt.alloc(), bytes.wrapping_sub(1))?;
+    let additions = with_word(rt.alloc(), &ADDITIONS, &start)?;
+    let readings = with_word(rt.alloc(), &READINGS, &start)?;
+    told_of(rt, locks, &additions, &readings)
 }
 
 // The longest key has as many bytes as a word may have.
@@ -94,10 +85,9 @@ fn the_longest_commands_are_answered(rt: HostRuntime) -> Result<(), Fail> {
     let removal = longest_removal(rt.alloc())?;
     let changes = [addition.as_str(), "ZCARD k"];
     let removals = [removal.as_str(), "ZCARD k"];
-    let owner = owner_of(&rt, &[])?;
-    let blank = Blank::new(6);
-    let (told, totals) = told_to_both::<Brand, _>(&rt, blank, owner, &changes, &removals)?;
-    assert_eq!(rt; told.as_str(), ":512~ :512~ :512~ :0~ ");
-    assert!(rt; totals.added == 512 && totals.removed == 512 && totals.records == 2);
+    let day = day_of_texts(&rt, &rt, FOUR_PLACES, &changes, &removals)?;
+    assert_eq!(rt; day.told.as_str(), ":512~ :512~ :512~ :0~ ");
+    let totals = day.closed.totals;
+    assert!(rt; (totals.added, totals.removed, totals.records) == (512, 512, 2));
     Ok(())
 }

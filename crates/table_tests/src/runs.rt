@@ -3,7 +3,8 @@
 ghost use Rattle.std.specs.Prelude.{◌≡◌, ◌≤◌, None};
 ghost use Rattle.set_table.specs.WorkerPasses.{IsPassOf};
 
-use crate::exchange::{Owner, Sets, Size, answers, command, opened, owner_of};
+use crate::exchange::{Owner, answers, command, owner_of};
+use crate::tables::{FOUR_PLACES, Plan, Sets, opened};
 use set_table::{NoGate, Pass};
 use std::alloc::Global;
 use std::marker::Brand;
@@ -31,8 +32,28 @@ fn answered<L: Ledger, R: Wait>(
     times
 }
 
-// How often a table of such places answers a change of a set, for which two workers ask, and what it answers
-// to the next one there, to a reading of it and to a change of another set.
+// How often two workers together are answered a change of a set, the first up to half so many times, the second up to its
+// first refusal; and what the first is answered to the next one there, to a reading of it and to a change of another set.
+fn answered_to_both<L: Ledger, R: Wait>(
+    rt: &R,
+    alloc: Global,
+    table: &Sets<L>,
+    first: &mut Pass<Global>,
+    second: &mut Pass<Global>,
+    times: u64,
+) -> Result<(u64, String), Fail>
+    requires first { IsPassOf table.now first.old }
+    requires second { IsPassOf table.now second.old }
+{
+    let addition = command(alloc, "ZADD k 1 a")?;
+    let by_first = answered(rt, table, first, &addition, times / 2);
+    let by_second = answered(rt, table, second, &addition, times.wrapping_add(1));
+    let texts = ["ZADD k 2 b", "ZCARD k", "ZADD j 1 x"];
+    let told = answers(rt, alloc, table, first, &texts, &NoGate)?;
+    Ok((by_first.wrapping_add(by_second), told))
+}
+
+// The same of a table of such places.
 fn at_the_end<L: Ledger, R: Wait + AllocGlobal>(
     rt: &R,
     blank: Blank,
@@ -42,25 +63,15 @@ fn at_the_end<L: Ledger, R: Wait + AllocGlobal>(
     requires idle { owner.next ≡ None }
     requires name { blank.name ≡ L.name }
     requires parts { blank.parts ≡ L.parts }
-    requires many { 6 ≤ blank.parts }
+    requires many { 4098 ≤ blank.parts }
 {
-    if max_runs == 0 || max_runs > 1_000_000 {
-        return Err("no such table")?;
-    }
-    let size = Size {
-        places: 4,
+    let plan = Plan {
         max_runs,
+        ..FOUR_PLACES
     };
     let alloc = rt.alloc();
-    let (table, first, second) = opened::<L>(alloc, blank, owner, size)?;
-    let mut first = first;
-    let mut second = second;
-    let addition = command(alloc, "ZADD k 1 a")?;
-    let by_first = answered(rt, &table, &mut first, &addition, max_runs / 2);
-    let by_second = answered(rt, &table, &mut second, &addition, max_runs.wrapping_add(1));
-    let texts = ["ZADD k 2 b", "ZCARD k", "ZADD j 1 x"];
-    let told = answers(rt, alloc, &table, &mut first, &texts)?;
-    Ok((by_first.wrapping_add(by_second), told))
+    let (table, mut first, mut second) = opened::<L>(alloc, blank, owner, plan)?;
+    answered_to_both(rt, alloc, &table, &mut first, &mut second, max_runs)
 }
 
 // The changes of both are counted at the place together, and not one more is answered.
@@ -68,9 +79,8 @@ fn at_the_end<L: Ledger, R: Wait + AllocGlobal>(
 fn a_place_answers_as_many_runs_as_it_may(rt: HostRuntime) -> Result<(), Fail> {
     for max_runs in [1, 2, 3, 300, 70_000] {
         let owner = owner_of(&rt, &[])?;
-        let (runs, told) = at_the_end::<Brand, _>(&rt, Blank::new(6), owner, max_runs)?;
-        assert_eq!(rt; runs, max_runs);
-        assert_eq!(rt; told.as_str(), "r12 :1~ :1~ ");
+        let (runs, told) = at_the_end::<Brand, _>(&rt, Blank::new(4098), owner, max_runs)?;
+        assert!(rt; (runs, told.as_str()) == (max_runs, "r12 :1~ :1~ "));
     }
     Ok(())
 }

@@ -1,75 +1,15 @@
 //! A table's log over a sink each of whose calls fails once.
 
-ghost use Rattle.std.specs.Prelude.{◌≡◌, ◌≤◌, None, IfOk};
-ghost use Rattle.set_table.specs.WorkerPasses.{IsPassOf};
+ghost use Rattle.std.specs.Prelude.{◌≡◌, None};
 
-use crate::exchange::{Owner, answers, command, owner_of, pair, reply_text};
-use append_log::{FuseSink, Log, MemorySink, reload};
+use crate::exchange::{Owner, command, owner_of, reply_text};
+use crate::tables::{Closed, Day, FOUR_PLACES, Plan, SILENCE, Talk, day_of};
+use append_log::reload;
 use resp_wire::MemorySource;
-use set_table::{Pass, Table, Totals};
+use set_table::Totals;
 use std::alloc::Global;
-use std::hash::RandomState;
-use std::marker::Brand;
 use std::sync::Wait;
-use std::sync::ledger::{Blank, Ledger};
 use std::test::*;
-use zset_core::OneOwner;
-
-type Sink = FuseSink<MemorySink<Global>>;
-
-type Failing<L> = Table<RandomState, Sink, L, Global>;
-
-/// How many bytes a call of the sink takes at most, and which call fails.
-#[derive(Clone, Copy)]
-struct Device {
-    chunk: usize,
-    fails_at: u64,
-}
-
-/// A table of four places whose log writes to such a sink, with two passes.
-fn opened_over<L: Ledger>(
-    alloc: Global,
-    blank: Blank,
-    owner: Owner,
-    device: Device,
-) -> Result<(Failing<L>, Pass<Global>, Pass<Global>), Fail>
-    requires idle { owner.next ≡ None }
-    requires name { blank.name ≡ L.name }
-    requires parts { blank.parts ≡ L.parts }
-    requires many { 6 ≤ blank.parts }
-    requires some { 1 ≤ device.chunk }
-    ensures first { IfOk result (λ opened. IsPassOf opened.0 opened.1) }
-    ensures second { IfOk result (λ opened. IsPassOf opened.0 opened.2) }
-{
-    let sink = FuseSink::new(MemorySink::new(alloc, device.chunk), device.fails_at);
-    let log = Log::<_, L>::new(blank, sink, 1000);
-    match Table::open(alloc, owner, log, 4, 2, 1000) {
-        Ok((table, passes)) => {
-            let (first, second) = pair(passes)?;
-            Ok((table, first, second))
-        }
-        Err(_) => Err("not opened")?,
-    }
-}
-
-/// What a table tells to its passes, and its log.
-fn closed_with_log<L: Ledger>(
-    alloc: Global,
-    table: Failing<L>,
-    first: Pass<Global>,
-    second: Pass<Global>,
-) -> Result<(Totals, Log<Sink, L>), Fail>
-    requires first { IsPassOf table first }
-    requires second { IsPassOf table second }
-{
-    let mut passes = Vec::new(alloc);
-    passes.push(second)?;
-    passes.push(first)?;
-    match table.close(passes) {
-        Ok(closed) => Ok(closed),
-        Err(_) => Err("not closed")?,
-    }
-}
 
 /// The set that a table is opened with.
 const OPENED: [&str; 1] = ["ZADD i 3 z"];
@@ -92,46 +32,6 @@ const LISTINGS: [&str; 3] = [
     "ZRANGEBYSCORE j -inf +inf WITHSCORES",
     "ZRANGEBYSCORE k -inf +inf WITHSCORES",
 ];
-
-/// What the commands came to.
-#[derive(Drop)]
-struct Ran {
-    /// The replies, a space behind each.
-    replies: String,
-    totals: Totals,
-    is_broken: bool,
-    sink: Sink,
-}
-
-/// The first pass changes the sets, the second lists them.
-fn run_over<L: Ledger, R: Wait + AllocGlobal>(
-    rt: &R,
-    blank: Blank,
-    owner: Owner,
-    device: Device,
-) -> Result<Ran, Fail>
-    requires idle { owner.next ≡ None }
-    requires name { blank.name ≡ L.name }
-    requires parts { blank.parts ≡ L.parts }
-    requires many { 6 ≤ blank.parts }
-    requires some { 1 ≤ device.chunk }
-{
-    let alloc = rt.alloc();
-    let (table, first, second) = opened_over::<L>(alloc, blank, owner, device)?;
-    let mut first = first;
-    let mut second = second;
-    let mut replies = answers(rt, alloc, &table, &mut first, &CHANGES)?;
-    let listed = answers(rt, alloc, &table, &mut second, &LISTINGS)?;
-    replies.push_str(listed.as_str())?;
-    let (totals, log) = closed_with_log(alloc, table, first, second)?;
-    let is_broken = log.is_broken();
-    Ok(Ran {
-        replies,
-        totals,
-        is_broken,
-        sink: log.into_sink(),
-    })
-}
 
 /// The reply of an owner to a command that it does not refuse.
 fn reply_of(alloc: Global, owner: &mut Owner, text: &str) -> Result<String, Fail>
@@ -158,25 +58,30 @@ fn are_of_the_accepted(rt: &HostRuntime, replies: &str) -> Result<bool, Fail> {
     Ok(true)
 }
 
+/// How many sets are not empty, how many members there are, and how many were added and removed, once so many of the
+/// changes were accepted.
+const COUNTS: [(u128, u128, u128, u128); 8] = [
+    (1, 1, 0, 0),
+    (2, 3, 2, 0),
+    (2, 2, 2, 1),
+    (3, 3, 3, 1),
+    (3, 3, 3, 1),
+    (3, 4, 4, 1),
+    (2, 3, 4, 2),
+    (2, 2, 4, 3),
+];
+
 /// What a table tells that has accepted so many of the changes.
-fn totals_after(records: u128) -> Totals {
-    let (sets, members, added, removed) = match records {
-        0 => (1, 1, 0, 0),
-        1 => (2, 3, 2, 0),
-        2 => (2, 2, 2, 1),
-        3 | 4 => (3, 3, 3, 1),
-        5 => (3, 4, 4, 1),
-        6 => (2, 3, 4, 2),
-        _ => (2, 2, 4, 3),
-    };
-    Totals {
+fn totals_after(records: u128) -> Option<Totals> {
+    let (sets, members, added, removed) = COUNTS.get(usize::try_from(records).ok()?).copied()?;
+    Some(Totals {
         sets,
         members,
         opened: 1,
         added,
         removed,
         records,
-    }
+    })
 }
 
 /// How many whole records a sink's bytes hold.
@@ -190,17 +95,42 @@ fn records_in(rt: &HostRuntime, bytes: &[u8]) -> Result<u64, Fail> {
     }
 }
 
-/// Whether replies, totals and records are those of the accepted commands. Of the change that was refused the
-/// record may stand there whole.
-fn is_as_accepted(rt: &HostRuntime, ran: Ran) -> Result<bool, Fail> {
-    let accepted = ran.totals.records;
-    if ran.totals != totals_after(accepted) || !are_of_the_accepted(rt, ran.replies.as_str())? {
+/// Whether totals and records are those of the accepted commands. Of the change that was refused the record may stand
+/// there whole.
+fn adds_up(rt: &HostRuntime, closed: Closed) -> Result<bool, Fail> {
+    let accepted = closed.totals.records;
+    if Some(closed.totals) != totals_after(accepted) {
         return Ok(false);
     }
-    let sink = ran.sink.into_inner();
+    let sink = closed.sink.into_inner();
     let records = u128::from(records_in(rt, sink.bytes())?);
     let more = records.checked_sub(accepted);
-    Ok(more == Some(0) || ran.is_broken && more == Some(1))
+    Ok(more == Some(0) || closed.is_broken && more == Some(1))
+}
+
+/// Whether replies, totals and records are those of the accepted commands.
+fn is_as_accepted(rt: &HostRuntime, day: Day) -> Result<bool, Fail> {
+    Ok(are_of_the_accepted(rt, day.told.as_str())? && adds_up(rt, day.closed)?)
+}
+
+/// A day on which the first worker changes the sets and the second lists them, and a call of the sink fails.
+fn failing_day<R: Wait + AllocGlobal>(
+    rt: &HostRuntime,
+    locks: &R,
+    chunk: usize,
+    fails_at: u64,
+) -> Result<Day, Fail> {
+    let talk = Talk {
+        plan: Plan {
+            chunk,
+            fails_at,
+            ..FOUR_PLACES
+        },
+        sets: &OPENED,
+        first: &CHANGES,
+        second: &LISTINGS,
+    };
+    day_of(rt, locks, &talk)
 }
 
 /// How many calls of the sink failed, one in each run, until a run had none that did. A log asks its sink nothing
@@ -209,15 +139,12 @@ fn failing_calls<R: Wait + AllocGlobal>(
     rt: &HostRuntime,
     locks: &R,
     chunk: usize,
-) -> Result<u64, Fail>
-    requires { 1 ≤ chunk }
-{
+) -> Result<u64, Fail> {
     for fails_at in 1..1000u64 {
-        let owner = owner_of(rt, &OPENED)?;
-        let ran = run_over::<Brand, _>(locks, Blank::new(6), owner, Device { chunk, fails_at })?;
-        let is_broken = ran.is_broken;
-        let has_asked_more = is_broken && ran.sink.calls() != fails_at;
-        if has_asked_more || !is_as_accepted(rt, ran)? {
+        let day = failing_day(rt, locks, chunk, fails_at)?;
+        let is_broken = day.closed.is_broken;
+        let has_asked_more = is_broken && day.closed.sink.calls() != fails_at;
+        if has_asked_more || !is_as_accepted(rt, day)? {
             return Err("not as the accepted commands")?;
         }
         if !is_broken {
@@ -233,5 +160,32 @@ fn each_failing_call_leaves_the_accepted_commands(rt: HostRuntime) -> Result<(),
     for (chunk, calls) in [(1usize, 270u64), (3, 97), (7, 47)] {
         assert_eq!(rt; failing_calls(&rt, &rt, chunk)?, calls);
     }
+    Ok(())
+}
+
+const BROKEN_AT_ONCE: Talk<'static> = Talk {
+    plan: Plan {
+        chunk: 64,
+        fails_at: 1,
+        ..FOUR_PLACES
+    },
+    first: &["ZADD a 1 x", "ZADD b 1 x", "ZADD b XX 1 x", "ZCARD a"],
+    ..SILENCE
+};
+
+const NOTHING: Totals = Totals {
+    sets: 0,
+    members: 0,
+    opened: 0,
+    added: 0,
+    removed: 0,
+    records: 0,
+};
+
+#[test]
+fn a_failing_log_leaves_the_totals(rt: HostRuntime) -> Result<(), Fail> {
+    let day = day_of(&rt, &rt, &BROKEN_AT_ONCE)?;
+    assert_eq!(rt; day.told.as_str(), "r16 r14 :0~ :0~ ");
+    assert!(rt; (day.closed.totals, day.closed.is_broken) == (NOTHING, true));
     Ok(())
 }

@@ -1,4 +1,4 @@
 use Rattle.table_tests.proofs.two_adders.expect_next_day.Given as goal
 
-abbrev pub ghosts-next_day : goal.ghosts-next_day
-ghosts-next_day g a = record { name = a.blank.name; parts = a.blank.parts }
+abbrev pub ghosts-day_with : goal.ghosts-day_with
+ghosts-day_with g a = record { name = a.blank.name; parts = a.blank.parts }

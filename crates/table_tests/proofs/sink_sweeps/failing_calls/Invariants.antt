@@ -1,4 +1,0 @@
-use Rattle.table_tests.proofs.sink_sweeps.failing_calls.Given as goal
-
-abbrev pub ghosts-run_over : goal.ghosts-run_over
-ghosts-run_over g a = record { name = a.blank.name; parts = a.blank.parts }

@@ -1,5 +1,0 @@
-use Rattle.set_table.specs.WorkerPasses.{IsPassOf}
-use Rattle.table_tests.proofs.told_counts.are_told.Given as goal
-
-abbrev pub invariant-loop-text : goal.invariant-loop-text
-invariant-loop-text g l = IsPassOf l.table l.pass

@@ -1,5 +1,0 @@
-use Rattle.set_table.specs.WorkerPasses.{IsPassOf}
-use Rattle.table_tests.proofs.two_adders.add_each.Given as goal
-
-abbrev pub invariant-loop-command : goal.invariant-loop-command
-invariant-loop-command g l = IsPassOf l.table l.pass
