@@ -54,6 +54,11 @@ module _ {V : Type 0} where
       let (before, at_before, had_become) = was place middle at_middle in
       (before, at_before, joined before middle value had_become became)
 
+  pub was_so : (first second : V → V → Type 0) → ((before after : V) → first before after → second before after) → (old new : List (Option V)) → EachWas first old new → EachWas second old new
+  was_so first second follows old new was place value at =
+      let (before, at_before, became) = was place value at in
+      (before, at_before, follows before value became)
+
   pub each_now : (was : V → Type 0) (is : V → Type 0) (became : V → V → Type 0) → ((before value : V) → became before value → was before → is value)
       → (old new : List (Option V)) → EachWas became old new → Each was old → Each is new
   each_now was is became follows old new each all place value at =

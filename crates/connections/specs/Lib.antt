@@ -1,2 +1,3 @@
+pub mod HeldConnections
 pub mod Places
 pub mod VisitSteps

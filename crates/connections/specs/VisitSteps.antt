@@ -1,5 +1,5 @@
 -- What is known of a connection that is served turn by turn, among others.
-use Rattle.std.specs.Prelude.{◌≡◌, ℕ, ◌+◌, ◌*◌, ◌≤◌, ◌⊎◌, ◌^◌, List, [], length, drop, Option, None, Result, Err}
+use Rattle.std.specs.Prelude.{◌≡◌, ℕ, ◌+◌, ◌*◌, ◌≤◌, ◌<◌, ◌⊎◌, ◌^◌, List, [], length, drop, Option, None, Result, Err}
 use Rattle.std.specs.Io.KnownBytes.{append_known}
 use Rattle.resp_wire.specs.DecoderView.{DecoderView}
 use Rattle.resp_wire.specs.declared.outbox.Outbox.{Outbox}
@@ -11,7 +11,8 @@ use Rattle.session_core.specs.declared.session.Progress.{Progress}
 use Rattle.session_core.specs.SessionEnd.{Served}
 use Rattle.session_core.specs.ServeSteps.{IsBetweenReads, Underway, fed}
 use Rattle.session_core.specs.Interleaved.{PartWay, Talk}
-use Rattle.connections.specs.Places.{IsGrown, MayPut, EachWas, Each}
+use Rattle.connections.specs.declared.visit.Next.{Next}
+use Rattle.connections.specs.declared.visit.Next.TheVariants.{Settles}
 use Rattle.connections.specs.declared.visit.Stage.{Stage}
 use Rattle.connections.specs.declared.visit.Stage.TheVariants.{Reads, Runs, Ended}
 
@@ -67,24 +68,10 @@ module _ {S : Type 0} (allows : S → Asked → Result Response Refusal → S �
   abbrev pub GoesOn : VisitState → S → VisitState → S → Type 0
   GoesOn old here new there = (start : S) (source₀ drain₀ : Option (List ℕ)) → Stands allows start source₀ drain₀ old here → Stands allows start source₀ drain₀ new there
 
-  -- each connection that is held was held before, and whatever was known of it holds on
-  abbrev pub AllGoOn : List (Option VisitState) → S → List (Option VisitState) → S → Type 0
-  AllGoOn old here new there = EachWas (λ before after. GoesOn before here after there) old new
-
   -- a visit stands as one does that began in some state, before devices that told some bytes
   abbrev pub HasBegun : S → VisitState → Type 0
   HasBegun here visit = (start : S) × (source₀ : Option (List ℕ)) × (drain₀ : Option (List ℕ)) × Stands allows start source₀ drain₀ visit here
 
-  -- each connection that is held is served as one that is served alone, its exchanges standing among those of the others
-  abbrev pub AllStand : List (Option VisitState) → S → Type 0
-  AllStand visits here = Each (HasBegun here) visits
-
--- a visit was added to those that are held, or else dropped
-pub record IsAdded (visit : VisitState) (old new : List (Option VisitState)) : Type 0 where
-  pub grown : List (Option VisitState)
-  pub is_grown : IsGrown old grown
-  pub put : MayPut visit grown new
-
--- some connections have left; the others stand as before
-abbrev pub HaveLeft : List (Option VisitState) → List (Option VisitState) → Type 0
-HaveLeft old new = EachWas (λ before after. after ≡ before) old new
+-- replies wait where they may tell of a record behind those that are settled
+abbrev pub WaitsForTold : (ℕ → Type 0) → ℕ → Next → ℕ → Type 0
+WaitsForTold tells settled next awaited = (told : ℕ) × tells told × (settled < told → (next ≡ Settles) × (awaited ≡ told))

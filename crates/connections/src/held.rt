@@ -1,8 +1,10 @@
 //! A connection at its place.
 
-ghost use Rattle.std.specs.Prelude.{◌≡◌};
+ghost use Rattle.std.specs.Prelude.{◌≡◌, ◌<◌, ◌⊎◌};
 ghost use Rattle.session_core.specs.Interleaved.{Moves};
-ghost use Rattle.connections.specs.VisitSteps.{GoesOn, new_state};
+ghost use Rattle.connections.specs.declared.visit.Next.TheVariants.{Ends, Settles};
+ghost use Rattle.connections.specs.HeldConnections.{Begins};
+ghost use Rattle.connections.specs.VisitSteps.{GoesOn, WaitsForTold, new_state};
 
 use crate::buffers::Buffers;
 use crate::visit::{Next, Visit};
@@ -32,14 +34,19 @@ pub struct Held<S: PolledSource, D: PolledDrain, A: Allocator> {
     moved: Option<Instant>,
 }
 
-/// Seen as its visit shows itself.
+/// Seen as its visit shows itself, with what its replies wait for and what left.
 impl<S: PolledSource, D: PolledDrain, A: Allocator> Model for Held<S, D, A> {
-    ghost use Rattle.connections.specs.VisitSteps.{VisitState, state, told_by};
+    ghost use Rattle.connections.specs.HeldConnections.{HeldState};
+    ghost use Rattle.connections.specs.VisitSteps.{state, told_by};
 
-    ghost Value = { VisitState };
+    ghost Value = { HeldState };
 
-    ghost view = { λ h. state h.visit.stage (S.told h.visit.source) (told_by D.told h.visit.replies.outbox)
-        h.visit.session.decoder h.visit.session.progress };
+    ghost view = { λ h. record {
+      visit = state h.visit.stage (S.told h.visit.source) (told_by D.told h.visit.replies.outbox)
+          h.visit.session.decoder h.visit.session.progress;
+      awaited = h.visit.awaited;
+      left = D.told h.visit.replies.outbox.drain;
+    } };
 }
 
 impl<S: PolledSource, D: PolledDrain, A: Allocator + Copy> Held<S, D, A> {
@@ -52,7 +59,7 @@ impl<S: PolledSource, D: PolledDrain, A: Allocator + Copy> Held<S, D, A> {
         silence: Option<Duration>,
         moved: Option<Instant>,
     ) -> Self
-        ensures new { result ≡ new_state (S.told source) (D.told drain) }
+        ensures new { Begins (new_state (S.told source) (D.told drain)) result }
     {
         Held {
             visit: Visit::new(alloc, source, drain, is_watched),
@@ -90,7 +97,9 @@ impl<S: PolledSource, D: PolledDrain, A: Allocator + Copy> Held<S, D, A> {
     }
 
     /// The number of the last record that its replies wait for, 0 for none.
-    pub fn awaited(&self) -> u64 {
+    pub fn awaited(&self) -> u64
+        ensures awaited { result ≡ self.now.awaited }
+    {
         self.visit.awaited()
     }
 
@@ -115,7 +124,11 @@ impl<S: PolledSource, D: PolledDrain, A: Allocator + Copy> Held<S, D, A> {
         requires settled { E.settled exec.old }
         ensures settled { E.settled exec.new }
         ensures moves { Moves E.allows exec.old exec.new }
-        ensures goes_on { GoesOn E.allows self.old exec.old self.new exec.new }
+        ensures goes_on { GoesOn E.allows self.old.visit exec.old self.new.visit exec.new }
+        ensures told { (self.new.visit.progress ≡ self.old.visit.progress)
+            ⊎ WaitsForTold (E.tells exec.new) settled result self.new.awaited }
+        ensures waits { result ≡ Settles → settled < self.new.awaited }
+        ensures held { settled < self.old.awaited → self.new ≡ self.old }
     {
         let next = self.visit.turn(rt, moment.clock, buffers, exec, settled);
         self.note_moved(moment.now);
@@ -124,7 +137,9 @@ impl<S: PolledSource, D: PolledDrain, A: Allocator + Copy> Held<S, D, A> {
 
     /// Sends replies that waited for their records, or ends, as [`Visit::let_go`] says.
     pub fn let_go(&mut self, now: Option<Instant>, buffers: &mut Buffers<A>, settled: u64) -> Next
-        ensures same { self.new ≡ self.old }
+        ensures visit { self.new.visit ≡ self.old.visit }
+        ensures held { settled < self.old.awaited → self.new ≡ self.old }
+        ensures ends { settled < self.old.awaited → result ≡ Ends }
     {
         let next = self.visit.let_go(buffers, settled);
         self.note_moved(now);

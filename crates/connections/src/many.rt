@@ -1,9 +1,10 @@
 //! All connections of one worker.
 
-ghost use Rattle.std.specs.Prelude.{◌≡◌, ◌<◌, [], length, IfOk};
+ghost use Rattle.std.specs.Prelude.{◌≡◌, ◌<◌, length, IfOk};
 ghost use Rattle.session_core.specs.Interleaved.{Moves};
 ghost use Rattle.connections.specs.Places.{IsGrown};
-ghost use Rattle.connections.specs.VisitSteps.{AllGoOn, HaveLeft, IsAdded, new_state};
+ghost use Rattle.connections.specs.HeldConnections.{AllGoOn, AllMayLeave, AllWait, HaveLeft, IsAdded, RisesBy, no_connections};
+ghost use Rattle.connections.specs.VisitSteps.{new_state};
 
 use crate::buffers::Buffers;
 use crate::held::{Held, Moment};
@@ -45,14 +46,14 @@ pub struct Connections<S: PolledSource, D: PolledDrain, A: Allocator> {
     looked: Option<Instant>,
 }
 
-/// Seen as the connections at their places, each as its visit shows itself.
+/// Seen as the connections at their places, and how many records are known to be settled.
 impl<S: PolledSource, D: PolledDrain, A: Allocator> Model for Connections<S, D, A> {
-    ghost use Rattle.std.specs.Prelude.{List, Option, map, option_map, box_value};
-    ghost use Rattle.connections.specs.VisitSteps.{VisitState};
+    ghost use Rattle.std.specs.Prelude.{map, option_map, box_value};
+    ghost use Rattle.connections.specs.HeldConnections.{HeldConnections};
 
-    ghost Value = { List (Option VisitState) };
+    ghost Value = { HeldConnections };
 
-    ghost view = { λ c. map (option_map box_value) c.slots };
+    ghost view = { λ c. record { held = map (option_map box_value) c.slots; settled = c.settled } };
 }
 
 impl<S: PolledSource + Watched + Drop, D: PolledDrain + Drop, A: Allocator + Copy> Connections<
@@ -60,10 +61,9 @@ impl<S: PolledSource + Watched + Drop, D: PolledDrain + Drop, A: Allocator + Cop
     D,
     A,
 > {
-    /// No connection yet. So many records are settled, of those that executors tell of: `u64::MAX` where each is
-    /// settled when it is appended, 0 where they are settled later.
-    pub fn new<R: Net>(net: &R, alloc: A, settled: u64) -> io::Result<Self>
-        ensures none { IfOk result (λ connections. connections ≡ []) }
+    /// No connection yet, and no record is known to be settled.
+    pub fn new<R: Net>(net: &R, alloc: A) -> io::Result<Self>
+        ensures none { IfOk result (λ connections. connections ≡ no_connections) }
     {
         Ok(Connections {
             alloc,
@@ -73,7 +73,7 @@ impl<S: PolledSource + Watched + Drop, D: PolledDrain + Drop, A: Allocator + Cop
             ready: Vec::new(alloc),
             round: Vec::new(alloc),
             unsettled: Vec::new(alloc),
-            settled,
+            settled: 0,
             buffers: Buffers::new(alloc)?,
             ends_silent: false,
             looked: None,
@@ -92,7 +92,8 @@ impl<S: PolledSource + Watched + Drop, D: PolledDrain + Drop, A: Allocator + Cop
 
     /// Room for one connection more, in all lists, and its place.
     fn make_room(&mut self) -> Result<usize, AllocError>
-        ensures grown { IsGrown self.old self.new }
+        ensures grown { IsGrown self.old.held self.new.held }
+        ensures settled { self.new.settled ≡ self.old.settled }
     {
         let place = self.slots.make_room()?;
         let places = self.slots.len();
@@ -112,7 +113,8 @@ impl<S: PolledSource + Watched + Drop, D: PolledDrain + Drop, A: Allocator + Cop
     }
 
     fn try_add<C: Clock>(&mut self, clock: &C, source: S, drain: D) -> Result<(), AllocError>
-        ensures added { IsAdded (new_state (S.told source) (D.told drain)) self.old self.new }
+        ensures added { IsAdded (new_state (S.told source) (D.told drain)) self.old.held self.new.held }
+        ensures settled { self.new.settled ≡ self.old.settled }
     {
         let place = self.make_room()?;
         let descriptor = source.descriptor();
@@ -138,7 +140,8 @@ impl<S: PolledSource + Watched + Drop, D: PolledDrain + Drop, A: Allocator + Cop
 
     /// Takes a connection on. Where there is no memory for it, or it can't be watched, it is dropped.
     pub fn add<C: Clock>(&mut self, clock: &C, source: S, drain: D)
-        ensures added { IsAdded (new_state (S.told source) (D.told drain)) self.old self.new }
+        ensures added { IsAdded (new_state (S.told source) (D.told drain)) self.old.held self.new.held }
+        ensures settled { self.new.settled ≡ self.old.settled }
     {
         let _ = self.try_add(clock, source, drain);
     }
@@ -194,7 +197,9 @@ impl<S: PolledSource + Watched + Drop, D: PolledDrain + Drop, A: Allocator + Cop
         requires settled { E.settled exec.old }
         ensures settled { E.settled exec.new }
         ensures moves { Moves E.allows exec.old exec.new }
-        ensures goes_on { AllGoOn E.allows self.old exec.old self.new exec.new }
+        ensures goes_on { AllGoOn E.allows self.old.held exec.old self.new.held exec.new }
+        ensures waits { AllWait self.old.settled self.old.held self.new.held }
+        ensures known { self.new.settled ≡ self.old.settled }
     {
         takes_turns::<R, A, E>();
         if place >= self.slots.len() {
@@ -223,7 +228,9 @@ impl<S: PolledSource + Watched + Drop, D: PolledDrain + Drop, A: Allocator + Cop
         requires settled { E.settled exec.old }
         ensures settled { E.settled exec.new }
         ensures moves { Moves E.allows exec.old exec.new }
-        ensures goes_on { AllGoOn E.allows self.old exec.old self.new exec.new }
+        ensures goes_on { AllGoOn E.allows self.old.held exec.old self.new.held exec.new }
+        ensures waits { AllWait self.old.settled self.old.held self.new.held }
+        ensures known { self.new.settled ≡ self.old.settled }
     {
         let mut woken = mem::replace(&mut self.woken, Vec::new(self.alloc));
         for place in woken.iter() {
@@ -244,7 +251,9 @@ impl<S: PolledSource + Watched + Drop, D: PolledDrain + Drop, A: Allocator + Cop
         requires settled { E.settled exec.old }
         ensures settled { E.settled exec.new }
         ensures moves { Moves E.allows exec.old exec.new }
-        ensures goes_on { AllGoOn E.allows self.old exec.old self.new exec.new }
+        ensures goes_on { AllGoOn E.allows self.old.held exec.old self.new.held exec.new }
+        ensures waits { AllWait self.old.settled self.old.held self.new.held }
+        ensures known { self.new.settled ≡ self.old.settled }
     {
         let mut round = mem::replace(&mut self.round, Vec::new(self.alloc));
         mem::swap(&mut round, &mut self.ready);
@@ -259,7 +268,8 @@ impl<S: PolledSource + Watched + Drop, D: PolledDrain + Drop, A: Allocator + Cop
 
     /// Sends the replies of one that waited for its records, where these are settled or can be; else it leaves.
     fn let_go<R, T: Settle<R>>(&mut self, rt: &R, now: Option<Instant>, place: usize, settler: &T)
-        ensures left { HaveLeft self.old self.new }
+        ensures leave { AllMayLeave self.new.settled self.old.held self.new.held }
+        ensures settled_by { RisesBy (T.settles settler.now) self.old.settled self.new.settled }
     {
         if place >= self.slots.len() {
             return;
@@ -281,7 +291,8 @@ impl<S: PolledSource + Watched + Drop, D: PolledDrain + Drop, A: Allocator + Cop
     /// Sends the replies of those that waited for their records, once these are settled. Those whose records can't be
     /// settled leave.
     fn let_go_settled<R, T: Settle<R>>(&mut self, rt: &R, now: Option<Instant>, settler: &T)
-        ensures left { HaveLeft self.old self.new }
+        ensures leave { AllMayLeave self.new.settled self.old.held self.new.held }
+        ensures settled_by { RisesBy (T.settles settler.now) self.old.settled self.new.settled }
     {
         let mut unsettled = mem::replace(&mut self.unsettled, Vec::new(self.alloc));
         for place in unsettled.iter() {
@@ -293,7 +304,8 @@ impl<S: PolledSource + Watched + Drop, D: PolledDrain + Drop, A: Allocator + Cop
 
     /// Ends the connection at a place.
     fn end(&mut self, place: usize)
-        ensures left { HaveLeft self.old self.new }
+        ensures left { HaveLeft self.old.held self.new.held }
+        ensures settled { self.new.settled ≡ self.old.settled }
     {
         if place >= self.slots.len() {
             return;
@@ -306,7 +318,8 @@ impl<S: PolledSource + Watched + Drop, D: PolledDrain + Drop, A: Allocator + Cop
 
     /// Ends the connections that were silent for too long.
     fn end_silent(&mut self, now: Instant)
-        ensures left { HaveLeft self.old self.new }
+        ensures left { HaveLeft self.old.held self.new.held }
+        ensures settled { self.new.settled ≡ self.old.settled }
     {
         for place in 0..self.slots.len() {
             let is_silent = match self.slots.get(place) {
@@ -321,7 +334,8 @@ impl<S: PolledSource + Watched + Drop, D: PolledDrain + Drop, A: Allocator + Cop
 
     /// Ends those that were silent for too long, where that was not looked at for a second.
     fn look_for_silent<C: Clock>(&mut self, clock: &C)
-        ensures left { HaveLeft self.old self.new }
+        ensures left { HaveLeft self.old.held self.new.held }
+        ensures settled { self.new.settled ≡ self.old.settled }
     {
         let Some(now) = self.now(clock) else {
             return;
@@ -352,7 +366,11 @@ impl<S: PolledSource + Watched + Drop, D: PolledDrain + Drop, A: Allocator + Cop
         ensures moves { Moves E.allows exec.old exec.new }
         // Each that is held was held before, and goes on as one that is served alone: its requests
         // are run in turn, and their replies stand behind those before.
-        ensures goes_on { AllGoOn E.allows self.old exec.old self.new exec.new }
+        ensures goes_on { AllGoOn E.allows self.old.held exec.old self.new.held exec.new }
+        // Of one whose replies wait for a record that is not settled nothing leaves. How many are is what it was, or what the
+        // settler told.
+        ensures waits { AllWait self.new.settled self.old.held self.new.held }
+        ensures settled_by { RisesBy (T.settles settler.now) self.old.settled self.new.settled }
     {
         self.wait(self.patience());
         let now = self.now(clock);

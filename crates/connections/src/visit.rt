@@ -1,10 +1,10 @@
 //! One connection of many.
 
-ghost use Rattle.std.specs.Prelude.{◌≡◌, ◌≤◌, ◌<◌, ◌^◌, false, length};
+ghost use Rattle.std.specs.Prelude.{◌≡◌, ◌≤◌, ◌<◌, ◌^◌, ◌⊎◌, false, length};
 ghost use Rattle.session_core.specs.Interleaved.{Moves};
 ghost use Rattle.connections.specs.declared.visit.Next.TheVariants.{Ends, Settles};
 ghost use Rattle.connections.specs.declared.visit.Stage.TheVariants.{Reads, Runs};
-ghost use Rattle.connections.specs.VisitSteps.{IsSound, IsTaken, GoesOn, state, new_state};
+ghost use Rattle.connections.specs.VisitSteps.{IsSound, IsTaken, GoesOn, WaitsForTold, state, new_state};
 
 use crate::buffers::Buffers;
 use crate::replies::Replies;
@@ -76,7 +76,8 @@ impl<S: PolledSource, D: PolledDrain, A: Allocator + Copy> Visit<S, D, A> {
     /// A connection that was just accepted. It takes no memory. One that is not watched, so that
     /// nobody notes when its device becomes ready, is always ready.
     pub fn new(alloc: A, source: S, drain: D, is_watched: bool) -> Self
-        ensures { (state result.stage (S.told result.source)
+        ensures awaited { result.awaited ≡ 0 }
+        ensures state { (state result.stage (S.told result.source)
             (⟦<Replies<D, A> as ByteDrain>⟧.told result.replies) result.session.decoder result.session.progress)
             ≡ new_state (S.told source) (D.told drain) }
     {
@@ -100,6 +101,8 @@ impl<S: PolledSource, D: PolledDrain, A: Allocator + Copy> Visit<S, D, A> {
             (⟦<Replies<D, A> as ByteDrain>⟧.told self.new.replies) self.new.session.decoder self.new.session.progress)
             ≡ (state self.old.stage (S.told self.old.source)
             (⟦<Replies<D, A> as ByteDrain>⟧.told self.old.replies) self.old.session.decoder self.old.session.progress) }
+        ensures replies { self.new.replies ≡ self.old.replies }
+        ensures awaited { self.new.awaited ≡ self.old.awaited }
     {
         self.is_closed = self.is_closed || is_closed;
         self.is_drained = false;
@@ -111,6 +114,8 @@ impl<S: PolledSource, D: PolledDrain, A: Allocator + Copy> Visit<S, D, A> {
             (⟦<Replies<D, A> as ByteDrain>⟧.told self.new.replies) self.new.session.decoder self.new.session.progress)
             ≡ (state self.old.stage (S.told self.old.source)
             (⟦<Replies<D, A> as ByteDrain>⟧.told self.old.replies) self.old.session.decoder self.old.session.progress) }
+        ensures replies { self.new.replies ≡ self.old.replies }
+        ensures awaited { self.new.awaited ≡ self.old.awaited }
     {
         let moved = self.has_moved;
         self.has_moved = false;
@@ -279,7 +284,7 @@ impl<S: PolledSource, D: PolledDrain, A: Allocator + Copy> Visit<S, D, A> {
             ≡ (state self.old.stage (S.told self.old.source)
             (⟦<Replies<D, A> as ByteDrain>⟧.told self.old.replies) self.old.session.decoder self.old.session.progress) }
         ensures held { settled < told → self.new.replies ≡ self.old.replies }
-        ensures awaited { settled < told → self.new.awaited ≡ told }
+        ensures awaited { settled < told → (result ≡ Settles) × (self.new.awaited ≡ told) }
         ensures waits { result ≡ Settles → settled < told }
     {
         if told > settled {
@@ -317,10 +322,13 @@ impl<S: PolledSource, D: PolledDrain, A: Allocator + Copy> Visit<S, D, A> {
         ensures goes_on { GoesOn E.allows (state self.old.stage (S.told self.old.source)
             (⟦<Replies<D, A> as ByteDrain>⟧.told self.old.replies) self.old.session.decoder self.old.session.progress) exec.old (state self.new.stage (S.told self.new.source)
             (⟦<Replies<D, A> as ByteDrain>⟧.told self.new.replies) self.new.session.decoder self.new.session.progress) exec.new }
-        // Where replies wait, they wait for a record that is not settled;
+        // Where replies were made, they wait if they may tell of a record that is not settled;
+        ensures told { (self.new.session.progress ≡ self.old.session.progress)
+            ⊎ WaitsForTold (E.tells exec.new) settled result self.new.awaited }
+        // they wait for no other;
         ensures waits { result ≡ Settles → settled < self.new.awaited }
-        // and while they do, nothing leaves.
-        ensures held { settled < self.old.awaited → self.new.replies ≡ self.old.replies }
+        // and while they do, all stays.
+        ensures held { settled < self.old.awaited → self.new ≡ self.old }
     {
         if self.awaited > settled {
             return Next::Settles;
@@ -345,7 +353,7 @@ impl<S: PolledSource, D: PolledDrain, A: Allocator + Copy> Visit<S, D, A> {
             (⟦<Replies<D, A> as ByteDrain>⟧.told self.new.replies) self.new.session.decoder self.new.session.progress)
             ≡ (state self.old.stage (S.told self.old.source)
             (⟦<Replies<D, A> as ByteDrain>⟧.told self.old.replies) self.old.session.decoder self.old.session.progress) }
-        ensures held { settled < self.old.awaited → self.new.replies ≡ self.old.replies }
+        ensures held { settled < self.old.awaited → self.new ≡ self.old }
         ensures ends { settled < self.old.awaited → result ≡ Ends }
         ensures sent { result ≡ Settles → ⊥ }
     {

@@ -1,5 +1,6 @@
 //! An executor whose changes have records, what settles them, and a page on which all is written that leaves.
 
+ghost use Rattle.std.specs.Prelude.{⊤};
 ghost use Rattle.session_core.specs.OwnerAnswers.{IsIdle, OwnerAnswers};
 
 use crate::devices::Sender;
@@ -26,6 +27,8 @@ impl<R> Exec<R, Global> for Recorded {
     ghost settled = { λ r. IsIdle r.owner };
 
     ghost allows = { λ old asked answer new. OwnerAnswers old.owner asked answer new.owner };
+
+    ghost tells = { λ _ _. ⊤ };
 
     fn run(&mut self, _rt: &R, command: &Command<Global>) -> Result<Reply<Global>, Refusal> {
         if command.key().is_some() {
@@ -97,6 +100,8 @@ pub struct Settler<'p> {
 }
 
 impl<'p, R> Settle<R> for Settler<'p> {
+    ghost settles = { λ _ _. ⊤ };
+
     fn settle(&self, _rt: &R, number: u64) -> Option<u64> {
         let digit = b'0' + (number % 10) as u8;
         self.page.put(&[b'[', digit, b']']);

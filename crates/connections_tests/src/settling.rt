@@ -36,7 +36,7 @@ fn begun<'h>(
     chunk: usize,
 ) -> Result<Held<'h>, Fail> {
     let clock = TestClock::new(Pace::Stands);
-    let mut held = Connections::new(rt, rt.alloc(), 0)?;
+    let mut held = Connections::new(rt, rt.alloc())?;
     for script in scripts.iter() {
         let device = Device {
             chunk,

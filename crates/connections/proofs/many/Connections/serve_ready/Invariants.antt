@@ -1,10 +1,13 @@
+use Rattle.std.proofs.Common.{◌≡◌}
 use Rattle.session_core.specs.Interleaved.{Moves}
-use Rattle.connections.specs.VisitSteps.{AllGoOn}
+use Rattle.connections.specs.HeldConnections.{AllGoOn, AllWait}
 use Rattle.connections.proofs.many.Connections.serve_ready.Given as goal
 
 abbrev pub invariant-loop-place : goal.invariant-loop-place
 invariant-loop-place g l = record {
   settled : g.E.Exec.settled l.exec;
   moves : Moves g.E.Exec.allows l.fn.exec l.exec;
-  goes_on : AllGoOn g.E.Exec.allows l.fn.self l.fn.exec l.self l.exec;
+  goes_on : AllGoOn g.E.Exec.allows l.fn.self.held l.fn.exec l.self.held l.exec;
+  waits : AllWait l.fn.self.settled l.fn.self.held l.self.held;
+  known : l.self.settled ≡ l.fn.self.settled;
 }

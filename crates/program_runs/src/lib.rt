@@ -1,0 +1,26 @@
+//! What the program does once its command line is read, and how it ends then: sessions over standard input and
+//! output, with their changes kept in an append file or not; an append file written anew; the server over TCP.
+//!
+//! Each of them gives a [`Finish`]: an exit status, and the lines for standard error before it. An [`Ending`] tells
+//! what these lines mean in its case.
+#![tactic(auto)]
+
+mod ending;
+mod file;
+mod finish;
+mod group;
+mod logs;
+mod printing;
+mod server;
+mod stdio;
+mod streams;
+mod watching;
+
+pub use ending::Ending;
+pub use file::{open_file, rewrite_run, serve_file};
+pub use finish::{Finish, Line, Unusable};
+pub use group::serve_group;
+pub use server::{Settings, Stock, TcpArrivals, serve_stock, serve_tcp};
+pub use stdio::{after_session, stdio_run};
+pub use streams::StandIns;
+pub use watching::{Telling, WatchedFiles};

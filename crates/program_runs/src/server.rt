@@ -1,0 +1,155 @@
+//! A server: connections handed over to workers that share a table of sets.
+
+ghost use Rattle.std.specs.Prelude.{◌≡◌, ◌<◌, ◌⊎◌, None, All};
+ghost use Rattle.set_table.specs.ClosingTotals.{AreNumbered};
+ghost use Rattle.set_table.specs.WorkerPasses.{IsPassOf};
+ghost use Rattle.program_runs.specs.ServerExitStatus as server;
+ghost use Rattle.program_runs.specs.ServerExitStatus.{HasNotServed, HasServed, HasTotals, IsTold};
+
+mod connection_handler;
+mod plan;
+mod seats;
+mod served;
+mod settings;
+mod settling;
+mod startup;
+mod tcp_arrivals;
+mod totals_line;
+
+use crate::finish::{Finish, Line};
+use crate::server::served::attend;
+pub use crate::server::settings::Settings;
+use crate::server::settling::Journal;
+pub use crate::server::startup::{Stock, serve_stock, serve_tcp};
+pub use crate::server::tcp_arrivals::TcpArrivals;
+use crate::server::totals_line::{print_totals, server_finish};
+use append_log::{LogSink, SyncHandle, Syncer};
+use connections::Watched;
+use hand_over::{Arrivals, HandOverFault};
+use resp_wire::{ByteDrain, PolledDrain, PolledSource};
+use set_table::{CloseFault, MAX_RUNS, OpenFault, Pass, Table, Totals};
+use std::alloc::{AllocGlobal, Global};
+use std::hash::RandomState;
+use std::net::Net;
+use std::sync::ledger::Ledger;
+use std::sync::{Mutex, Wait};
+use std::thread::Threads;
+use std::time::Clock;
+use zset_core::OneOwner;
+
+/// The line that tells why there is no table.
+fn open_line(fault: OpenFault) -> Line
+    ensures { result ≡ server.open_line fault }
+{
+    match fault {
+        OpenFault::NoMemory => Line::OutOfMemory,
+        OpenFault::TooManyKeys => Line::MoreKeysThanPlaces,
+    }
+}
+
+/// The line that tells why no connection was handed over.
+fn hand_over_line(fault: HandOverFault) -> Line
+    ensures { result ≡ server.hand_over_line fault }
+{
+    match fault {
+        HandOverFault::NoMemory => Line::OutOfMemory,
+        HandOverFault::Spawn => Line::CannotStartWorkers,
+    }
+}
+
+/// Closes a table, and gives its totals. The passes are all that it has, so that none is missing.
+fn totals_of<K: LogSink + Drop, L: Ledger>(
+    table: Table<RandomState, K, L, Global>,
+    passes: Vec<Pass<Global>>,
+) -> Result<Totals, CloseFault>
+    // The passes are the table's,
+    requires own { All (IsPassOf table) passes.items }
+    // all of them.
+    requires numbered { AreNumbered passes.items table.passes }
+    // The totals are those of the passes, or they disagree with what stands in the table.
+    ensures { HasTotals result table.opened passes.items }
+{
+    match table.close(passes) {
+        Ok((totals, _log)) => Ok(totals),
+        Err(fault) => Err(fault),
+    }
+}
+
+/// Tells the totals of a closed table, where its numbers agree.
+fn tell_totals<D: ByteDrain>(
+    alloc: Global,
+    drain: &mut D,
+    connections: u128,
+    closed: Result<Totals, CloseFault>,
+) -> Result<(), Line>
+    ensures { IsTold closed connections result
+        (record { told = D.told drain.old; flushed = D.flushed drain.old; failures = D.failures drain.old })
+        (record { told = D.told drain.new; flushed = D.flushed drain.new; failures = D.failures drain.new }) }
+{
+    match closed {
+        Ok(totals) => print_totals(alloc, drain, connections, &totals),
+        Err(_) => Err(Line::TotalsDisagree),
+    }
+}
+
+/// Serves connections from the sets of an owner, until as many came as the settings say, the arrivals
+/// close, or accepting fails; those that came then are served to their end. Each worker is a thread
+/// of its own, which serves many connections, turn by turn. In the end the line
+/// `connections C sets S members M added A removed R records L` is printed to the drain. Where the journal has a handle,
+/// the workers settle its records by it, and no reply leaves before what it tells of is settled: no clause says that of
+/// the whole, tests do.
+///
+/// Nothing is accepted and nothing printed where there are more keys than places (status 3), where
+/// there is no memory or no thread (4). Else the status is 0, or 1 where accepting failed, the line
+/// could not be printed, or the table's numbers disagree.
+pub fn serve_run<A, S, D, K, L, Y, W, R>(
+    rt: &R,
+    arrivals: &mut A,
+    owner: OneOwner<RandomState, Global>,
+    journal: Journal<K, L, Y>,
+    settings: &Settings,
+    drain: &mut W,
+) -> Finish
+where
+    A: Arrivals<Conn = (S, D)>,
+    S: PolledSource + Watched + Drop + Send,
+    D: PolledDrain + Drop + Send,
+    K: LogSink + Drop + Send,
+    L: Ledger + Send + Sync,
+    Y: SyncHandle + Drop + Send,
+    W: ByteDrain,
+    R: Wait + Threads + Net + Clock + AllocGlobal + Sync,
+    // No set of the owner is prepared.
+    requires idle { owner.next ≡ None }
+    // The log has a part for each place, and one more.
+    requires parts { settings.now.places < journal.log.parts }
+    // The connections were served and the passes' totals told, or it did not begin to serve.
+    ensures { HasServed A.came A.last arrivals.old arrivals.new owner.world journal.log.appended settings.now
+        (record { told = W.told drain.old; flushed = W.flushed drain.old; failures = W.failures drain.old })
+        (record { told = W.told drain.new; flushed = W.flushed drain.new; failures = W.failures drain.new })
+        result
+        ⊎ HasNotServed arrivals.old arrivals.new owner.world settings.now.places
+        (record { told = W.told drain.old; flushed = W.flushed drain.old; failures = W.failures drain.old })
+        (record { told = W.told drain.new; flushed = W.flushed drain.new; failures = W.failures drain.new })
+        result }
+{
+    let alloc = rt.alloc();
+    let Settings {
+        workers,
+        places,
+        connections,
+    } = *settings;
+    let Journal { log, handle } = journal;
+    let syncer = handle.map(|handle| Mutex::new(Syncer::new(handle)));
+    let (table, passes) = match Table::open(alloc, owner, log, places, workers, MAX_RUNS) {
+        Ok(opened) => opened,
+        Err(fault) => return Finish::by(open_line(fault)),
+    };
+    let served = match attend(rt, arrivals, &table, syncer.as_ref(), passes, connections) {
+        Ok(served) => served,
+        Err(fault) => return Finish::by(hand_over_line(fault)),
+    };
+    let closed = totals_of(table, served.passes);
+    let printed = tell_totals(alloc, drain, served.connections, closed);
+    server_finish(printed, served.fault)
+}

@@ -1,0 +1,63 @@
+//! Each line's text and status. A line that no run brings about is seen here alone.
+
+use program_runs::{Line, Unusable};
+use std::test::Fail;
+
+const LINES: [(Line, u8, &str); 19] = [
+    (Line::BadCommandLine, 2, "zcrackd: bad command line"),
+    (
+        Line::CannotUseFile(Unusable::Stream),
+        3,
+        "zcrackd: cannot use file",
+    ),
+    (
+        Line::FileDamaged(35),
+        3,
+        "zcrackd: append file damaged at byte 35",
+    ),
+    (
+        Line::NoCommandInFile(70),
+        3,
+        "zcrackd: append file has no command at byte 70",
+    ),
+    (
+        Line::UnknownVersion,
+        3,
+        "zcrackd: unknown append file version",
+    ),
+    (Line::FileReadFault, 3, "zcrackd: append file read fault"),
+    (
+        Line::FileReadTooOften,
+        3,
+        "zcrackd: append file read too often",
+    ),
+    (Line::TornEnd(10), 0, "zcrackd: torn end of 10 bytes"),
+    (Line::OutOfMemory, 4, "zcrackd: out of memory"),
+    (Line::ReadFault, 1, "zcrackd: read fault"),
+    (
+        Line::WriteFaultAfter(7),
+        1,
+        "zcrackd: write fault after 7 bytes",
+    ),
+    (Line::WriteFault, 1, "zcrackd: write fault"),
+    (Line::ProtocolFault(3), 1, "zcrackd: protocol fault 3"),
+    (Line::ReadTooOften, 1, "zcrackd: read too often"),
+    (
+        Line::MoreKeysThanPlaces,
+        3,
+        "zcrackd: more keys than places",
+    ),
+    (Line::CannotListen, 3, "zcrackd: cannot listen"),
+    (Line::CannotStartWorkers, 4, "zcrackd: cannot start workers"),
+    (Line::AcceptFault, 1, "zcrackd: accept fault"),
+    (Line::TotalsDisagree, 1, "zcrackd: totals disagree"),
+];
+
+#[test]
+fn each_line_has_its_text_and_status(rt: HostRuntime) -> Result<(), Fail> {
+    for (line, status, text) in LINES {
+        let told = format!(in rt.alloc(); "{line}")?;
+        assert_eq!(rt; (line.status(), told.as_str()), (status, text));
+    }
+    Ok(())
+}
