@@ -4,10 +4,10 @@ ghost use Rattle.std.specs.Prelude.{ℕ, ◌≡◌, ◌+◌, ◌<◌, ◌≤◌,
 ghost use Rattle.crossbeam_channel.specs.Claims.{view, IsSeatAt};
 ghost use Rattle.crossbeam_channel.specs.Ends.{sends_on, receives_on, ruled_capacity};
 ghost use Rattle.hand_over.specs.declared.arrivals.ArrivalKind.TheVariants.{End, Failure};
-ghost use Rattle.hand_over.specs.ChannelInvariant.{tally, times, once_below, IsHandedOut};
+ghost use Rattle.hand_over.specs.ChannelInvariant.{pass_view, times, once_below, IsHandedOut};
 
 use crate::arrivals::{Arrival, Arrivals};
-use crate::channel::{Ends, Sender, TallyPass, send_connection};
+use crate::channel::{ChannelEnds, ChannelPass, Sender, send_connection};
 use crate::door::ring_least;
 use crate::handler::Bell;
 use std::alloc::{AllocError, Global};
@@ -38,7 +38,7 @@ impl Unsent {
         &mut self,
         rt: &R,
         sender: &Sender<C>,
-        pass: &mut TallyPass<C>,
+        pass: &mut ChannelPass<C>,
         number: u64,
         connection: C,
     )
@@ -62,8 +62,8 @@ impl Unsent {
     pub fn accept_all<A: Arrivals, B: Bell, R: Wait>(
         &mut self,
         rt: &R,
-        ends: &Ends<A::Conn, B>,
-        pass: &mut TallyPass<A::Conn>,
+        ends: &ChannelEnds<A::Conn, B>,
+        pass: &mut ChannelPass<A::Conn>,
         arrivals: &mut A,
         limit: u64,
     ) -> bool
@@ -72,7 +72,7 @@ impl Unsent {
         requires limit { 1 ≤ limit }
         requires none { (self.old.numbers.items ≡ []) × (limit ≤ vec_capacity self.old.numbers) }
         ensures pass { IsSeatAt (sends_on ends.now.sender) pass.new }
-        ensures view { view pass.new ≡ tally (view pass.old).parts true (view pass.new).sent
+        ensures view { view pass.new ≡ pass_view (view pass.old).parts true (view pass.new).sent
             (view pass.old).stops (view pass.old).taken }
         ensures once { (k : ℕ) → A.came arrivals.new ≡ A.came arrivals.old + k
             → (x : ℕ) → once_below x (view pass.new).sent + times x self.new.numbers.items ≡ once_below x k }

@@ -1,9 +1,9 @@
 //! The channel of numbered connections and its rule.
 
-ghost use Rattle.std.specs.Prelude.{◌≡◌, ℕ, ◌+◌, ◌-◌, ◌<◌, ◌++◌, true, false, [], List, IfSome, IfNone, ⊤};
+ghost use Rattle.std.specs.Prelude.{◌≡◌, ℕ, ◌+◌, ◌-◌, ◌<◌, ◌≤◌, ◌++◌, true, false, [], List, IfSome, IfNone, ⊤, vec_len, vec_capacity};
 ghost use Rattle.crossbeam_channel.specs.Claims.{view, IsSeatAt};
 ghost use Rattle.crossbeam_channel.specs.Ends.{sends_on, receives_on, ruled_capacity};
-ghost use Rattle.hand_over.specs.ChannelInvariant.{tally, times, once_below, AllBelow, numbers_of, IsNumbered, after_sending, after_taking, IsAboveTaken, TakesFew, with_taken, after_send, after_stop};
+ghost use Rattle.hand_over.specs.ChannelInvariant.{pass_view, times, once_below, AllBelow, numbers_of, IsNumbered, after_sending, after_taking, IsAboveTaken, TakesFew, with_taken, after_send, after_stop};
 ghost use Rattle.hand_over.specs.Finding.{IsFound};
 
 use crate::door::Door;
@@ -24,7 +24,7 @@ pub enum Message<C> {
 /// What a pass knows: how many parts it has of the right to know the whole, whether it is the one
 /// that sends, how many connections and stop messages it sent, and which numbers it took. No value of
 /// it is made.
-pub struct Tally {
+pub struct PassView {
     pub parts: u64,
     pub sends: bool,
     pub sent: u64,
@@ -35,70 +35,70 @@ pub struct Tally {
 /// The channel's rule.
 pub struct Numbered;
 
-impl<C> Protocol<Message<C>, Tally> for Numbered {
+impl<C> Protocol<Message<C>, PassView> for Numbered {
     ghost holds = { IsNumbered };
 
-    ghost first = { tally 1024 true 0 0 [] };
+    ghost first = { pass_view 1024 true 0 0 [] };
 }
 
 /// How a pass is cut in two for a worker, and how two passes are joined.
-pub struct Cut;
+pub struct SplitPass;
 
-impl Split<Tally> for Cut {
-    ghost left = { λ v. tally (v.parts - 1) v.sends v.sent v.stops v.taken };
+impl Split<PassView> for SplitPass {
+    ghost left = { λ v. pass_view (v.parts - 1) v.sends v.sent v.stops v.taken };
 
-    ghost right = { λ v. tally 1 false 0 0 [] };
+    ghost right = { λ v. pass_view 1 false 0 0 [] };
 }
 
-impl Join<Tally> for Cut {
-    ghost both = { λ v w. tally (v.parts + w.parts) v.sends v.sent v.stops (v.taken ++ w.taken) };
+impl Join<PassView> for SplitPass {
+    ghost both = { λ v w. pass_view (v.parts + w.parts) v.sends v.sent v.stops (v.taken ++ w.taken) };
 
-    ghost spent = { tally 0 false 0 0 [] };
+    ghost spent = { pass_view 0 false 0 0 [] };
 }
 
 /// The step of sending.
 pub struct Sends;
 
-impl<C> Outcome<Message<C>, Tally> for Sends {
+impl<C> Outcome<Message<C>, PassView> for Sends {
     ghost then = { λ v x w. w ≡ after_sending v x };
 }
 
-impl<C> Lesson<Message<C>, Tally> for Sends {
+impl<C> Lesson<Message<C>, PassView> for Sends {
     ghost fact = { λ v items. ⊤ };
 }
 
 /// The step of a worker that takes a message.
 pub struct Takes;
 
-impl<C> Outcome<Message<C>, Tally> for Takes {
+impl<C> Outcome<Message<C>, PassView> for Takes {
     ghost then = { λ v x w. (w ≡ after_taking v x) × IsAboveTaken v x };
 }
 
-impl<C> Lesson<Message<C>, Tally> for Takes {
+impl<C> Lesson<Message<C>, PassView> for Takes {
     ghost fact = { λ v items. ⊤ };
 }
 
 /// The step of the whole pass, which takes what no worker took.
 pub struct Drains;
 
-impl<C> Outcome<Message<C>, Tally> for Drains {
+impl<C> Outcome<Message<C>, PassView> for Drains {
     ghost then = { λ v x w. TakesFew v x w };
 }
 
-impl<C> Lesson<Message<C>, Tally> for Drains {
+impl<C> Lesson<Message<C>, PassView> for Drains {
     ghost fact = { λ v items.
         (x : ℕ) → times x v.taken + times x (numbers_of items) ≡ once_below x v.sent };
 }
 
-pub type Sender<C> = RuledSender<Message<C>, Tally, Numbered>;
+pub type Sender<C> = RuledSender<Message<C>, PassView, Numbered>;
 
-pub type Receiver<C> = RuledReceiver<Message<C>, Tally, Numbered>;
+pub type Receiver<C> = RuledReceiver<Message<C>, PassView, Numbered>;
 
-pub type TallyPass<C> = Pass<Message<C>, Tally>;
+pub type ChannelPass<C> = Pass<Message<C>, PassView>;
 
 /// Both ends of a channel, and the doors of the workers that take from it.
 #[derive(Drop)]
-pub struct Ends<C: Drop, B> {
+pub struct ChannelEnds<C: Drop, B> {
     pub sender: Sender<C>,
     pub receiver: Receiver<C>,
     pub doors: Vec<Door<B>>,
@@ -119,7 +119,7 @@ pub enum Found<C> {
 pub fn await_message<C: Drop, R: Wait>(
     rt: &R,
     receiver: &Receiver<C>,
-    pass: &mut TallyPass<C>,
+    pass: &mut ChannelPass<C>,
 ) -> Found<C>
     requires pass { IsSeatAt (receives_on receiver.now) pass.old }
     requires part { 0 < (view pass.old).parts }
@@ -136,7 +136,7 @@ pub fn await_message<C: Drop, R: Wait>(
 pub fn look_for_message<C: Drop, R: Wait>(
     rt: &R,
     receiver: &Receiver<C>,
-    pass: &mut TallyPass<C>,
+    pass: &mut ChannelPass<C>,
 ) -> Found<C>
     requires pass { IsSeatAt (receives_on receiver.now) pass.old }
     requires part { 0 < (view pass.old).parts }
@@ -154,7 +154,7 @@ pub fn look_for_message<C: Drop, R: Wait>(
 pub fn send_connection<C: Drop, R: Wait>(
     rt: &R,
     sender: &Sender<C>,
-    pass: &mut TallyPass<C>,
+    pass: &mut ChannelPass<C>,
     number: u64,
     connection: C,
 ) -> bool
@@ -169,7 +169,7 @@ pub fn send_connection<C: Drop, R: Wait>(
 }
 
 /// Sends a stop message. False where the channel hands it back.
-pub fn send_stop<C: Drop, R: Wait>(rt: &R, sender: &Sender<C>, pass: &mut TallyPass<C>) -> bool
+pub fn send_stop<C: Drop, R: Wait>(rt: &R, sender: &Sender<C>, pass: &mut ChannelPass<C>) -> bool
     requires pass { IsSeatAt (sends_on sender.now) pass.old }
     ensures pass { IsSeatAt (sends_on sender.now) pass.new }
     ensures view { view pass.new ≡ after_stop result (view pass.old) }
@@ -181,12 +181,12 @@ pub fn send_stop<C: Drop, R: Wait>(rt: &R, sender: &Sender<C>, pass: &mut TallyP
 pub fn dismiss<C: Drop, R: Wait>(
     rt: &R,
     sender: &Sender<C>,
-    pass: &mut TallyPass<C>,
+    pass: &mut ChannelPass<C>,
     workers: usize,
 ) -> usize
     requires pass { IsSeatAt (sends_on sender.now) pass.old }
     ensures pass { IsSeatAt (sends_on sender.now) pass.new }
-    ensures view { view pass.new ≡ tally (view pass.old).parts (view pass.old).sends
+    ensures view { view pass.new ≡ pass_view (view pass.old).parts (view pass.old).sends
         (view pass.old).sent (view pass.new).stops (view pass.old).taken }
     ensures each { (view pass.new).stops + result ≡ (view pass.old).stops + workers }
 {
@@ -197,4 +197,26 @@ pub fn dismiss<C: Drop, R: Wait>(
         }
     }
     refused
+}
+
+/// Takes what no worker took.
+pub fn drain<C: Drop, R: Wait>(
+    rt: &R,
+    receiver: &Receiver<C>,
+    pass: &mut ChannelPass<C>,
+    left: &mut Vec<u64>,
+)
+    requires pass { IsSeatAt (receives_on receiver.now) pass.old }
+    requires whole { ((view pass.old).parts ≡ 1024) × ((view pass.old).sends ≡ true) }
+    requires room { (view pass.old).sent + vec_len left.old ≤ vec_capacity left.old }
+    ensures once { (x : ℕ) → times x (view pass.old).taken + times x left.new.items
+        ≡ once_below x (view pass.old).sent + times x left.old.items }
+{
+    for _ in rt.forever() {
+        match receiver.try_recv_as::<Drains, R>(rt, pass) {
+            Ok(Message::Connection(number, _connection)) => left.push_reserved(number),
+            Ok(Message::Stop) => {}
+            Err(_) => return,
+        }
+    }
 }

@@ -9,14 +9,15 @@
 mod accepting;
 mod arrivals;
 mod channel;
-mod crew;
 mod door;
+mod handing_over;
 mod handler;
 mod outcome;
-mod scope;
+mod recalling_workers;
+mod starting_workers;
 mod worker;
 
 pub use arrivals::{Arrival, ArrivalKind, Arrivals};
+pub use handing_over::hand_over;
 pub use handler::{Bell, Handler};
 pub use outcome::{HandOverFault, HandedOver};
-pub use scope::hand_over;

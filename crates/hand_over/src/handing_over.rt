@@ -3,16 +3,17 @@
 ghost use Rattle.std.specs.Prelude.{ℕ, ◌≡◌, ◌+◌, ◌<◌, ◌≤◌, ◌^◌, ◌++◌, true, [], IfOk, OnErr, All, map, vec_len};
 ghost use Rattle.crossbeam_channel.specs.Claims.{view, IsSeatAt};
 ghost use Rattle.crossbeam_channel.specs.Ends.{sends_on, receives_on, ruled_capacity};
-ghost use Rattle.hand_over.specs.ChannelInvariant.{tally};
+ghost use Rattle.hand_over.specs.ChannelInvariant.{pass_view};
 ghost use Rattle.hand_over.specs.Outcome.{IsHandedOver};
 
 use crate::accepting::Unsent;
 use crate::arrivals::Arrivals;
-use crate::channel::{Ends, TallyPass};
-use crate::crew::{Returned, desks_of, drain, start_all};
+use crate::channel::{ChannelEnds, ChannelPass, drain};
 use crate::door::doors_of;
 use crate::handler::Handler;
 use crate::outcome::{HandOverFault, HandedOver};
+use crate::recalling_workers::Returned;
+use crate::starting_workers::{desks_of, start_all};
 use crate::worker::Desk;
 use crossbeam_channel::bounded_with;
 use std::alloc::Global;
@@ -36,8 +37,8 @@ struct Crew<H> {
 fn run<'s, E, A: Arrivals, H: Handler<A::Conn> + Drop + Send + 's, R: Wait + Threads + Sync>(
     scope: &Scope<'s, E>,
     rt: &'s R,
-    ends: &'s Ends<A::Conn, H::Bell>,
-    mut pass: TallyPass<A::Conn>,
+    ends: &'s ChannelEnds<A::Conn, H::Bell>,
+    mut pass: ChannelPass<A::Conn>,
     arrivals: &mut A,
     crew: Crew<H>,
 ) -> Result<HandedOver<H>, HandOverFault>
@@ -46,7 +47,7 @@ where
     H::Bell: Sync,
     requires pass { IsSeatAt (sends_on ends.now.sender) pass
         × (receives_on ends.now.receiver ≡ sends_on ends.now.sender) }
-    requires view { view pass ≡ tally 1024 true 0 0 [] }
+    requires view { view pass ≡ pass_view 1024 true 0 0 [] }
     requires parts { vec_len crew.desks ≤ 64 }
     requires limit { 1 ≤ crew.limit }
     requires room { All (λ d. H.handled d.handler + d.limit < 2 ^ 64) crew.desks.items }
@@ -86,8 +87,8 @@ where
 /// Opens the scope in which the workers run, and gives the arrivals back.
 fn in_scope<'a, A: Arrivals, H: Handler<A::Conn> + Drop + Send, R: Wait + Threads + Sync>(
     rt: &R,
-    ends: &Ends<A::Conn, H::Bell>,
-    pass: TallyPass<A::Conn>,
+    ends: &ChannelEnds<A::Conn, H::Bell>,
+    pass: ChannelPass<A::Conn>,
     arrivals: &'a mut A,
     crew: Crew<H>,
 ) -> (&'a mut A, Result<HandedOver<H>, HandOverFault>)
@@ -96,7 +97,7 @@ where
     H::Bell: Sync,
     requires pass { IsSeatAt (sends_on ends.now.sender) pass
         × (receives_on ends.now.receiver ≡ sends_on ends.now.sender) }
-    requires view { view pass ≡ tally 1024 true 0 0 [] }
+    requires view { view pass ≡ pass_view 1024 true 0 0 [] }
     requires parts { vec_len crew.desks ≤ 64 }
     requires limit { 1 ≤ crew.limit }
     requires room { All (λ d. H.handled d.handler + d.limit < 2 ^ 64) crew.desks.items }
@@ -112,7 +113,7 @@ where
         move |scope| -> (&mut A, Result<HandedOver<H>, HandOverFault>)
             requires pass { IsSeatAt (sends_on ends.now.sender) pass
                 × (receives_on ends.now.receiver ≡ sends_on ends.now.sender) }
-            requires view { view pass ≡ tally 1024 true 0 0 [] }
+            requires view { view pass ≡ pass_view 1024 true 0 0 [] }
             requires parts { vec_len crew.desks ≤ 64 }
             requires limit { 1 ≤ crew.limit }
             requires room { All (λ d. H.handled d.handler + d.limit < 2 ^ 64) crew.desks.items }
@@ -172,7 +173,7 @@ where
     let doors = doors_of(alloc, &handlers)?;
     let desks = desks_of(alloc, handlers, limit as usize)?;
     let (sender, receiver, pass) = bounded_with(alloc, WAITING)?;
-    let ends = Ends {
+    let ends = ChannelEnds {
         sender,
         receiver,
         doors,
