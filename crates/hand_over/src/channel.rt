@@ -24,7 +24,7 @@ pub enum Message<C> {
 /// What a pass knows: how many parts it has of the right to know the whole, whether it is the one
 /// that sends, how many connections and stop messages it sent, and which numbers it took. No value of
 /// it is made.
-pub struct PassView {
+pub struct ChannelPassView {
     pub parts: u64,
     pub sends: bool,
     pub sent: u64,
@@ -35,7 +35,7 @@ pub struct PassView {
 /// The channel's rule.
 pub struct Numbered;
 
-impl<C> Protocol<Message<C>, PassView> for Numbered {
+impl<C> Protocol<Message<C>, ChannelPassView> for Numbered {
     ghost holds = { IsNumbered };
 
     ghost first = { pass_view 1024 true 0 0 [] };
@@ -44,13 +44,13 @@ impl<C> Protocol<Message<C>, PassView> for Numbered {
 /// How a pass is cut in two for a worker, and how two passes are joined.
 pub struct SplitPass;
 
-impl Split<PassView> for SplitPass {
+impl Split<ChannelPassView> for SplitPass {
     ghost left = { λ v. pass_view (v.parts - 1) v.sends v.sent v.stops v.taken };
 
     ghost right = { λ v. pass_view 1 false 0 0 [] };
 }
 
-impl Join<PassView> for SplitPass {
+impl Join<ChannelPassView> for SplitPass {
     ghost both = { λ v w. pass_view (v.parts + w.parts) v.sends v.sent v.stops (v.taken ++ w.taken) };
 
     ghost spent = { pass_view 0 false 0 0 [] };
@@ -59,42 +59,42 @@ impl Join<PassView> for SplitPass {
 /// The step of sending.
 pub struct Sends;
 
-impl<C> Outcome<Message<C>, PassView> for Sends {
+impl<C> Outcome<Message<C>, ChannelPassView> for Sends {
     ghost then = { λ v x w. w ≡ after_sending v x };
 }
 
-impl<C> Lesson<Message<C>, PassView> for Sends {
+impl<C> Lesson<Message<C>, ChannelPassView> for Sends {
     ghost fact = { λ v items. ⊤ };
 }
 
 /// The step of a worker that takes a message.
 pub struct Takes;
 
-impl<C> Outcome<Message<C>, PassView> for Takes {
+impl<C> Outcome<Message<C>, ChannelPassView> for Takes {
     ghost then = { λ v x w. (w ≡ after_taking v x) × IsAboveTaken v x };
 }
 
-impl<C> Lesson<Message<C>, PassView> for Takes {
+impl<C> Lesson<Message<C>, ChannelPassView> for Takes {
     ghost fact = { λ v items. ⊤ };
 }
 
 /// The step of the whole pass, which takes what no worker took.
 pub struct Drains;
 
-impl<C> Outcome<Message<C>, PassView> for Drains {
+impl<C> Outcome<Message<C>, ChannelPassView> for Drains {
     ghost then = { λ v x w. TakesFew v x w };
 }
 
-impl<C> Lesson<Message<C>, PassView> for Drains {
+impl<C> Lesson<Message<C>, ChannelPassView> for Drains {
     ghost fact = { λ v items.
         (x : ℕ) → times x v.taken + times x (numbers_of items) ≡ once_below x v.sent };
 }
 
-pub type Sender<C> = RuledSender<Message<C>, PassView, Numbered>;
+pub type Sender<C> = RuledSender<Message<C>, ChannelPassView, Numbered>;
 
-pub type Receiver<C> = RuledReceiver<Message<C>, PassView, Numbered>;
+pub type Receiver<C> = RuledReceiver<Message<C>, ChannelPassView, Numbered>;
 
-pub type ChannelPass<C> = Pass<Message<C>, PassView>;
+pub type ChannelPass<C> = Pass<Message<C>, ChannelPassView>;
 
 /// Both ends of a channel, and the doors of the workers that take from it.
 #[derive(Drop)]

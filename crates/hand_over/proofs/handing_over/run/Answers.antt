@@ -1,6 +1,6 @@
 use Rattle.std.proofs.Common.{ℕ, List, ◌++◌, ◌-◌, ap, sym, ◌∙◌, arith, rules, length}
 use Rattle.std.proofs.lemmas.List.{length-map}
-use Rattle.hand_over.specs.declared.channel.PassView.{PassView}
+use Rattle.hand_over.specs.declared.channel.ChannelPassView.{ChannelPassView}
 use Rattle.hand_over.specs.ChannelInvariant.{times, once_below}
 use Rattle.hand_over.specs.Outcome.{all_of}
 use Rattle.hand_over.proofs.handing_over.run.Goals as goal
@@ -11,9 +11,9 @@ returns-clause-ok g c =
     let e = c.close.ensures in
     let r = c.recall-in-Ok.ensures in
     let s = c.in-Ok.ensures in
-    let none = ap (λ (w : PassView). w.taken) a.view ∙ ap (λ (w : PassView). w.taken) s.view ∙ ap (λ (w : PassView). w.taken) c.requires.view in
-    let taken = ap (λ (w : PassView). w.taken) r.view ∙ ap (λ (l : List ℕ). l ++ all_of c.recall-in-Ok.new.self.taken.items) none in
-    let sent = ap (λ (w : PassView). w.sent) r.view in
+    let none = ap (λ (w : ChannelPassView). w.taken) a.view ∙ ap (λ (w : ChannelPassView). w.taken) s.view ∙ ap (λ (w : ChannelPassView). w.taken) c.requires.view in
+    let taken = ap (λ (w : ChannelPassView). w.taken) r.view ∙ ap (λ (l : List ℕ). l ++ all_of c.recall-in-Ok.new.self.taken.items) none in
+    let sent = ap (λ (w : ChannelPassView). w.sent) r.view in
     record {
       rise = omega (arith, a.came, e.came);
       once = λ x.
