@@ -3,6 +3,4 @@
 #![tactic(auto)]
 
 #[cfg(test)]
-mod held_connections;
-#[cfg(test)]
 mod recorded_connections;

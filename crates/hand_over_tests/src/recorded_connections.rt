@@ -3,9 +3,7 @@
 ghost use Rattle.std.specs.Prelude.{◌≡◌, Some, ◌+◌, ◌<◌, ◌≤◌, ◌^◌, IfOk, All, vec_len, ⊤};
 ghost use Rattle.hand_over.specs.Arriving.{came_after, kind_of};
 
-use hand_over::{
-    Arrival, ArrivalKind, Arrivals, Bell, HandOverFault, HandedOver, Handler, hand_over,
-};
+use hand_over::{Arrival, ArrivalKind, Arrivals, Bell, HandedOver, Handler, hand_over};
 use std::alloc::{AllocError, AllocGlobal, Global};
 use std::process::Abort;
 use std::sync::Wait;
@@ -14,7 +12,7 @@ use std::thread::Threads;
 
 /// Connections in memory, the numbers from 0 on up to `all`, and then the end, or a fault.
 #[derive(Drop)]
-pub struct Row {
+struct Row {
     all: u64,
     faults: bool,
     next: u64,
@@ -22,7 +20,7 @@ pub struct Row {
     is_closed: bool,
 }
 
-pub fn row_of(all: u64, faults: bool) -> Row {
+fn row_of(all: u64, faults: bool) -> Row {
     Row {
         all,
         faults,
@@ -65,15 +63,32 @@ impl Arrivals for Row {
 /// How long a handler waits at most, in turns of a loop.
 const TURNS: u64 = 1_000_000_000;
 
-/// Notes for each connection who handled it, and as which of its connections: `turn_of` its own number and
-/// of how many it has handled then. That of connection `waits` waits until connection `for_that` is handled.
+/// A hand-over: how many connections come, to how many workers, and how many are accepted at most.
+#[derive(Clone, Copy)]
+struct Course {
+    name: &'static str,
+    connections: u64,
+    workers: u64,
+    limit: u64,
+    /// Accepting fails behind them.
+    faults: bool,
+    /// Which connection waits until which other one is handled.
+    waits: Option<(u64, u64)>,
+    /// Handlers hold connections.
+    holds: bool,
+}
+
+/// Notes for each connection who handled it, and as which of its connections: `turn_of` its own number and of how many
+/// it has handled then. Where its course says so it holds them, and ends one at each third turn.
 #[derive(Drop)]
 struct Recorder<'f> {
     number: u64,
+    course: Course,
+    done: &'f [AtomicU64],
     handled: u64,
     late: bool,
-    waits: Option<(u64, u64)>,
-    done: &'f [AtomicU64],
+    held: usize,
+    turns: u64,
 }
 
 /// The handler's number from 1 on, and behind it in 32 bits which of its connections it is, from 1 on.
@@ -95,11 +110,19 @@ impl<'f> Recorder<'f> {
         }
         false
     }
+
+    /// Whether a connection waits for another in vain.
+    fn is_late(&self, connection: u64) -> bool {
+        match self.course.waits {
+            Some((waiting, other)) => waiting == connection && !self.is_done(other),
+            None => false,
+        }
+    }
 }
 
 /// No bell: a handler that waits for nobody needs none.
 #[derive(Drop)]
-pub struct NoBell;
+struct NoBell;
 
 impl Bell for NoBell {
     fn ring(&self) {}
@@ -121,13 +144,19 @@ impl<'f> Handler<u64> for Recorder<'f> {
     }
 
     fn live(&self) -> usize {
-        0
+        self.held
     }
 
     fn turn<R: Wait>(&mut self, _rt: &R)
         ensures keeps { ⊤ }
         ensures handled { self.new.handled ≡ self.old.handled }
-    {}
+    {
+        self.turns = self.turns.wrapping_add(1);
+        if self.turns.is_multiple_of(3) {
+            self.held = self.held.saturating_sub(1);
+        }
+        std::thread::yield_now();
+    }
 
     fn handle<R: Wait>(&mut self, _rt: &R, connection: u64)
         requires { self.old.handled + 1 < 2 ^ 64 }
@@ -135,10 +164,9 @@ impl<'f> Handler<u64> for Recorder<'f> {
         ensures handled { self.new.handled ≡ self.old.handled + 1 }
     {
         self.handled += 1;
-        if let Some((waiting, other)) = self.waits {
-            if waiting == connection && !self.is_done(other) {
-                self.late = true;
-            }
+        self.late |= self.is_late(connection);
+        if self.course.holds {
+            self.held = self.held.saturating_add(1);
         }
         if let Some(turn) = self.done.get(connection as usize) {
             turn.store(turn_of(self.number, self.handled), Ordering::SeqCst);
@@ -146,30 +174,33 @@ impl<'f> Handler<u64> for Recorder<'f> {
     }
 }
 
-fn recorder_of<'f>(number: u64, done: &'f [AtomicU64], waits: Option<(u64, u64)>) -> Recorder<'f>
+/// A handler that holds nothing. By its number, handlers end connections at different turns.
+fn recorder_of<'f>(number: u64, done: &'f [AtomicU64], course: Course) -> Recorder<'f>
     ensures { result.handled ≡ 0 }
 {
     Recorder {
         number,
+        course,
+        done,
         handled: 0,
         late: false,
-        waits,
-        done,
+        held: 0,
+        turns: number,
     }
 }
 
 fn recorders<'f>(
     alloc: Global,
     done: &'f [AtomicU64],
-    workers: u64,
-    waits: Option<(u64, u64)>,
+    course: Course,
 ) -> Result<Vec<Recorder<'f>>, AllocError>
-    requires { workers ≤ 64 }
-    ensures { IfOk result (λ all. All (λ r. r.handled ≡ 0) all.items × (vec_len all ≡ workers)) }
+    requires { course.workers ≤ 64 }
+    ensures { IfOk result
+        (λ all. All (λ r. r.handled ≡ 0) all.items × (vec_len all ≡ course.workers)) }
 {
     let mut all = Vec::new(alloc);
-    for number in 0..workers {
-        all.push(recorder_of(number, done, waits))?;
+    for number in 0..course.workers {
+        all.push(recorder_of(number, done, course))?;
     }
     Ok(all)
 }
@@ -200,114 +231,146 @@ fn are_handled(recorder: &Recorder<'_>, list: &[u64]) -> bool {
     handled == recorder.handled
 }
 
-/// How many connections were handled, whether each handler handled those of its list in its order, and
-/// whether one waited in vain.
-fn summary(given: &HandedOver<Recorder<'_>>) -> (u64, bool, bool) {
+/// Whether a handler handled its list so, holds nothing any more, and no connection of it waited in vain.
+fn has_ended(recorder: &Recorder<'_>, list: &[u64]) -> bool {
+    recorder.held == 0 && !recorder.late && are_handled(recorder, list)
+}
+
+/// How many connections were handled, where each handler has ended so.
+fn handled(given: &HandedOver<Recorder<'_>>) -> Option<u64> {
     let mut handled = 0u64;
-    let mut are_listed = true;
-    let mut late = false;
-    for (recorder, list) in given.handlers.iter().zip(given.taken.iter()) {
+    for (at, recorder) in given.handlers.iter().enumerate() {
+        if !has_ended(recorder, given.taken.get(at)?) {
+            return None;
+        }
         handled = handled.wrapping_add(recorder.handled);
-        are_listed = are_listed && are_handled(recorder, list);
-        late = late || recorder.late;
     }
-    (handled, are_listed, late)
+    Some(handled)
 }
 
-/// A hand-over: how many connections come, to how many workers, whether accepting fails behind them, and which of them
-/// waits for which other.
-#[derive(Clone, Copy)]
-struct Course {
-    connections: u64,
-    workers: u64,
-    faults: bool,
-    waits: Option<(u64, u64)>,
+/// Whether each connection was handled by the handler in whose list it stands, and none is left.
+fn is_given(given: &HandedOver<Recorder<'_>>, course: Course) -> bool {
+    handled(given) == Some(course.connections)
+        && given.taken.len() as u64 == course.workers
+        && given.left.is_empty()
+        && given.fault == course.faults
 }
 
-fn given<'f, R: Wait + Threads + Sync>(
+/// Whether all connections of a course come, and are handled so.
+fn are_given<R: Wait + Threads + Sync>(
     rt: &R,
     alloc: Global,
     arrivals: &mut Row,
-    done: &'f [AtomicU64],
+    done: &[AtomicU64],
     course: Course,
-) -> Result<HandedOver<Recorder<'f>>, HandOverFault>
-    requires { course.workers ≤ 64 }
+) -> Result<bool, AllocError>
+    requires workers { course.workers ≤ 64 }
+    requires limit { 1 ≤ course.limit }
 {
-    let all = recorders(alloc, done, course.workers, course.waits)?;
-    hand_over(rt, alloc, arrivals, all, 1_000_000)
+    let all = recorders(alloc, done, course)?;
+    match hand_over(rt, alloc, arrivals, all, course.limit) {
+        Ok(given) => Ok(is_given(&given, course)),
+        Err(_) => Ok(false),
+    }
 }
 
-/// Each connection was handled by the handler in whose list it stands, and none is left.
-fn expect_handled<R: Abort>(rt: &R, given: &HandedOver<Recorder<'_>>, course: Course) {
-    assert!(rt; summary(given) == (course.connections, true, false));
-    assert!(rt; given.taken.len() as u64 == course.workers);
-    assert!(rt; given.left.is_empty() && given.fault == course.faults);
+/// Whether a course goes so, and its row is closed then.
+fn goes_so<R: Wait + Threads + Sync>(
+    rt: &R,
+    alloc: Global,
+    course: Course,
+) -> Result<bool, AllocError>
+    requires workers { course.workers ≤ 64 }
+    requires limit { 1 ≤ course.limit }
+{
+    let done = flags(alloc, course.connections)?;
+    let mut row = row_of(course.connections, course.faults);
+    let are_given = are_given(rt, alloc, &mut row, &done, course)?;
+    Ok(are_given && row.next == course.connections && row.is_closed)
 }
 
-/// Hands the connections of a course over: all of them come, and are handled.
-fn expect_handed_over<R: Abort + Wait + Threads + AllocGlobal + Sync>(
+/// Three connections, which go to two handlers that hold none.
+const THREE: Course = Course {
+    name: "three connections go to two handlers",
+    connections: 3,
+    workers: 2,
+    limit: 1_000_000,
+    faults: false,
+    waits: None,
+    holds: false,
+};
+
+/// Two thousand connections, which one handler holds.
+const HELD: Course = Course {
+    name: "a handler holds connections",
+    connections: 2000,
+    workers: 1,
+    limit: 5000,
+    holds: true,
+    ..THREE
+};
+
+const COURSES: [Course; 10] = [
+    THREE,
+    Course {
+        name: "a handler waits for another",
+        waits: Some((0, 1)),
+        ..THREE
+    },
+    Course {
+        name: "closed at once",
+        connections: 0,
+        ..THREE
+    },
+    Course {
+        name: "forty connections go to four handlers",
+        connections: 40,
+        workers: 4,
+        ..THREE
+    },
+    Course {
+        name: "a fault is told",
+        connections: 2,
+        faults: true,
+        ..THREE
+    },
+    Course {
+        name: "many connections go to 64 handlers",
+        connections: 100_000,
+        workers: 64,
+        ..THREE
+    },
+    HELD,
+    Course {
+        name: "two handlers hold connections",
+        workers: 2,
+        ..HELD
+    },
+    Course {
+        name: "three handlers hold connections",
+        workers: 3,
+        ..HELD
+    },
+    Course {
+        name: "four handlers hold connections",
+        workers: 4,
+        ..HELD
+    },
+];
+
+fn expect_so<R: Abort + Wait + Threads + AllocGlobal + Sync>(
     rt: &R,
     course: Course,
-) -> Result<(), AllocError>
-    requires { course.workers ≤ 64 }
-{
-    let done = flags(rt.alloc(), course.connections)?;
-    let mut row = row_of(course.connections, course.faults);
-    match given(rt, rt.alloc(), &mut row, &done, course) {
-        Ok(given) => expect_handled(rt, &given, course),
-        Err(_) => panic!(rt; "refused"),
-    }
-    assert_eq!(rt; row.next, course.connections);
-    assert!(rt; row.is_closed);
+) -> Result<(), AllocError> {
+    assert!(rt; course.workers <= 64 && course.limit >= 1);
+    assert!(rt; goes_so(rt, rt.alloc(), course)?, "{}", course.name);
     Ok(())
 }
 
-/// So many connections, none of which waits, and then the end.
-fn course_of(connections: u64, workers: u64) -> Course
-    ensures { result.workers ≡ workers }
-{
-    Course {
-        connections,
-        workers,
-        faults: false,
-        waits: None,
+#[test]
+fn connections_are_handed_over(rt: HostRuntime) -> Result<(), AllocError> {
+    for course in COURSES.iter() {
+        expect_so(&rt, *course)?;
     }
-}
-
-#[test]
-fn three_connections_go_to_two_handlers(rt: HostRuntime) -> Result<(), AllocError> {
-    expect_handed_over(&rt, course_of(3, 2))
-}
-
-#[test]
-fn a_handler_waits_for_another(rt: HostRuntime) -> Result<(), AllocError> {
-    let course = Course {
-        waits: Some((0, 1)),
-        ..course_of(3, 2)
-    };
-    expect_handed_over(&rt, course)
-}
-
-#[test]
-fn closed_at_once(rt: HostRuntime) -> Result<(), AllocError> {
-    expect_handed_over(&rt, course_of(0, 2))
-}
-
-#[test]
-fn forty_connections_go_to_four_handlers(rt: HostRuntime) -> Result<(), AllocError> {
-    expect_handed_over(&rt, course_of(40, 4))
-}
-
-#[test]
-fn a_fault_is_told(rt: HostRuntime) -> Result<(), AllocError> {
-    let course = Course {
-        faults: true,
-        ..course_of(2, 2)
-    };
-    expect_handed_over(&rt, course)
-}
-
-#[test]
-fn many_connections_go_to_64_handlers(rt: HostRuntime) -> Result<(), AllocError> {
-    expect_handed_over(&rt, course_of(100_000, 64))
+    Ok(())
 }
