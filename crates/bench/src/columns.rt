@@ -124,35 +124,6 @@ fn settle<A: Allocator + Copy>(
     Ok(())
 }
 
-/// Changes rows of a column without pivots, and merges all.
-pub fn plain<R: Runtime>(rt: &R, alloc: Global, run: &Run) -> anyhow::Result<()> {
-    update_after(rt, alloc, run, "plain", 0)
-}
-
-/// The same with 4,096 pivots.
-pub fn with_pivots<R: Runtime>(rt: &R, alloc: Global, run: &Run) -> anyhow::Result<()> {
-    update_after(rt, alloc, run, "pivots", 2048)
-}
-
-/// Changes rows of a column of which `ranges` were selected, and merges all.
-fn update_after<R: Runtime>(
-    rt: &R,
-    alloc: Global,
-    run: &Run,
-    name: &str,
-    ranges: u32,
-) -> anyhow::Result<()> {
-    let mut numbers = Numbers::new(run.seed);
-    let mut column = Column::new(alloc);
-    let mut held = Vec::new(alloc);
-    fill(alloc, &mut column, &mut held, run.rows, &mut numbers)?;
-    settle(&mut column, ranges, &mut numbers)?;
-    let start = Instant::now(rt)?;
-    update(alloc, &mut column, &mut held, UPDATES, &mut numbers)?;
-    column.merge_all()?;
-    run.tell(rt, name, column.len(), start)
-}
-
 /// How a column is changed and merged: after how many ranges were selected, how many rows change
 /// before each merge, and how many merges there are.
 #[derive(Clone, Copy, Debug)]
@@ -162,47 +133,148 @@ pub struct Merges {
     pub times: u32,
 }
 
-/// Changes rows and merges all, many times.
-fn merge_often<A: Allocator + Copy>(
-    alloc: A,
-    column: &mut Column<A>,
-    held: &mut Vec<Row<A>, A>,
-    merges: &Merges,
-    numbers: &mut Numbers,
-) -> Result<(), AllocError>
-    requires { Holds column.old held.old.items }
-{
-    for _ in 0..merges.times {
-        update(alloc, column, held, merges.updates, numbers)?;
-        column.merge_all()?;
+/// A column, the rows that it holds, and the numbers that change both.
+#[derive(Drop)]
+struct Driven {
+    column: Column<Global>,
+    held: Vec<Row<Global>>,
+    numbers: Numbers,
+}
+
+impl Driven {
+    fn new(alloc: Global, seed: u64) -> Self
+        ensures { Holds result.column result.held.items }
+    {
+        Driven {
+            column: Column::new(alloc),
+            held: Vec::new(alloc),
+            numbers: Numbers::new(seed),
+        }
     }
-    Ok(())
+
+    /// Adds so many rows, and counts so many ranges.
+    fn begin(&mut self, alloc: Global, rows: u32, ranges: u32) -> Result<(), AllocError>
+        requires { Holds self.old.column self.old.held.items }
+        ensures { OnOk result (Holds self.new.column self.new.held.items) }
+    {
+        fill(
+            alloc,
+            &mut self.column,
+            &mut self.held,
+            rows,
+            &mut self.numbers,
+        )?;
+        settle(&mut self.column, ranges, &mut self.numbers)
+    }
+
+    /// Gives so many random rows random scores.
+    fn update(&mut self, alloc: Global, count: u32) -> Result<(), AllocError>
+        requires { Holds self.old.column self.old.held.items }
+        ensures { OnOk result (Holds self.new.column self.new.held.items) }
+    {
+        update(
+            alloc,
+            &mut self.column,
+            &mut self.held,
+            count,
+            &mut self.numbers,
+        )
+    }
+
+    /// Changes rows and merges all, as often as is told.
+    fn merge_often(&mut self, alloc: Global, merges: &Merges) -> Result<(), AllocError>
+        requires { Holds self.old.column self.old.held.items }
+    {
+        for _ in 0..merges.times {
+            self.update(alloc, merges.updates)?;
+            self.column.merge_all()?;
+        }
+        Ok(())
+    }
+
+    /// Changes 1,000 rows and counts a range, ten times: how many rows the ranges had.
+    fn count_often(&mut self, alloc: Global) -> Result<usize, AllocError>
+        requires { Holds self.old.column self.old.held.items }
+    {
+        let mut found = 0usize;
+        for _ in 0..10u8 {
+            self.update(alloc, 1000)?;
+            found = found.wrapping_add(count_some(&mut self.column, &mut self.numbers)?);
+        }
+        Ok(found)
+    }
+}
+
+/// Changes rows of a column without pivots, and merges all.
+pub fn plain<R: Runtime>(rt: &R, alloc: Global, run: &Run) -> anyhow::Result<()> {
+    merge_as(rt, alloc, run, "plain", &all_at_once(0))
+}
+
+/// The same with 4,096 pivots.
+pub fn with_pivots<R: Runtime>(rt: &R, alloc: Global, run: &Run) -> anyhow::Result<()> {
+    merge_as(rt, alloc, run, "pivots", &all_at_once(2048))
+}
+
+/// One merge of all that changes, after so many ranges.
+fn all_at_once(ranges: u32) -> Merges {
+    Merges {
+        ranges,
+        updates: UPDATES,
+        times: 1,
+    }
 }
 
 /// Changes rows of a column and merges them, as often as is told.
 pub fn merge<R: Runtime>(rt: &R, alloc: Global, run: &Run, merges: &Merges) -> anyhow::Result<()> {
-    let mut numbers = Numbers::new(run.seed);
-    let mut column = Column::new(alloc);
-    let mut held = Vec::new(alloc);
-    fill(alloc, &mut column, &mut held, run.rows, &mut numbers)?;
-    settle(&mut column, merges.ranges, &mut numbers)?;
+    merge_as(rt, alloc, run, "merge", merges)
+}
+
+/// The same under a name.
+fn merge_as<R: Runtime>(
+    rt: &R,
+    alloc: Global,
+    run: &Run,
+    name: &str,
+    merges: &Merges,
+) -> anyhow::Result<()> {
+    let mut driven = Driven::new(alloc, run.seed);
+    time_merges(rt, alloc, &mut driven, run, name, merges)
+}
+
+/// Fills a column, and tells how long its changes and merges took.
+fn time_merges<R: Runtime>(
+    rt: &R,
+    alloc: Global,
+    driven: &mut Driven,
+    run: &Run,
+    name: &str,
+    merges: &Merges,
+) -> anyhow::Result<()>
+    requires { Holds driven.old.column driven.old.held.items }
+{
+    driven.begin(alloc, run.rows, merges.ranges)?;
     let start = Instant::now(rt)?;
-    merge_often(alloc, &mut column, &mut held, merges, &mut numbers)?;
-    run.tell(rt, "merge", column.len(), start)
+    driven.merge_often(alloc, merges)?;
+    run.tell(rt, name, driven.column.len(), start)
 }
 
 /// Changes 1,000 rows and counts a range, ten times, after 100 ranges were selected.
 pub fn settled<R: Runtime>(rt: &R, alloc: Global, run: &Run) -> anyhow::Result<()> {
-    let mut numbers = Numbers::new(run.seed);
-    let mut column = Column::new(alloc);
-    let mut held = Vec::new(alloc);
-    fill(alloc, &mut column, &mut held, run.rows, &mut numbers)?;
-    settle(&mut column, 100, &mut numbers)?;
+    let mut driven = Driven::new(alloc, run.seed);
+    time_counts(rt, alloc, &mut driven, run)
+}
+
+/// Fills a column, and tells how long its changes and counts took.
+fn time_counts<R: Runtime>(
+    rt: &R,
+    alloc: Global,
+    driven: &mut Driven,
+    run: &Run,
+) -> anyhow::Result<()>
+    requires { Holds driven.old.column driven.old.held.items }
+{
+    driven.begin(alloc, run.rows, 100)?;
     let start = Instant::now(rt)?;
-    let mut found = 0usize;
-    for _ in 0..10u8 {
-        update(alloc, &mut column, &mut held, 1000, &mut numbers)?;
-        found = found.wrapping_add(count_some(&mut column, &mut numbers)?);
-    }
+    let found = driven.count_often(alloc)?;
     run.tell(rt, "settled", found, start)
 }

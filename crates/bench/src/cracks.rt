@@ -32,24 +32,54 @@ fn rows_of<A: Allocator + Copy>(
     Ok(rows)
 }
 
-/// Cracks rows at a random value and at two, and moves them into another list and back. The way
-/// back, into memory that was used before, is the least that any work on all of them costs.
-pub fn cracks<R: Runtime>(rt: &R, alloc: Global, run: &Run) -> anyhow::Result<()> {
-    let mut numbers = Numbers::new(run.seed);
-    let mut rows = rows_of(alloc, run.rows, &mut numbers)?;
+/// Cracks rows at a random value.
+fn crack_at_one<R: Runtime>(
+    rt: &R,
+    rows: &mut [Row<Global>],
+    run: &Run,
+    numbers: &mut Numbers,
+) -> anyhow::Result<()> {
     let value = i64::from(numbers.next());
     let start = Instant::now(rt)?;
-    let place = crack_two(&mut rows, value);
-    run.tell(rt, "two", place, start)?;
-    let mut rows = rows_of(alloc, run.rows, &mut numbers)?;
+    let place = crack_two(rows, value);
+    run.tell(rt, "two", place, start)
+}
+
+/// Cracks rows at two random values.
+fn crack_at_two<R: Runtime>(
+    rt: &R,
+    rows: &mut [Row<Global>],
+    run: &Run,
+    numbers: &mut Numbers,
+) -> anyhow::Result<()> {
     let one = i64::from(numbers.next());
     let other = i64::from(numbers.next());
     let start = Instant::now(rt)?;
-    let (from, to) = crack_three(&mut rows, one.min(other), one.max(other));
-    run.tell(rt, "three", to - from, start)?;
+    let (from, to) = crack_three(rows, one.min(other), one.max(other));
+    run.tell(rt, "three", to - from, start)
+}
+
+/// Moves rows into another list and back. The way back, into memory that was used before, is the least that any work on
+/// all of them costs.
+fn move_back<R: Runtime>(
+    rt: &R,
+    alloc: Global,
+    rows: &mut Vec<Row<Global>>,
+    run: &Run,
+) -> anyhow::Result<()> {
     let mut moved = Vec::new(alloc);
-    moved.append(&mut rows)?;
+    moved.append(rows)?;
     let start = Instant::now(rt)?;
     rows.append(&mut moved)?;
     run.tell(rt, "copy", rows.len(), start)
+}
+
+/// Cracks rows at a random value, and others at two, and moves these.
+pub fn cracks<R: Runtime>(rt: &R, alloc: Global, run: &Run) -> anyhow::Result<()> {
+    let mut numbers = Numbers::new(run.seed);
+    let mut rows = rows_of(alloc, run.rows, &mut numbers)?;
+    crack_at_one(rt, &mut rows, run, &mut numbers)?;
+    let mut rows = rows_of(alloc, run.rows, &mut numbers)?;
+    crack_at_two(rt, &mut rows, run, &mut numbers)?;
+    move_back(rt, alloc, &mut rows, run)
 }
