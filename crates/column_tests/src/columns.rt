@@ -2,7 +2,7 @@ ghost use Rattle.std.specs.Prelude.{◌≡◌, ◌+◌, ◌∷◌, [], count_by,
 ghost use Rattle.crack_kernel.specs.RowBag.{Test};
 ghost use Rattle.ripple_column.specs.Content.{SameContent, content_count};
 
-use crate::steps::{Step, expect_steps, expect_steps_anew};
+use crate::steps::{Bulk, Step, expect_steps_anew};
 use crack_kernel::Row;
 use ripple_column::Column;
 use score_bounds::{Bound, Range};
@@ -57,7 +57,7 @@ pub fn expect_state<R: Abort>(
 }
 
 // Adds ten rows with the scores from 1 on.
-fn add_ten(alloc: Global, column: &mut Column<Global>) -> Result<(), AllocError> {
+pub fn add_ten(alloc: Global, column: &mut Column<Global>) -> Result<(), AllocError> {
     for i in 1..11u8 {
         add(alloc, column, i64::from(i), &[b'm', i])?;
     }
@@ -65,7 +65,8 @@ fn add_ten(alloc: Global, column: &mut Column<Global>) -> Result<(), AllocError>
 }
 
 // Ten rows are cracked; three rows come, and one of them goes again.
-const CRACKED_AND_MERGED: [Step; 10] = [
+const CRACKED_AND_MERGED: [Step; 11] = [
+    Step::Bulk(Bulk::Ten),
     Step::Count(Bound::NegInf, Bound::PosInf, 10),
     Step::Count(Bound::Incl(3), Bound::Incl(6), 4),
     Step::State(&[(3, 2), (7, 6)], 10, (0, 0)),
@@ -78,21 +79,9 @@ const CRACKED_AND_MERGED: [Step; 10] = [
     Step::State(&[(0, 0), (3, 3), (7, 7), (11, 12)], 12, (0, 0)),
 ];
 
-// Ten rows come, and the steps behind them.
-fn expect_ten<R: Abort>(
-    rt: &R,
-    alloc: Global,
-    column: &mut Column<Global>,
-) -> Result<(), AllocError> {
-    add_ten(alloc, column)?;
-    expect_steps(rt, alloc, column, &CRACKED_AND_MERGED)
-}
-
 #[test]
 fn a_range_is_cracked_and_merged(rt: HostRuntime) -> Result<(), AllocError> {
-    let alloc = rt.alloc();
-    let mut column = Column::new(alloc);
-    expect_ten(&rt, alloc, &mut column)
+    expect_steps_anew(&rt, rt.alloc(), &CRACKED_AND_MERGED)
 }
 
 // The row of `a` moves up past the others, and down again.
@@ -140,7 +129,7 @@ fn the_last_row_goes(rt: HostRuntime) -> Result<(), AllocError> {
 }
 
 // Selects 2,048 ranges, of which the first has a row. Their cuts are 4,096 pivots.
-fn select_many<R: Abort>(rt: &R, column: &mut Column<Global>) -> Result<(), AllocError> {
+pub fn select_many<R: Abort>(rt: &R, column: &mut Column<Global>) -> Result<(), AllocError> {
     for i in 0..2048u16 {
         let low = 10 * i64::from(i);
         let want = if i == 0 { 1 } else { 0 };
@@ -150,40 +139,30 @@ fn select_many<R: Abort>(rt: &R, column: &mut Column<Global>) -> Result<(), Allo
     Ok(())
 }
 
-// One more range.
-const DROPPED: [Step; 2] = [
+// A row comes, as many ranges as there may be pivots for, and one more.
+const DROPPED: [Step; 4] = [
+    Step::Add(1, b"a"),
+    Step::Bulk(Bulk::Ranges),
     Step::Count(Bound::Incl(50001), Bound::Incl(50002), 0),
     Step::State(&[(50001, 1), (50003, 1)], 1, (0, 0)),
 ];
 
-// A row comes, as many ranges as there may be pivots for, and one more.
-fn expect_dropped<R: Abort>(
-    rt: &R,
-    alloc: Global,
-    column: &mut Column<Global>,
-) -> Result<(), AllocError> {
-    add(alloc, column, 1, b"a")?;
-    select_many(rt, column)?;
-    expect_steps(rt, alloc, column, &DROPPED)
-}
-
 #[test]
 fn too_many_pivots_are_dropped(rt: HostRuntime) -> Result<(), AllocError> {
-    let alloc = rt.alloc();
-    let mut column = Column::new(alloc);
-    expect_dropped(&rt, alloc, &mut column)
+    expect_steps_anew(&rt, rt.alloc(), &DROPPED)
 }
 
 // Adds as many rows as may wait.
-fn add_full(alloc: Global, column: &mut Column<Global>) -> Result<(), AllocError> {
+pub fn add_full(alloc: Global, column: &mut Column<Global>) -> Result<(), AllocError> {
     for i in 0..2048u16 {
         add(alloc, column, 1, &i.to_be_bytes())?;
     }
     Ok(())
 }
 
-// One more row comes than may wait.
-const FULL: [Step; 5] = [
+// As many rows come as may wait, and one more.
+const FULL: [Step; 6] = [
+    Step::Bulk(Bulk::Full),
     Step::State(&[], 0, (2048, 0)),
     Step::Add(1, b"last"),
     Step::State(&[], 2048, (1, 0)),
@@ -191,40 +170,22 @@ const FULL: [Step; 5] = [
     Step::State(&[], 2049, (0, 0)),
 ];
 
-// As many rows come as may wait, and one more.
-fn expect_full<R: Abort>(
-    rt: &R,
-    alloc: Global,
-    column: &mut Column<Global>,
-) -> Result<(), AllocError> {
-    add_full(alloc, column)?;
-    expect_steps(rt, alloc, column, &FULL)
-}
-
 #[test]
 fn a_full_list_is_merged(rt: HostRuntime) -> Result<(), AllocError> {
-    let alloc = rt.alloc();
-    let mut column = Column::new(alloc);
-    expect_full(&rt, alloc, &mut column)
+    expect_steps_anew(&rt, rt.alloc(), &FULL)
 }
 
 // Adds 4,096 rows with the scores from 0 on, in no order.
-fn fill(alloc: Global, column: &mut Column<Global>) -> Result<(), AllocError> {
+pub fn add_long(alloc: Global, column: &mut Column<Global>) -> Result<(), AllocError> {
     for i in 0..4096u16 {
         add(alloc, column, i64::from(i) * 1021 % 4096, b"m")?;
     }
     column.merge_all()
 }
 
-// A column of these rows.
-pub fn filled(alloc: Global) -> Result<Column<Global>, AllocError> {
-    let mut column = Column::new(alloc);
-    fill(alloc, &mut column)?;
-    Ok(column)
-}
-
 // A row comes and goes again, among the rows of one long piece.
-const SEARCHED: [Step; 7] = [
+const SEARCHED: [Step; 8] = [
+    Step::Bulk(Bulk::Long),
     Step::Add(2000, b"n"),
     Step::Count(Bound::NegInf, Bound::PosInf, 4097),
     Step::Pivots(0),
@@ -236,13 +197,11 @@ const SEARCHED: [Step; 7] = [
 
 #[test]
 fn a_search_cracks_a_long_piece(rt: HostRuntime) -> Result<(), AllocError> {
-    let alloc = rt.alloc();
-    let mut column = filled(alloc)?;
-    expect_steps(&rt, alloc, &mut column, &SEARCHED)
+    expect_steps_anew(&rt, rt.alloc(), &SEARCHED)
 }
 
 // Whether a pivot stands behind ten rows, and not far behind them.
-fn has_short_end(pivots: &[(i64, usize)]) -> bool {
+pub fn has_short_end(pivots: &[(i64, usize)]) -> bool {
     for (_, place) in pivots {
         if *place > 10 && *place < 512 {
             return true;
@@ -251,15 +210,13 @@ fn has_short_end(pivots: &[(i64, usize)]) -> bool {
     false
 }
 
-// The piece of a window is short, and no pivot of it is shown.
-fn expect_narrowed<R: Abort>(rt: &R, column: &mut Column<Global>) {
-    column.narrow(0, 10);
-    assert!(rt; has_short_end(column.piece_list()));
-    expect_state(rt, column, &[], 4096, (0, 0));
-}
-
-// Ranges beside the inner pivots, before and after a row comes.
-const BESIDE_INNER_PIVOTS: [Step; 4] = [
+// The piece of a window is short, and no pivot of it is shown; then ranges beside its inner pivots, before and after a
+// row comes.
+const NARROWED: [Step; 8] = [
+    Step::Bulk(Bulk::Long),
+    Step::Narrow(0, 10),
+    Step::ShortEnd,
+    Step::State(&[], 4096, (0, 0)),
     Step::Count(Bound::Incl(100), Bound::Excl(200), 100),
     Step::Add(50, b"n"),
     Step::Count(Bound::NegInf, Bound::Incl(150), 152),
@@ -268,8 +225,5 @@ const BESIDE_INNER_PIVOTS: [Step; 4] = [
 
 #[test]
 fn a_window_gets_short_pieces(rt: HostRuntime) -> Result<(), AllocError> {
-    let alloc = rt.alloc();
-    let mut column = filled(alloc)?;
-    expect_narrowed(&rt, &mut column);
-    expect_steps(&rt, alloc, &mut column, &BESIDE_INNER_PIVOTS)
+    expect_steps_anew(&rt, rt.alloc(), &NARROWED)
 }

@@ -158,6 +158,17 @@ fn expect_all_gone<R: Abort>(
     Ok(())
 }
 
+// The same of a new column.
+fn expect_gone_anew<R: Abort>(
+    rt: &R,
+    alloc: Global,
+    shape: Shape,
+    leaving: &[Leaving],
+) -> Result<(), AllocError> {
+    let mut column = Column::new(alloc);
+    expect_all_gone(rt, alloc, &mut column, shape, leaving)
+}
+
 const FEW_PIVOTS: Shape = Shape {
     rows: 20_000,
     pivots: 60,
@@ -176,9 +187,7 @@ const AMONG_FEW: [Leaving; 6] = [
 
 #[test]
 fn few_rows_leave_by_a_gap(rt: HostRuntime) -> Result<(), AllocError> {
-    let alloc = rt.alloc();
-    let mut column = Column::new(alloc);
-    expect_all_gone(&rt, alloc, &mut column, FEW_PIVOTS, &AMONG_FEW)
+    expect_gone_anew(&rt, rt.alloc(), FEW_PIVOTS, &AMONG_FEW)
 }
 
 const MANY_PIVOTS: Shape = Shape {
@@ -197,7 +206,5 @@ const AMONG_MANY: [Leaving; 4] = [
 
 #[test]
 fn few_rows_leave_from_among_many_pivots(rt: HostRuntime) -> Result<(), AllocError> {
-    let alloc = rt.alloc();
-    let mut column = Column::new(alloc);
-    expect_all_gone(&rt, alloc, &mut column, MANY_PIVOTS, &AMONG_MANY)
+    expect_gone_anew(&rt, rt.alloc(), MANY_PIVOTS, &AMONG_MANY)
 }

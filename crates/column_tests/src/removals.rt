@@ -1,5 +1,5 @@
-use crate::columns::{add, expect_state, filled};
-use crate::steps::{Step, expect_steps};
+use crate::columns::{add, expect_state};
+use crate::steps::{Bulk, Step, expect_steps_anew};
 use ripple_column::Column;
 use score_bounds::{Bound, Range};
 use std::alloc::{AllocError, Global};
@@ -26,7 +26,7 @@ pub fn remove<R: Abort>(
 }
 
 // Adds ten rows with the scores from 1 on, and makes pivots at 3 and at 7.
-fn fill(alloc: Global, column: &mut Column<Global>) -> Result<(), AllocError> {
+pub fn add_parted(alloc: Global, column: &mut Column<Global>) -> Result<(), AllocError> {
     for i in 1..11u8 {
         add(alloc, column, i64::from(i) * 7 % 11, &[b'm', i])?;
     }
@@ -37,15 +37,9 @@ fn fill(alloc: Global, column: &mut Column<Global>) -> Result<(), AllocError> {
     column.merge_all()
 }
 
-// Takes steps in turn with a column of these rows.
-fn expect_steps_of_ten<R: Abort>(rt: &R, alloc: Global, steps: &[Step]) -> Result<(), AllocError> {
-    let mut column = Column::new(alloc);
-    fill(alloc, &mut column)?;
-    expect_steps(rt, alloc, &mut column, steps)
-}
-
 // The rows between two pivots leave, and another comes there.
-const MIDDLE_REMOVED: [Step; 8] = [
+const MIDDLE_REMOVED: [Step; 9] = [
+    Step::Bulk(Bulk::TenParted),
     Step::State(&[(3, 2), (7, 6)], 10, (0, 0)),
     Step::Remove(Bound::Incl(3), Bound::Incl(6), 4),
     Step::State(&[(3, 2), (7, 2)], 6, (0, 0)),
@@ -58,11 +52,12 @@ const MIDDLE_REMOVED: [Step; 8] = [
 
 #[test]
 fn rows_in_the_middle_leave(rt: HostRuntime) -> Result<(), AllocError> {
-    expect_steps_of_ten(&rt, rt.alloc(), &MIDDLE_REMOVED)
+    expect_steps_anew(&rt, rt.alloc(), &MIDDLE_REMOVED)
 }
 
 // The rows at both ends leave.
-const ENDS_REMOVED: [Step; 5] = [
+const ENDS_REMOVED: [Step; 6] = [
+    Step::Bulk(Bulk::TenParted),
     Step::Remove(Bound::NegInf, Bound::Excl(5), 4),
     Step::State(&[(3, 0), (5, 0), (7, 2)], 6, (0, 0)),
     Step::Remove(Bound::Excl(8), Bound::PosInf, 2),
@@ -72,11 +67,12 @@ const ENDS_REMOVED: [Step; 5] = [
 
 #[test]
 fn rows_at_an_end_leave(rt: HostRuntime) -> Result<(), AllocError> {
-    expect_steps_of_ten(&rt, rt.alloc(), &ENDS_REMOVED)
+    expect_steps_anew(&rt, rt.alloc(), &ENDS_REMOVED)
 }
 
 // All rows leave, and another comes.
-const ALL_REMOVED: [Step; 5] = [
+const ALL_REMOVED: [Step; 6] = [
+    Step::Bulk(Bulk::TenParted),
     Step::Remove(Bound::NegInf, Bound::PosInf, 10),
     Step::State(&[(3, 0), (7, 0)], 0, (0, 0)),
     Step::Add(4, b"new"),
@@ -86,11 +82,12 @@ const ALL_REMOVED: [Step; 5] = [
 
 #[test]
 fn all_rows_leave(rt: HostRuntime) -> Result<(), AllocError> {
-    expect_steps_of_ten(&rt, rt.alloc(), &ALL_REMOVED)
+    expect_steps_anew(&rt, rt.alloc(), &ALL_REMOVED)
 }
 
 // Ranges without rows. One whose ends are the wrong way round has no answer but (0, 0).
-const NONE_REMOVED: [Step; 5] = [
+const NONE_REMOVED: [Step; 6] = [
+    Step::Bulk(Bulk::TenParted),
     Step::Remove(Bound::Incl(20), Bound::Incl(29), 0),
     Step::State(&[(3, 2), (7, 6), (20, 10), (30, 10)], 10, (0, 0)),
     Step::Remove(Bound::Incl(6), Bound::Incl(3), 0),
@@ -100,11 +97,12 @@ const NONE_REMOVED: [Step; 5] = [
 
 #[test]
 fn no_row_leaves(rt: HostRuntime) -> Result<(), AllocError> {
-    expect_steps_of_ten(&rt, rt.alloc(), &NONE_REMOVED)
+    expect_steps_anew(&rt, rt.alloc(), &NONE_REMOVED)
 }
 
 // The greatest score and the least come and leave.
-const EXTREMES_REMOVED: [Step; 6] = [
+const EXTREMES_REMOVED: [Step; 7] = [
+    Step::Bulk(Bulk::TenParted),
     Step::Add(i64::MAX, b"greatest"),
     Step::Add(i64::MIN, b"least"),
     Step::Remove(Bound::Excl(10), Bound::Incl(i64::MAX), 1),
@@ -115,11 +113,12 @@ const EXTREMES_REMOVED: [Step; 6] = [
 
 #[test]
 fn the_least_and_the_greatest_score_leave(rt: HostRuntime) -> Result<(), AllocError> {
-    expect_steps_of_ten(&rt, rt.alloc(), &EXTREMES_REMOVED)
+    expect_steps_anew(&rt, rt.alloc(), &EXTREMES_REMOVED)
 }
 
 // Beside ten rows, one more is taken out while three wait, one of them in the range that is removed.
-const WAITING: [Step; 12] = [
+const WAITING: [Step; 13] = [
+    Step::Bulk(Bulk::TenParted),
     Step::Add(8, b"gone"),
     Step::Count(Bound::Incl(7), Bound::PosInf, 5),
     Step::State(&[(3, 2), (7, 6)], 11, (0, 0)),
@@ -136,7 +135,7 @@ const WAITING: [Step; 12] = [
 
 #[test]
 fn what_waits_outside_the_range_stays(rt: HostRuntime) -> Result<(), AllocError> {
-    expect_steps_of_ten(&rt, rt.alloc(), &WAITING)
+    expect_steps_anew(&rt, rt.alloc(), &WAITING)
 }
 
 // Every pivot parts the rows of the column, inner ones too.
@@ -149,7 +148,7 @@ pub fn expect_parted<R: Abort>(rt: &R, column: &Column<Global>) {
 }
 
 // Of a long piece that was narrowed a range leaves: the inner pivots stay, and its cuts stand beside them.
-fn expect_inner_pivots_stay<R: Abort>(
+pub fn expect_inner_pivots_stay<R: Abort>(
     rt: &R,
     column: &mut Column<Global>,
 ) -> Result<(), AllocError> {
@@ -164,15 +163,18 @@ fn expect_inner_pivots_stay<R: Abort>(
 }
 
 // Adds 64 rows with scores from 2,000 on.
-fn add_behind(alloc: Global, column: &mut Column<Global>) -> Result<(), AllocError> {
+pub fn add_behind(alloc: Global, column: &mut Column<Global>) -> Result<(), AllocError> {
     for i in 0..64u16 {
         add(alloc, column, 2000 + 16 * i64::from(i), b"n")?;
     }
     Ok(())
 }
 
-// Rows that came behind a removed range are counted, and the rows at both ends leave.
-const BEHIND: [Step; 6] = [
+// A range leaves, rows that come behind it are counted, and the rows at both ends leave.
+const GREAT_RANGE_REMOVED: [Step; 9] = [
+    Step::Bulk(Bulk::Long),
+    Step::Bulk(Bulk::InnerPivotsStay),
+    Step::Bulk(Bulk::Behind),
     Step::Count(Bound::Incl(500), Bound::Excl(3500), 2064),
     Step::Parted,
     Step::Remove(Bound::NegInf, Bound::Incl(2500), 1533),
@@ -181,20 +183,7 @@ const BEHIND: [Step; 6] = [
     Step::Parted,
 ];
 
-// A range leaves, rows come behind it, and most rows leave.
-fn expect_great_range_removed<R: Abort>(
-    rt: &R,
-    alloc: Global,
-    column: &mut Column<Global>,
-) -> Result<(), AllocError> {
-    expect_inner_pivots_stay(rt, column)?;
-    add_behind(alloc, column)?;
-    expect_steps(rt, alloc, column, &BEHIND)
-}
-
 #[test]
 fn a_great_range_leaves_beside_inner_pivots(rt: HostRuntime) -> Result<(), AllocError> {
-    let alloc = rt.alloc();
-    let mut column = filled(alloc)?;
-    expect_great_range_removed(&rt, alloc, &mut column)
+    expect_steps_anew(&rt, rt.alloc(), &GREAT_RANGE_REMOVED)
 }

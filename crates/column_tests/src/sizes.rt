@@ -1,14 +1,12 @@
 //! What a column takes, in a heap that counts it: the memory of rows that left, and of lists that were merged, comes
 //! back.
 
-ghost use Rattle.std.specs.Prelude.{◌<◌, ◌≤◌};
-
 use crack_kernel::Row;
 use linked_list_allocator::LocalHeap;
-use ripple_column::Column;
+use ripple_column::{Column, MAX_RESERVED};
 use score_bounds::{Bound, Range};
 use short_bytes::ShortBytes;
-use std::alloc::{AllocError, Allocator};
+use std::alloc::{AllocError, Allocator, Global};
 use std::test::*;
 
 /// A heap with more memory than the columns here need.
@@ -79,22 +77,115 @@ fn turn<A: Allocator + Copy>(
     remove(column, Bound::NegInf, Bound::Excl(low + STEP - WINDOW))
 }
 
-/// Turns a window so many times: its rows then, and the bytes that the heap has given.
+/// The bytes that a heap had given before the last call of a work and behind it, and the rows of its column then.
+#[derive(Clone, Copy)]
+struct Told {
+    rows: usize,
+    before: usize,
+    after: usize,
+}
+
+impl Told {
+    fn given_back(&self) -> usize {
+        self.before.saturating_sub(self.after)
+    }
+}
+
+/// What a heap gives now, with a column that it had given so much before.
+fn told_behind(heap: &LocalHeap, column: &Column<&LocalHeap>, before: usize) -> Told {
+    Told {
+        rows: column.len(),
+        before,
+        after: heap.used(),
+    }
+}
+
+/// Turns a window so many times.
 fn slide<'h>(
     heap: &'h LocalHeap,
     column: &mut Column<&'h LocalHeap>,
     turns: u16,
-) -> Result<(usize, usize), AllocError> {
+) -> Result<usize, AllocError> {
     for number in 0..turns {
         turn(heap, column, number)?;
     }
-    Ok((column.len(), heap.used()))
+    Ok(heap.used())
 }
 
-/// The same of a new column that is turned 750 times.
-fn slid(heap: &LocalHeap) -> Result<(usize, usize), AllocError> {
+/// Removes the rows of a range from 1,000, with members that take blocks of their own.
+fn remove_long<'h>(
+    heap: &'h LocalHeap,
+    column: &mut Column<&'h LocalHeap>,
+    min: Bound,
+    max: Bound,
+) -> Result<usize, AllocError> {
+    fill(heap, column, 1000, &LONG)?;
+    column.merge_all()?;
+    let (from, to) = column.select(&Range { min, max })?;
+    let used = heap.used();
+    column.remove_rows(from, to);
+    Ok(used)
+}
+
+/// Merges so many rows that wait.
+fn merge<'h>(
+    heap: &'h LocalHeap,
+    column: &mut Column<&'h LocalHeap>,
+    rows: u16,
+) -> Result<usize, AllocError> {
+    fill(heap, column, rows, b"m")?;
+    let used = heap.used();
+    column.select(&ALL)?;
+    Ok(used)
+}
+
+/// Gives room back, beside so many rows, for which so many more were to wait.
+fn give_room_back<'h>(
+    heap: &'h LocalHeap,
+    column: &mut Column<&'h LocalHeap>,
+    rows: u16,
+    room: u16,
+) -> Result<usize, AllocError> {
+    fill(heap, column, rows, b"m")?;
+    column.select(&ALL)?;
+    column.reserve_write(usize::from(room).min(MAX_RESERVED))?;
+    let used = heap.used();
+    column.give_back_room();
+    Ok(used)
+}
+
+/// What is done with a new column: the bytes that its heap has given before the last call are told.
+#[derive(Clone, Copy)]
+enum Work {
+    Slide(u16),
+    Remove(Bound, Bound),
+    Merge(u16),
+    GiveRoomBack(u16, u16),
+}
+
+fn work_on<'h>(
+    heap: &'h LocalHeap,
+    column: &mut Column<&'h LocalHeap>,
+    work: Work,
+) -> Result<usize, AllocError> {
+    match work {
+        Work::Slide(turns) => slide(heap, column, turns),
+        Work::Remove(min, max) => remove_long(heap, column, min, max),
+        Work::Merge(rows) => merge(heap, column, rows),
+        Work::GiveRoomBack(rows, room) => give_room_back(heap, column, rows, room),
+    }
+}
+
+fn told_in(heap: &LocalHeap, work: Work) -> Result<Told, AllocError> {
     let mut column = Column::new(heap);
-    slide(heap, &mut column, 750)
+    let before = work_on(heap, &mut column, work)?;
+    Ok(told_behind(heap, &column, before))
+}
+
+/// The same in a heap of its own.
+fn told_of(alloc: Global, work: Work) -> Result<Told, Fail> {
+    let heap = LocalHeap::new(alloc, ROOM)?;
+    Ok(told_in(&heap, work)?)
 }
 
 /// Twice what a window takes with its pivots. The rows that came would take as much again, and more.
@@ -103,9 +194,9 @@ const ENOUGH: usize = 120_000;
 // The rows move up in their vector: it holds a window, and not the 7,500 rows that came.
 #[test]
 fn a_sliding_window_takes_no_more_memory(rt: HostRuntime) -> Result<(), Fail> {
-    let heap = LocalHeap::new(rt.alloc(), ROOM)?;
-    let (rows, bytes) = slid(&heap)?;
-    assert!(rt; rows == 500 && bytes < ENOUGH, "{bytes}");
+    let told = told_of(rt.alloc(), Work::Slide(750))?;
+    let bytes = told.after;
+    assert!(rt; told.rows == 500 && bytes < ENOUGH, "{bytes}");
     Ok(())
 }
 
@@ -118,89 +209,26 @@ const LEAVING: [(Bound, Bound, usize); 4] = [
     (Bound::Incl(500), Bound::Excl(510), 1000),
 ];
 
-/// How many bytes more a heap has once the rows of a range left a new column, with members that take blocks of their
-/// own.
-fn give_back<'h>(
-    heap: &'h LocalHeap,
-    column: &mut Column<&'h LocalHeap>,
-    range: &Range,
-) -> Result<usize, AllocError> {
-    fill(heap, column, 1000, &LONG)?;
-    column.merge_all()?;
-    let (from, to) = column.select(range)?;
-    let used = heap.used();
-    column.remove_rows(from, to);
-    Ok(used.saturating_sub(heap.used()))
-}
-
-fn given_back(heap: &LocalHeap, min: Bound, max: Bound) -> Result<usize, AllocError> {
-    let mut column = Column::new(heap);
-    give_back(heap, &mut column, &Range { min, max })
-}
-
 #[test]
 fn rows_that_left_give_their_blocks_back(rt: HostRuntime) -> Result<(), Fail> {
     for (min, max, least) in LEAVING {
-        let heap = LocalHeap::new(rt.alloc(), ROOM)?;
-        let bytes = given_back(&heap, min, max)?;
+        let bytes = told_of(rt.alloc(), Work::Remove(min, max))?.given_back();
         assert!(rt; bytes >= least, "{bytes}");
     }
     Ok(())
-}
-
-/// The bytes that a new column takes while so many rows wait, and once they were merged.
-fn take<'h>(
-    heap: &'h LocalHeap,
-    column: &mut Column<&'h LocalHeap>,
-    count: u16,
-) -> Result<(usize, usize), AllocError> {
-    fill(heap, column, count, b"m")?;
-    let waiting = heap.used();
-    column.select(&ALL)?;
-    Ok((waiting, heap.used()))
-}
-
-fn taken(heap: &LocalHeap, count: u16) -> Result<(usize, usize), AllocError> {
-    let mut column = Column::new(heap);
-    take(heap, &mut column, count)
 }
 
 // The rows take as much in the column as in their list, which keeps nothing.
 #[test]
 fn a_merged_list_is_given_back(rt: HostRuntime) -> Result<(), Fail> {
     for count in [10u16, 300, 900] {
-        let heap = LocalHeap::new(rt.alloc(), ROOM)?;
-        let (waiting, merged) = taken(&heap, count)?;
+        let Told { before, after, .. } = told_of(rt.alloc(), Work::Merge(count))?;
         assert!(rt;
-            merged <= waiting.saturating_add(waiting / 4),
-            "{count}: {merged}"
+            after <= before.saturating_add(before / 4),
+            "{count}: {after}"
         );
     }
     Ok(())
-}
-
-/// How many bytes more a heap has once a change gave room back, for which so many rows were to wait to be taken out.
-fn give_room_back<'h>(
-    heap: &'h LocalHeap,
-    column: &mut Column<&'h LocalHeap>,
-    rows: u16,
-    room: u16,
-) -> Result<usize, AllocError>
-    requires { room < 1024 }
-{
-    fill(heap, column, rows, b"m")?;
-    column.select(&ALL)?;
-    column.reserve_write(usize::from(room))?;
-    let used = heap.used();
-    column.give_back_room();
-    Ok(used.saturating_sub(heap.used()))
-}
-
-fn room_given_back(heap: &LocalHeap, rows: u16, room: u16) -> Result<usize, AllocError>
-    requires { room < 1024 }
-{
-    let mut column = Column::new(heap);
-    give_room_back(heap, &mut column, rows, room)
 }
 
 /// How many rows a column has, for how many more room was made in each list, and whether that is given back.
@@ -216,8 +244,7 @@ const ROOMS: [(u16, u16, bool); 5] = [
 #[test]
 fn room_that_stays_empty_is_given_back(rt: HostRuntime) -> Result<(), Fail> {
     for (rows, room, is_given_back) in ROOMS {
-        let heap = LocalHeap::new(rt.alloc(), ROOM)?;
-        let bytes = room_given_back(&heap, rows, room)?;
+        let bytes = told_of(rt.alloc(), Work::GiveRoomBack(rows, room))?.given_back();
         let least = if is_given_back {
             usize::from(room) * 64
         } else {

@@ -9,7 +9,7 @@ use short_bytes::ShortBytes;
 use std::alloc::{AllocError, Allocator, Global};
 use std::test::*;
 
-/// The calls of a column that take memory.
+/// The calls of a column that change it.
 #[derive(Clone, Copy)]
 enum Call {
     /// Room for one more row.
@@ -18,6 +18,8 @@ enum Call {
     /// Inner pivots near two places, which is never refused.
     Narrow(usize, usize),
     MergeAll,
+    /// The rows of a range leave, for which the column has an answer.
+    Remove(Range),
 }
 
 const ALL: Range = Range {
@@ -34,6 +36,17 @@ fn is_made<A: Allocator + Copy>(column: &mut Column<A>, call: Call) -> bool {
             true
         }
         Call::MergeAll => column.merge_all().is_ok(),
+        Call::Remove(range) => is_removed(column, &range),
+    }
+}
+
+fn is_removed<A: Allocator + Copy>(column: &mut Column<A>, range: &Range) -> bool {
+    match column.ready(range) {
+        None => false,
+        Some((from, to)) => {
+            column.remove_rows(from, to);
+            true
+        }
     }
 }
 
@@ -83,12 +96,13 @@ fn crack<A: Allocator + Copy>(column: &mut Column<A>, count: u16) -> Result<(), 
 }
 
 /// What a column is filled with before a call: rows that wait, or that were merged and cracked, and behind these
-/// rows that wait.
+/// rows that wait. A window and a range may then be asked for.
 #[derive(Clone, Copy)]
 struct Setup {
     first: u16,
     ranges: u16,
     then: u16,
+    answered: Option<Range>,
 }
 
 fn set_up<A: Allocator + Copy>(
@@ -98,43 +112,85 @@ fn set_up<A: Allocator + Copy>(
 ) -> Result<(), AllocError> {
     fill(alloc, column, setup.first)?;
     crack(column, setup.ranges)?;
-    fill(alloc, column, setup.then)
+    fill(alloc, column, setup.then)?;
+    answer(column, setup.answered)
 }
 
-fn made<A: Allocator + Copy>(alloc: A, setup: Setup) -> Result<Column<A>, AllocError> {
-    let mut column = Column::new(alloc);
-    set_up(alloc, &mut column, setup)?;
-    Ok(column)
+fn answer<A: Allocator + Copy>(
+    column: &mut Column<A>,
+    range: Option<Range>,
+) -> Result<(), AllocError> {
+    if let Some(range) = range {
+        column.narrow(1000, 1010);
+        column.select(&range)?;
+    }
+    Ok(())
 }
 
-/// The scores of the rows with which a column is filled, in order.
-fn scores_of(alloc: Global, setup: Setup) -> Result<Vec<i64>, AllocError> {
+/// Whether a call leaves rows of a score.
+fn leaves(call: Call, score: i64) -> bool {
+    match call {
+        Call::Remove(range) => !range.contains(score),
+        _ => true,
+    }
+}
+
+/// The scores, in order, of the rows with which a column is filled and which a call leaves.
+fn scores_of(alloc: Global, setup: Setup, call: Call) -> Result<Vec<i64>, AllocError> {
     let mut scores = Vec::new(alloc);
     for count in [setup.first, setup.then] {
-        for i in 0..count {
-            scores.push(i64::from(i))?;
-        }
+        push_left(&mut scores, count, call)?;
     }
     scores.sort_unstable();
     Ok(scores)
 }
 
-/// Whether a column has the rows with which it was filled, once all that waits is merged.
+fn push_left(scores: &mut Vec<i64>, count: u16, call: Call) -> Result<(), AllocError> {
+    for i in 0..count {
+        let score = i64::from(i);
+        if leaves(call, score) {
+            scores.push(score)?;
+        }
+    }
+    Ok(())
+}
+
+/// Whether each row has the member that its score names.
+fn are_named<A: Allocator>(rows: &[Row<A>]) -> bool {
+    for row in rows {
+        let name = row.score().to_be_bytes();
+        if name.strip_suffix(row.member()).is_none() {
+            return false;
+        }
+    }
+    true
+}
+
+/// Whether rows have just these scores, which are in order.
+fn have_scores<A: Allocator>(
+    alloc: Global,
+    rows: &[Row<A>],
+    wanted: &[i64],
+) -> Result<bool, AllocError> {
+    let mut scores: Vec<i64> = Vec::new(alloc);
+    for row in rows {
+        scores.push(row.score())?;
+    }
+    scores.sort_unstable();
+    Ok(scores.as_slice() == wanted)
+}
+
+/// Whether a column has the rows that a call leaves, once all that waits is merged.
 fn has_rows_of<A: Allocator + Copy>(
     alloc: Global,
     column: &mut Column<A>,
     setup: Setup,
+    call: Call,
 ) -> Result<bool, AllocError> {
     column.merge_all()?;
     let rows = column.rows(0, column.len());
-    let mut scores: Vec<i64> = rows.iter().map(|row| row.score()).collect(alloc)?;
-    scores.sort_unstable();
-    let are_named = rows.iter().all(|row| row
-        .score()
-        .to_be_bytes()
-        .strip_suffix(row.member())
-        .is_some());
-    Ok(are_named && scores == scores_of(alloc, setup)?)
+    let wanted = scores_of(alloc, setup, call)?;
+    Ok(are_named(rows) && have_scores(alloc, rows, &wanted)?)
 }
 
 /// What came of a call one of whose allocations was refused.
@@ -150,14 +206,15 @@ struct After {
     has_rows: bool,
 }
 
-fn refuse<A: Allocator + Copy>(
-    fuse: &Fuse<Global>,
+fn refuse<'f>(
+    fuse: &'f Fuse<Global>,
     room: Global,
-    column: &mut Column<A>,
+    column: &mut Column<&'f Fuse<Global>>,
     setup: Setup,
     call: Call,
     allocation: u64,
 ) -> Result<After, AllocError> {
+    set_up(fuse, column, setup)?;
     let before = numbers_of(column);
     fuse.arm(allocation);
     let is_made_at_once = is_made(column, call);
@@ -173,20 +230,25 @@ fn refuse<A: Allocator + Copy>(
         has_stayed,
         end: numbers_of(column),
         with_inner: column.piece_list().len(),
-        has_rows: has_rows_of(room, column, setup)?,
+        has_rows: has_rows_of(room, column, setup, call)?,
     })
 }
 
-/// The same with a column that is made first.
-fn refused(
+/// The same with a new column.
+fn refuse_anew(
     fuse: &Fuse<Global>,
     room: Global,
     setup: Setup,
     call: Call,
     allocation: u64,
 ) -> Result<After, AllocError> {
-    let mut column = made(fuse, setup)?;
+    let mut column = Column::new(fuse);
     refuse(fuse, room, &mut column, setup, call, allocation)
+}
+
+fn refused(alloc: Global, setup: Setup, call: Call, allocation: u64) -> Result<After, AllocError> {
+    let fuse = Fuse::new(alloc, 0);
+    refuse_anew(&fuse, alloc, setup, call, allocation)
 }
 
 /// How many allocations of a call were refused, one in each run, how often the call was refused for want of one, and
@@ -198,13 +260,19 @@ struct Points {
     inner: usize,
 }
 
+impl Points {
+    fn are_at_least(&self, least: Least) -> bool {
+        let made = self.all.saturating_sub(self.refused);
+        self.refused >= least.0 && made >= least.1 && self.inner >= least.2
+    }
+}
+
 /// Refuses each allocation of a call, until a run has no more. Each run ends with these numbers and with all rows. A
 /// refused call leaves the column as it was; one that was made all the same did without.
-fn points_of(rt: &HostRuntime, setup: Setup, call: Call, end: Numbers) -> Result<Points, Fail> {
+fn points_of(alloc: Global, setup: Setup, call: Call, end: Numbers) -> Result<Points, Fail> {
     let mut refusals = 0u64;
     for allocation in 1..100u64 {
-        let fuse = Fuse::new(rt.alloc(), 0);
-        let after = refused(&fuse, rt.alloc(), setup, call, allocation)?;
+        let after = refused(alloc, setup, call, allocation)?;
         let is_right = after.is_made || after.has_stayed && !after.is_whole;
         if after.end != end || !is_right || !after.has_rows {
             return Err("neither refused nor made")?;
@@ -231,93 +299,105 @@ const FOUR: Range = Range {
     max: Bound::Incl(6),
 };
 
-// A column of ten rows that wait.
-#[test]
-fn a_first_range_meets_each_refused_allocation(rt: HostRuntime) -> Result<(), Fail> {
-    let setup = Setup {
-        first: 10,
-        ranges: 0,
-        then: 0,
-    };
-    let end = Numbers {
-        rows: 4,
-        pending: (6, 0),
-        pivots: 2,
-    };
-    let points = points_of(&rt, setup, Call::Select(FOUR), end)?;
-    assert!(rt; points.refused >= 1, "{points:?}");
-    Ok(())
-}
+/// No rows.
+const NONE: Setup = Setup {
+    first: 0,
+    ranges: 0,
+    then: 0,
+    answered: None,
+};
 
-// As many pivots as there may be, and two more; a row that waits in front of them goes on waiting.
-#[test]
-fn dropped_pivots_meet_each_refused_allocation(rt: HostRuntime) -> Result<(), Fail> {
-    let setup = Setup {
-        first: 1,
-        ranges: 2048,
-        then: 1,
-    };
-    let end = Numbers {
-        rows: 1,
-        pending: (1, 0),
-        pivots: 2,
-    };
-    let points = points_of(&rt, setup, Call::Select(SCORES), end)?;
-    assert!(rt; points.refused >= 1, "{points:?}");
-    Ok(())
-}
+/// Ten rows that wait.
+const TEN: Setup = Setup { first: 10, ..NONE };
 
-// A full list of rows that wait.
-#[test]
-fn a_full_list_meets_each_refused_allocation(rt: HostRuntime) -> Result<(), Fail> {
-    let setup = Setup {
-        first: 2048,
-        ranges: 0,
-        then: 0,
-    };
-    let end = Numbers {
-        rows: 2048,
-        pending: (0, 0),
-        pivots: 0,
-    };
-    for call in [Call::Reserve, Call::MergeAll] {
-        let points = points_of(&rt, setup, call, end)?;
-        assert!(rt; points.refused >= 1, "{points:?}");
-    }
-    Ok(())
-}
+/// As many pivots as there may be, and a row that waits.
+const CRACKED: Setup = Setup {
+    first: 1,
+    ranges: 2048,
+    then: 1,
+    ..NONE
+};
+
+/// A full list of rows that wait.
+const FULL: Setup = Setup {
+    first: 2048,
+    ..NONE
+};
 
 /// A piece of 4,096 rows, and one that waits behind them.
 const LONG: Setup = Setup {
     first: 4097,
-    ranges: 0,
-    then: 0,
+    ..NONE
 };
 
-/// Calls on a long piece, how many pivots it then shows, and how often each is refused and is made without inner pivots
-/// at the least.
-const LONG_CALLS: [(Call, usize, (u64, u64)); 2] = [
-    (Call::Select(FOUR), 2, (1, 1)),
-    (Call::Narrow(1000, 1010), 0, (0, 1)),
+/// How often a call is refused, how often it is made although an allocation is refused, and how many inner pivots it
+/// leaves, each at the least.
+type Least = (u64, u64, usize);
+
+/// Calls, with the rows, the insertions and deletions that wait, and the shown pivots that each leaves.
+const CALLS: [(&str, Setup, Call, (usize, (usize, usize), usize), Least); 6] = [
+    (
+        "a first range of rows that wait",
+        TEN,
+        Call::Select(FOUR),
+        (4, (6, 0), 2),
+        (1, 0, 0),
+    ),
+    (
+        "two pivots more than there may be, with a row that goes on waiting in front of them",
+        CRACKED,
+        Call::Select(SCORES),
+        (1, (1, 0), 2),
+        (1, 0, 0),
+    ),
+    (
+        "room beside a full list",
+        FULL,
+        Call::Reserve,
+        (2048, (0, 0), 0),
+        (1, 0, 0),
+    ),
+    (
+        "a full list is merged",
+        FULL,
+        Call::MergeAll,
+        (2048, (0, 0), 0),
+        (1, 0, 0),
+    ),
+    (
+        "cuts near the end of a long piece, which does without inner pivots",
+        LONG,
+        Call::Select(FOUR),
+        (4096, (1, 0), 2),
+        (1, 1, 1),
+    ),
+    (
+        "a window of a long piece, which does without inner pivots",
+        LONG,
+        Call::Narrow(1000, 1010),
+        (4096, (1, 0), 0),
+        (0, 1, 1),
+    ),
 ];
 
-// Cuts near its end and a window part the piece at inner pivots.
 #[test]
-fn a_long_piece_does_without_inner_pivots(rt: HostRuntime) -> Result<(), Fail> {
-    for (call, pivots, least) in LONG_CALLS {
+fn calls_meet_each_refused_allocation(rt: HostRuntime) -> Result<(), Fail> {
+    for (name, setup, call, (rows, pending, pivots), least) in CALLS {
         let end = Numbers {
-            rows: 4096,
-            pending: (1, 0),
+            rows,
+            pending,
             pivots,
         };
-        let points = points_of(&rt, LONG, call, end)?;
-        let made = points.all.saturating_sub(points.refused);
-        assert!(rt;
-            points.refused >= least.0 && made >= least.1 && points.inner >= 1,
-            "{points:?}"
-        );
+        let points = points_of(rt.alloc(), setup, call, end)?;
+        assert!(rt; points.are_at_least(least), "{name}: {points:?}");
     }
     Ok(())
+}
+
+/// Whether a call changes a column without an allocation.
+fn is_made_without_memory(alloc: Global, setup: Setup, call: Call) -> Result<bool, AllocError> {
+    let after = refused(alloc, setup, call, 1)?;
+    Ok(after.is_whole && after.is_made && !after.has_stayed && after.has_rows)
 }
 
 /// Ranges near the low end of a column and in its middle, which rows leave.
@@ -330,65 +410,19 @@ const REMOVED: [Range; 3] = [
     ALL,
 ];
 
-/// Whether a column that has an answer for a range lets its rows go without an allocation.
-fn remove_without_memory<A: Allocator + Copy>(
-    fuse: &Fuse<Global>,
-    column: &mut Column<A>,
-    range: &Range,
-) -> Result<bool, AllocError> {
-    column.narrow(1000, 1010);
-    let (from, to) = column.select(range)?;
-    let before = column.len();
-    fuse.arm(1);
-    column.remove_rows(from, to);
-    let is_armed = fuse.is_armed();
-    fuse.arm(0);
-    Ok(is_armed && column.len() < before)
-}
-
-/// The same of a column that is made first.
-fn leaves_without_memory(
-    fuse: &Fuse<Global>,
-    setup: Setup,
-    range: &Range,
-) -> Result<bool, AllocError> {
-    let mut column = made(fuse, setup)?;
-    remove_without_memory(fuse, &mut column, range)
-}
-
 #[test]
 fn rows_leave_without_memory(rt: HostRuntime) -> Result<(), Fail> {
     for first in [10u16, 4097] {
-        let setup = Setup {
-            first,
-            ranges: 0,
-            then: 0,
-        };
         for range in REMOVED {
-            let fuse = Fuse::new(rt.alloc(), 0);
-            assert!(rt; leaves_without_memory(&fuse, setup, &range)?);
+            let setup = Setup {
+                first,
+                answered: Some(range),
+                ..NONE
+            };
+            assert!(rt; is_made_without_memory(rt.alloc(), setup, Call::Remove(range))?);
         }
     }
     Ok(())
-}
-
-/// Whether the rows that wait in a column are merged without an allocation.
-fn merge_without_memory<A: Allocator + Copy>(
-    fuse: &Fuse<Global>,
-    column: &mut Column<A>,
-) -> Result<bool, AllocError> {
-    let waiting = column.pending().0;
-    fuse.arm(1);
-    column.merge_all()?;
-    let is_armed = fuse.is_armed();
-    fuse.arm(0);
-    Ok(is_armed && waiting > 0)
-}
-
-/// The same of a column that is made first.
-fn merges_without_memory(fuse: &Fuse<Global>, setup: Setup) -> Result<bool, AllocError> {
-    let mut column = made(fuse, setup)?;
-    merge_without_memory(fuse, &mut column)
 }
 
 // Beside many rows there is room for those that wait, so that rows can leave where there is none left.
@@ -396,8 +430,10 @@ fn merges_without_memory(fuse: &Fuse<Global>, setup: Setup) -> Result<bool, Allo
 fn rows_beside_many_are_merged_without_memory(rt: HostRuntime) -> Result<(), Fail> {
     for then in [1u16, 100, 2000] {
         let setup = Setup { then, ..LONG };
-        let fuse = Fuse::new(rt.alloc(), 0);
-        assert!(rt; merges_without_memory(&fuse, setup)?, "{then}");
+        assert!(rt;
+            is_made_without_memory(rt.alloc(), setup, Call::MergeAll)?,
+            "{then}"
+        );
     }
     Ok(())
 }

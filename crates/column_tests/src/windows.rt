@@ -1,8 +1,8 @@
 ghost use Rattle.std.specs.Prelude.{◌<◌, ◌≤◌, ◌^◌};
 
-use crate::columns::{add, expect_count, expect_state, filled};
+use crate::columns::{add, expect_count, expect_state};
 use crate::removals::{expect_parted, remove};
-use crate::steps::{Step, expect_steps};
+use crate::steps::{Bulk, Step, expect_steps, expect_steps_anew};
 use crack_kernel::Row;
 use ripple_column::Column;
 use score_bounds::{Bound, Range};
@@ -16,9 +16,22 @@ struct Window {
     scores: Vec<i64>,
 }
 
+// Adds a row whose member is its score.
+fn add_at(alloc: Global, column: &mut Column<Global>, score: i64) -> Result<(), AllocError> {
+    add(alloc, column, score, &score.to_be_bytes())
+}
+
+// Adds so many rows with the scores from 0 on.
+pub fn add_rising(alloc: Global, column: &mut Column<Global>, rows: u16) -> Result<(), AllocError> {
+    for score in 0..rows {
+        add_at(alloc, column, i64::from(score))?;
+    }
+    Ok(())
+}
+
 // Adds a row at the high end.
 fn push(alloc: Global, window: &mut Window, score: i64) -> Result<(), AllocError> {
-    add(alloc, &mut window.column, score, &score.to_be_bytes())?;
+    add_at(alloc, &mut window.column, score)?;
     window.scores.push(score)?;
     Ok(())
 }
@@ -29,16 +42,6 @@ fn fill(alloc: Global, window: &mut Window, len: u16) -> Result<(), AllocError> 
         push(alloc, window, i64::from(score))?;
     }
     Ok(())
-}
-
-// A window of so many rows with the scores from 0 on.
-fn filled_window(alloc: Global, len: u16) -> Result<Window, AllocError> {
-    let mut window = Window {
-        column: Column::new(alloc),
-        scores: Vec::new(alloc),
-    };
-    fill(alloc, &mut window, len)?;
-    Ok(window)
 }
 
 // Takes the first row out.
@@ -143,24 +146,6 @@ fn expect_turns<R: Abort>(
     expect_emptied(rt, alloc, window)
 }
 
-// The same with a new window.
-fn turn_over<R: Abort>(rt: &R, alloc: Global, len: u16, merged: u16) -> Result<(), AllocError>
-    requires some { 0 < len }
-    requires few { len < 2 ^ 14 }
-    requires merged { 0 < merged }
-{
-    let mut window = filled_window(alloc, len)?;
-    expect_turns(rt, alloc, &mut window, len, merged)
-}
-
-#[test]
-fn the_first_row_leaves_again_and_again(rt: HostRuntime) -> Result<(), AllocError> {
-    let alloc = rt.alloc();
-    turn_over(&rt, alloc, 10, 1)?;
-    turn_over(&rt, alloc, 3000, 1)?;
-    turn_over(&rt, alloc, 3000, 64)
-}
-
 // Pivots behind rows that left, and a range.
 const CLOSED_UP: [Step; 3] = [
     Step::State(&[(1, 0), (2, 0), (3, 0)], 10, (0, 0)),
@@ -182,13 +167,6 @@ fn expect_closed_up<R: Abort>(
     slide(rt, alloc, window, 13, 16, 1)?;
     expect_state(rt, &window.column, &SEVEN_PIVOTS, 10, (0, 0));
     Ok(())
-}
-
-#[test]
-fn pivots_close_up_behind_rows_that_left(rt: HostRuntime) -> Result<(), AllocError> {
-    let alloc = rt.alloc();
-    let mut window = filled_window(alloc, 10)?;
-    expect_closed_up(&rt, alloc, &mut window)
 }
 
 // How many rows the first piece with rows has.
@@ -213,15 +191,71 @@ fn expect_short_pieces<R: Abort>(
     expect_rows(rt, alloc, window)
 }
 
+// What is expected of a window.
+#[derive(Clone, Copy)]
+enum Course {
+    // It turns over, with the rows that came merged where their score can be divided by this.
+    Turns(u16),
+    ClosesUp,
+    HasShortPieces,
+}
+
+// Fills a window with so many rows, and expects that of it.
+fn expect_course<R: Abort>(
+    rt: &R,
+    alloc: Global,
+    window: &mut Window,
+    len: u16,
+    course: Course,
+) -> Result<(), AllocError>
+    requires some { 0 < len }
+    requires few { len < 2 ^ 14 }
+{
+    fill(alloc, window, len)?;
+    match course {
+        Course::Turns(merged) => expect_turns(rt, alloc, window, len, merged.max(1)),
+        Course::ClosesUp => expect_closed_up(rt, alloc, window),
+        Course::HasShortPieces => expect_short_pieces(rt, alloc, window),
+    }
+}
+
+// The same of a new window.
+fn expect_of_window<R: Abort>(
+    rt: &R,
+    alloc: Global,
+    len: u16,
+    course: Course,
+) -> Result<(), AllocError>
+    requires some { 0 < len }
+    requires few { len < 2 ^ 14 }
+{
+    let mut window = Window {
+        column: Column::new(alloc),
+        scores: Vec::new(alloc),
+    };
+    expect_course(rt, alloc, &mut window, len, course)
+}
+
+#[test]
+fn the_first_row_leaves_again_and_again(rt: HostRuntime) -> Result<(), AllocError> {
+    for (len, merged) in [(10, 1), (3000, 1), (3000, 64)] {
+        expect_of_window(&rt, rt.alloc(), len, Course::Turns(merged))?;
+    }
+    Ok(())
+}
+
+#[test]
+fn pivots_close_up_behind_rows_that_left(rt: HostRuntime) -> Result<(), AllocError> {
+    expect_of_window(&rt, rt.alloc(), 10, Course::ClosesUp)
+}
+
 #[test]
 fn a_sliding_cut_finds_short_pieces(rt: HostRuntime) -> Result<(), AllocError> {
-    let alloc = rt.alloc();
-    let mut window = filled_window(alloc, 9000)?;
-    expect_short_pieces(&rt, alloc, &mut window)
+    expect_of_window(&rt, rt.alloc(), 9000, Course::HasShortPieces)
 }
 
 // Cuts that move on, below each of which a row waits.
-fn move_on<R: Abort>(
+pub fn move_on<R: Abort>(
     rt: &R,
     alloc: Global,
     column: &mut Column<Global>,
@@ -243,27 +277,21 @@ fn move_on<R: Abort>(
 
 // Its cuts leave many shown pivots close at the low end, and a long piece behind them. A row waits below one of them:
 // the inner pivots of the long piece stay, so that the next cut does not read all of it.
-fn expect_moved_on<R: Abort>(
-    rt: &R,
-    alloc: Global,
-    column: &mut Column<Global>,
-) -> Result<(), AllocError> {
-    move_on(rt, alloc, column, 600)?;
-    add(alloc, column, 5, b"later")?;
-    expect_count(rt, column, Bound::NegInf, Bound::Incl(99), 201)?;
-    assert!(rt; column.piece_list().len() > column.pivot_list().len());
-    Ok(())
-}
+const MOVED_ON: [Step; 5] = [
+    Step::Bulk(Bulk::Rising(9000)),
+    Step::Bulk(Bulk::MovingCuts(600)),
+    Step::Add(5, b"later"),
+    Step::Count(Bound::NegInf, Bound::Incl(99), 201),
+    Step::HasInner(true),
+];
 
 #[test]
 fn cuts_that_move_on_keep_inner_pivots(rt: HostRuntime) -> Result<(), AllocError> {
-    let alloc = rt.alloc();
-    let mut window = filled_window(alloc, 9000)?;
-    expect_moved_on(&rt, alloc, &mut window.column)
+    expect_steps_anew(&rt, rt.alloc(), &MOVED_ON)
 }
 
 // Counts below so many bounds, six scores apart: each is a pivot that is shown.
-fn show_pivots(column: &mut Column<Global>, count: u16) -> Result<(), AllocError> {
+pub fn show_pivots(column: &mut Column<Global>, count: u16) -> Result<(), AllocError> {
     for i in 1..count {
         column.select(&Range {
             min: Bound::NegInf,
@@ -274,7 +302,7 @@ fn show_pivots(column: &mut Column<Global>, count: u16) -> Result<(), AllocError
 }
 
 // How many pivots there are beside those that are shown.
-fn inner_pivots(column: &Column<Global>) -> usize {
+pub fn inner_pivots(column: &Column<Global>) -> usize {
     column
         .piece_list()
         .len()
@@ -282,17 +310,16 @@ fn inner_pivots(column: &Column<Global>) -> usize {
 }
 
 // Counts at new bounds would take longer: each bound goes into two lists of pivots, as long as an inner one is left.
-fn expect_no_inner<R: Abort>(rt: &R, column: &mut Column<Global>) -> Result<(), AllocError> {
-    column.narrow(0, 10);
-    show_pivots(column, 500)?;
-    assert!(rt; inner_pivots(column) > 0);
-    show_pivots(column, 700)?;
-    assert_eq!(rt; inner_pivots(column), 0);
-    Ok(())
-}
+const INNER_ONES_DROPPED: [Step; 6] = [
+    Step::Bulk(Bulk::Long),
+    Step::Narrow(0, 10),
+    Step::Bulk(Bulk::Below(500)),
+    Step::HasInner(true),
+    Step::Bulk(Bulk::Below(700)),
+    Step::HasInner(false),
+];
 
 #[test]
 fn few_inner_pivots_beside_many_are_dropped(rt: HostRuntime) -> Result<(), AllocError> {
-    let mut column = filled(rt.alloc())?;
-    expect_no_inner(&rt, &mut column)
+    expect_steps_anew(&rt, rt.alloc(), &INNER_ONES_DROPPED)
 }
