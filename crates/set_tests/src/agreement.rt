@@ -2,16 +2,50 @@
 
 ghost use Rattle.std.specs.Prelude.{◌≡◌, None};
 
-use crate::columns::{Set, expect_run, new_set, run};
+use crate::big_sets::{agree_on_windows, expect_limits, expect_narrowed, many};
+use crate::columns::{Set, expect_run, run};
 use crate::examples::{command, text_of};
 use crate::questions::{Question, listing_text, plain_reply, plain_rows, random_question};
 use crate::random_changes::{Extent, Plain, next, random_change};
+use crate::trials::{SetTrial, expect_of_set};
 use resp_wire::Reply;
 use std::alloc::Global;
-use std::collections::BTreeMap;
 use std::process::Abort;
 use std::test::*;
 use zset_core::Command;
+
+// How a set and a plain one are changed and asked.
+#[derive(Clone, Copy)]
+pub enum Course {
+    // Windows of twenty members.
+    CutOut,
+    // Random commands on few members.
+    Random,
+    // Windows of many members, with so many scores.
+    Big(u64),
+    // Windows of members with one score.
+    OneScore,
+    // A window of one long piece.
+    Narrowed,
+}
+
+pub fn expect_course<R: Abort>(
+    rt: &R,
+    alloc: Global,
+    set: &mut Set,
+    plain: &mut Plain,
+    course: Course,
+) -> Result<(), Fail>
+    requires { set.old.next ≡ None }
+{
+    match course {
+        Course::CutOut => expect_cut_out(rt, alloc, set, plain),
+        Course::Random => agree(rt, alloc, set, plain),
+        Course::Big(scores) => agree_on_windows(rt, alloc, set, plain, &many(scores)),
+        Course::OneScore => expect_limits(rt, alloc, set, plain),
+        Course::Narrowed => expect_narrowed(rt, alloc, set, plain),
+    }
+}
 
 // The reply of a set as it stands.
 fn told_ready(set: &Set, command: &Command<Global>) -> Result<Reply<Global>, Fail>
@@ -49,8 +83,23 @@ fn expect_ready<R: Abort>(
     Ok(())
 }
 
-// Asks a set, and asks it again as it stands then: both replies are those of the plain set.
-fn expect_listing<R: Abort>(
+// Asks a set, and asks it again as it stands then: both replies are as wanted.
+fn expect_twice<R: Abort>(
+    rt: &R,
+    alloc: Global,
+    set: &mut Set,
+    text: &str,
+    want: &str,
+) -> Result<(), Fail>
+    requires { set.old.next ≡ None }
+    ensures { set.new.next ≡ None }
+{
+    expect_run(rt, alloc, set, text, want)?;
+    expect_ready(rt, alloc, set, text, want)
+}
+
+// Both replies are those of the plain set.
+pub fn expect_listing<R: Abort>(
     rt: &R,
     alloc: Global,
     set: &mut Set,
@@ -62,12 +111,17 @@ fn expect_listing<R: Abort>(
 {
     let want = plain_reply(alloc, plain, asked)?;
     let text = listing_text(alloc, asked)?;
-    expect_run(rt, alloc, set, text.as_str(), want.as_str())?;
-    expect_ready(rt, alloc, set, text.as_str(), want.as_str())
+    expect_twice(rt, alloc, set, text.as_str(), want.as_str())
 }
 
 // Adds a member to a set and to a plain one.
-fn add(alloc: Global, set: &mut Set, plain: &mut Plain, member: u64, score: i64) -> Result<(), Fail>
+pub fn add(
+    alloc: Global,
+    set: &mut Set,
+    plain: &mut Plain,
+    member: u64,
+    score: i64,
+) -> Result<(), Fail>
     requires { set.old.next ≡ None }
     ensures { set.new.next ≡ None }
 {
@@ -144,9 +198,13 @@ fn expect_cut_out<R: Abort>(
 
 #[test]
 fn windows_are_cut_out_of_the_listing(rt: HostRuntime) -> Result<(), Fail> {
-    let mut set = new_set(&rt)?;
-    let mut plain = BTreeMap::new(rt.alloc());
-    expect_cut_out(&rt, rt.alloc(), &mut set, &mut plain)
+    expect_of_set(&rt, SetTrial::Beside(Course::CutOut))
+}
+
+// The reply of a plain set to a count.
+fn plain_count(alloc: Global, plain: &Plain, asked: &Question) -> Result<String, Fail> {
+    let rows = plain_rows(alloc, plain, asked)?;
+    Ok(format!(in alloc; ":{}~", rows.len())?)
 }
 
 // Counts a range of a set, as the plain set has it.
@@ -160,8 +218,7 @@ fn expect_count<R: Abort>(
     requires { set.old.next ≡ None }
     ensures { set.new.next ≡ None }
 {
-    let rows = plain_rows(alloc, plain, asked)?;
-    let want = format!(in alloc; ":{}~", rows.len())?;
+    let want = plain_count(alloc, plain, asked)?;
     let text = format!(in alloc; "ZCOUNT k ({} {}", asked.low, asked.high)?;
     expect_run(rt, alloc, set, text.as_str(), want.as_str())
 }
@@ -173,7 +230,7 @@ const FEW: Extent = Extent {
 };
 
 // A random change of both, by a number.
-fn change(
+pub fn change(
     alloc: Global,
     set: &mut Set,
     plain: &mut Plain,
@@ -221,184 +278,5 @@ fn agree<R: Abort>(rt: &R, alloc: Global, set: &mut Set, plain: &mut Plain) -> R
 
 #[test]
 fn random_commands_agree_with_a_plain_set(rt: HostRuntime) -> Result<(), Fail> {
-    let mut set = new_set(&rt)?;
-    let mut plain = BTreeMap::new(rt.alloc());
-    agree(&rt, rt.alloc(), &mut set, &mut plain)
-}
-
-// Adds the members from 0 on to both.
-fn add_many(alloc: Global, set: &mut Set, plain: &mut Plain, extent: &Extent) -> Result<(), Fail>
-    requires { set.old.next ≡ None }
-    ensures { set.new.next ≡ None }
-{
-    for member in 0..extent.members {
-        add(alloc, set, plain, member, extent.score(next(member + 1)))?;
-    }
-    Ok(())
-}
-
-// A window of a big set, by a number: the lowest ranks, or some in the middle or behind the last.
-fn big_window(number: u64, extent: &Extent) -> Question {
-    let offset = if number % 2 == 0 {
-        0
-    } else {
-        i64::try_from(extent.member(number / 2)).unwrap_or(0)
-    };
-    Question {
-        low: -1,
-        high: 1_000_000_000,
-        with_scores: number % 3 == 0,
-        limit: Some((offset, 10)),
-    }
-}
-
-// A big set is changed, and a window of it asked for after each change.
-fn agree_on_windows<R: Abort>(
-    rt: &R,
-    alloc: Global,
-    set: &mut Set,
-    plain: &mut Plain,
-    extent: &Extent,
-) -> Result<(), Fail>
-    requires { set.old.next ≡ None }
-{
-    add_many(alloc, set, plain, extent)?;
-    let mut number = 1;
-    for _ in 0..6u32 {
-        number = next(number);
-        change(alloc, set, plain, number, extent)?;
-        number = next(number);
-        expect_listing(rt, alloc, set, plain, &big_window(number, extent))?;
-    }
-    Ok(())
-}
-
-// The same of a set that is handed over.
-fn agree_on_big_set<R: Abort>(rt: &R, alloc: Global, set: Set, scores: u64) -> Result<(), Fail>
-    requires { set.next ≡ None }
-{
-    let mut set = set;
-    let mut plain = BTreeMap::new(alloc);
-    let extent = Extent {
-        members: 12_000,
-        scores,
-    };
-    agree_on_windows(rt, alloc, &mut set, &mut plain, &extent)
-}
-
-#[test]
-fn windows_of_big_sets_agree_with_plain_sets(rt: HostRuntime) -> Result<(), Fail> {
-    for scores in [3, 1_000_000] {
-        agree_on_big_set(&rt, rt.alloc(), new_set(&rt)?, scores)?;
-    }
-    Ok(())
-}
-
-// Offsets and counts of LIMIT, near pivots of a set of 1,000 members and between them.
-const LIMITS: [(i64, i64); 8] = [
-    (0, 1),
-    (0, 10),
-    (7, 3),
-    (0, 125),
-    (124, 1),
-    (0, 126),
-    (500, 10),
-    (995, 10),
-];
-
-// A thousand members of one score.
-const OF_ONE_SCORE: Extent = Extent {
-    members: 1_000,
-    scores: 1,
-};
-
-// Asks for the windows of a set of one score.
-fn expect_limits<R: Abort>(
-    rt: &R,
-    alloc: Global,
-    set: &mut Set,
-    plain: &mut Plain,
-) -> Result<(), Fail>
-    requires { set.old.next ≡ None }
-{
-    add_many(alloc, set, plain, &OF_ONE_SCORE)?;
-    for limit in LIMITS {
-        let asked = Question {
-            low: -1,
-            high: 0,
-            with_scores: true,
-            limit: Some(limit),
-        };
-        expect_listing(rt, alloc, set, plain, &asked)?;
-    }
-    Ok(())
-}
-
-#[test]
-fn windows_of_one_score_are_listed(rt: HostRuntime) -> Result<(), Fail> {
-    let mut set = new_set(&rt)?;
-    let mut plain = BTreeMap::new(rt.alloc());
-    expect_limits(&rt, rt.alloc(), &mut set, &mut plain)
-}
-
-// Whether a listing of the ten lowest would read many rows of a set that is ready for it.
-fn is_wide(alloc: Global, set: &Set) -> Result<bool, Fail>
-    requires { set.now.next ≡ None }
-{
-    let command = command(alloc, "ZRANGEBYSCORE k -inf +inf LIMIT 0 10")?;
-    if command.key().is_none() {
-        Err("no key")?;
-    }
-    Ok(set.ready(&command).is_some() && set.ready_by_few(&command).is_none())
-}
-
-// Runs a command: a listing of the ten lowest is wide then, or is not.
-fn expect_wide<R: Abort>(
-    rt: &R,
-    alloc: Global,
-    set: &mut Set,
-    text: &str,
-    wide: bool,
-) -> Result<(), Fail>
-    requires { set.old.next ≡ None }
-    ensures { set.new.next ≡ None }
-{
-    run(alloc, set, text)?;
-    assert_eq!(rt; is_wide(alloc, set)?, wide, "{text}");
-    Ok(())
-}
-
-// Three thousand members of many scores.
-const LONG: Extent = Extent {
-    members: 3_000,
-    scores: 1_000_000,
-};
-
-// Commands on them, and whether a listing of the ten lowest is wide then.
-const NARROWED: [(&str, bool); 3] = [
-    ("ZCOUNT k -inf +inf", true),
-    ("ZRANGEBYSCORE k -inf +inf", true),
-    ("ZRANGEBYSCORE k -inf +inf LIMIT 0 10", false),
-];
-
-fn expect_narrowed<R: Abort>(
-    rt: &R,
-    alloc: Global,
-    set: &mut Set,
-    plain: &mut Plain,
-) -> Result<(), Fail>
-    requires { set.old.next ≡ None }
-{
-    add_many(alloc, set, plain, &LONG)?;
-    for (text, wide) in NARROWED {
-        expect_wide(rt, alloc, set, text, wide)?;
-    }
-    Ok(())
-}
-
-#[test]
-fn a_window_of_a_long_piece_is_narrowed_once(rt: HostRuntime) -> Result<(), Fail> {
-    let mut set = new_set(&rt)?;
-    let mut plain = BTreeMap::new(rt.alloc());
-    expect_narrowed(&rt, rt.alloc(), &mut set, &mut plain)
+    expect_of_set(&rt, SetTrial::Beside(Course::Random))
 }

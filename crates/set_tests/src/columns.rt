@@ -2,17 +2,19 @@ ghost use Rattle.std.specs.Prelude.{◌≡◌, None, false, IfOk, IsTrue};
 ghost use Rattle.zset_core.specs.AbstractCommand.{is_writing};
 
 use crate::examples::{command, text_of};
+use crate::trials::{SetTrial, expect_of_set};
 use resp_wire::Reply;
 use std::alloc::Global;
 use std::hash::RandomState;
 use std::process::Abort;
+use std::random::RandomSource;
 use std::test::*;
 use zset_core::{Command, ZSet};
 
 pub type Set = ZSet<RandomState, Global>;
 
 /// A set without members.
-pub fn new_set(rt: &HostRuntime) -> Result<Set, Fail>
+pub fn new_set<R: AllocGlobal + RandomSource>(rt: &R) -> Result<Set, Fail>
     ensures { IfOk result (λ set. set.next ≡ None) }
 {
     Ok(ZSet::with_hasher(rt.alloc(), RandomState::new(rt)?))
@@ -55,6 +57,15 @@ pub fn run(alloc: Global, set: &mut Set, text: &str) -> Result<Reply<Global>, Fa
     }
 }
 
+/// The bytes of the reply to a command that is run on a set.
+fn reply_of(alloc: Global, set: &mut Set, text: &str) -> Result<String, Fail>
+    requires { set.old.next ≡ None }
+    ensures { set.new.next ≡ None }
+{
+    let reply = run(alloc, set, text)?;
+    text_of(alloc, &reply)
+}
+
 /// Runs a command on a set: the reply is as wanted.
 pub fn expect_run<R: Abort>(
     rt: &R,
@@ -66,8 +77,7 @@ pub fn expect_run<R: Abort>(
     requires { set.old.next ≡ None }
     ensures { set.new.next ≡ None }
 {
-    let told = run(alloc, set, text)?;
-    assert_eq!(rt; text_of(alloc, &told)?.as_str(), want, "{text}");
+    assert_eq!(rt; reply_of(alloc, set, text)?.as_str(), want, "{text}");
     Ok(())
 }
 
@@ -89,7 +99,7 @@ fn note_pivots(alloc: Global, pivots: &[(i64, usize)], out: &mut String) -> Resu
 }
 
 // Commands in turn on one set, with their replies and with the column that they leave.
-fn expect<R: Abort>(
+pub fn expect<R: Abort>(
     rt: &R,
     alloc: Global,
     set: &mut Set,
@@ -103,19 +113,6 @@ fn expect<R: Abort>(
         assert_eq!(rt; state_of(alloc, set)?.as_str(), *state, "{text}");
     }
     Ok(())
-}
-
-// The same on a set that is handed over.
-fn expect_of<R: Abort>(
-    rt: &R,
-    alloc: Global,
-    set: Set,
-    rows: &[(&str, &str, &str)],
-) -> Result<(), Fail>
-    requires { set.next ≡ None }
-{
-    let mut set = set;
-    expect(rt, alloc, &mut set, rows)
 }
 
 /// Commands with the column that each leaves: what waits in a range is merged, and its cuts become pivots.
@@ -138,7 +135,7 @@ const MERGED_AND_CRACKED: [(&str, &str, &str); 6] = [
 
 #[test]
 fn a_range_merges_and_cracks(rt: HostRuntime) -> Result<(), Fail> {
-    expect_of(&rt, rt.alloc(), new_set(&rt)?, &MERGED_AND_CRACKED)
+    expect_of_set(&rt, SetTrial::Rows(&MERGED_AND_CRACKED))
 }
 
 const LEFT: &str = "8 rows +0 -0 (0, 0) (3, 3) (4, 4) (7, 4) (8, 4) (11, 8)";
@@ -173,7 +170,7 @@ const CLOSED_UP: [(&str, &str, &str); 9] = [
 // Rows leave with their range: those behind them and the pivots close up, and no pivot goes.
 #[test]
 fn a_removed_range_closes_up(rt: HostRuntime) -> Result<(), Fail> {
-    expect_of(&rt, rt.alloc(), new_set(&rt)?, &CLOSED_UP)
+    expect_of_set(&rt, SetTrial::Rows(&CLOSED_UP))
 }
 
 /// Commands with the column that each leaves, where rows wait in a range that is removed, and outside it.
@@ -202,7 +199,7 @@ const MERGED_AND_REMOVED: [(&str, &str, &str); 7] = [
 // What waits in a removed range is merged first and leaves with it; what waits outside stays.
 #[test]
 fn what_waits_leaves_with_its_range(rt: HostRuntime) -> Result<(), Fail> {
-    expect_of(&rt, rt.alloc(), new_set(&rt)?, &MERGED_AND_REMOVED)
+    expect_of_set(&rt, SetTrial::Rows(&MERGED_AND_REMOVED))
 }
 
 /// Commands with the column that each leaves, where a member's scores lie in other pieces.
@@ -221,7 +218,7 @@ const MOVED: [(&str, &str, &str); 10] = [
 
 #[test]
 fn a_member_moves_between_pieces(rt: HostRuntime) -> Result<(), Fail> {
-    expect_of(&rt, rt.alloc(), new_set(&rt)?, &MOVED)
+    expect_of_set(&rt, SetTrial::Rows(&MOVED))
 }
 
 /// Commands with the column that each leaves, where the last member goes and another comes.
@@ -237,7 +234,7 @@ const EMPTIED: [(&str, &str, &str); 7] = [
 
 #[test]
 fn the_last_member_leaves_its_pivots(rt: HostRuntime) -> Result<(), Fail> {
-    expect_of(&rt, rt.alloc(), new_set(&rt)?, &EMPTIED)
+    expect_of_set(&rt, SetTrial::Rows(&EMPTIED))
 }
 
 // Counts the scores from `low` on, in a range of its own.
@@ -261,20 +258,19 @@ fn count_all(alloc: Global, set: &mut Set) -> Result<(), Fail>
     Ok(())
 }
 
-// How many pivots there are once there are as many as there may be, and after one count more.
-fn pivots_of(alloc: Global, set: Set) -> Result<(usize, usize), Fail>
-    requires { set.next ≡ None }
+// As many pivots as there may be, and one range more.
+pub fn expect_few_pivots<R: Abort>(rt: &R, alloc: Global, set: &mut Set) -> Result<(), Fail>
+    requires { set.old.next ≡ None }
 {
-    let mut set = set;
-    run(alloc, &mut set, "ZADD k 5 a")?;
-    count_all(alloc, &mut set)?;
-    let most = set.column().pivot_list().len();
-    count_from(alloc, &mut set, 50001)?;
-    Ok((most, set.column().pivot_list().len()))
+    run(alloc, set, "ZADD k 5 a")?;
+    count_all(alloc, set)?;
+    assert_eq!(rt; set.column().pivot_list().len(), 4096);
+    count_from(alloc, set, 50001)?;
+    assert_eq!(rt; set.column().pivot_list().len(), 2);
+    Ok(())
 }
 
 #[test]
 fn pivots_past_the_limit_go(rt: HostRuntime) -> Result<(), Fail> {
-    assert_eq!(rt; pivots_of(rt.alloc(), new_set(&rt)?)?, (4096, 2));
-    Ok(())
+    expect_of_set(&rt, SetTrial::FewPivots)
 }

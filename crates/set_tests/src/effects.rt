@@ -2,7 +2,8 @@
 
 ghost use Rattle.std.specs.Prelude.{◌≡◌, None};
 
-use crate::examples::{Owner, command, new_owner};
+use crate::examples::{Owner, command};
+use crate::trials::{Trial, expect_of_owner};
 use std::alloc::Global;
 use std::hash::RandomState;
 use std::process::Abort;
@@ -100,7 +101,7 @@ const EFFECTS: [(&str, &str); 28] = [
 ];
 
 // Commands in turn on one owner's sets, with the members that they move.
-fn expect_effects<R: Abort>(
+pub fn expect_effects<R: Abort>(
     rt: &R,
     alloc: Global,
     owner: &mut Owner,
@@ -117,8 +118,7 @@ fn expect_effects<R: Abort>(
 
 #[test]
 fn effects_are_told_in_the_order_of_the_command(rt: HostRuntime) -> Result<(), Fail> {
-    let mut owner = new_owner(&rt)?;
-    expect_effects(&rt, rt.alloc(), &mut owner, &EFFECTS)
+    expect_of_owner(&rt, Trial::Effects(&EFFECTS))
 }
 
 // Appends the most pairs of one ZADD: each member's score is its number and some more. They are given as
@@ -144,7 +144,7 @@ fn expect_pairs<R: Abort>(rt: &R, alloc: Global, owner: &mut Owner, more: u32) -
 }
 
 // As many members are added, and then each gets another score.
-fn expect_many<R: Abort>(rt: &R, alloc: Global, owner: &mut Owner) -> Result<(), Fail>
+pub fn expect_many<R: Abort>(rt: &R, alloc: Global, owner: &mut Owner) -> Result<(), Fail>
     requires { owner.old.next ≡ None }
     ensures { owner.new.next ≡ None }
 {
@@ -156,6 +156,5 @@ fn expect_many<R: Abort>(rt: &R, alloc: Global, owner: &mut Owner) -> Result<(),
 
 #[test]
 fn the_longest_effects_are_told(rt: HostRuntime) -> Result<(), Fail> {
-    let mut owner = new_owner(&rt)?;
-    expect_many(&rt, rt.alloc(), &mut owner)
+    expect_of_owner(&rt, Trial::ManyEffects)
 }

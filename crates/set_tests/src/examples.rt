@@ -1,11 +1,13 @@
 ghost use Rattle.std.specs.Prelude.{◌≡◌, None, IfOk, IsSome, OnOk, OnErr, option_map};
 ghost use Rattle.zset_core.specs.AbstractCommand.{key_of};
 
+use crate::trials::{Trial, expect_of_owner};
 use crack_kernel::Row;
 use resp_wire::{Bytes, BytesList, Reply, Request, write_reply};
 use std::alloc::Global;
 use std::hash::RandomState;
 use std::process::Abort;
+use std::random::RandomSource;
 use std::test::*;
 use zset_core::{Command, OneOwner, Outline};
 
@@ -29,7 +31,7 @@ pub fn command(alloc: Global, text: &str) -> Result<Command<Global>, Fail> {
 }
 
 /// An owner without sets.
-pub fn new_owner(rt: &HostRuntime) -> Result<Owner, Fail>
+pub fn new_owner<R: AllocGlobal + RandomSource>(rt: &R) -> Result<Owner, Fail>
     ensures { IfOk result (λ owner. owner.next ≡ None) }
 {
     Ok(OneOwner::new(rt.alloc(), RandomState::new(rt)?))
@@ -143,7 +145,7 @@ const EXAMPLES: [(&str, &str); 67] = [
 ];
 
 // Commands in turn on one owner's sets, with their replies.
-fn expect_replies<R: Abort>(
+pub fn expect_replies<R: Abort>(
     rt: &R,
     alloc: Global,
     owner: &mut Owner,
@@ -160,8 +162,7 @@ fn expect_replies<R: Abort>(
 
 #[test]
 fn examples_are_answered(rt: HostRuntime) -> Result<(), Fail> {
-    let mut owner = new_owner(&rt)?;
-    expect_replies(&rt, rt.alloc(), &mut owner, &EXAMPLES)
+    expect_of_owner(&rt, Trial::Replies(&EXAMPLES))
 }
 
 // What a command that changes sets is prepared to do in its set.
@@ -218,7 +219,7 @@ fn expect_outline<R: Abort>(
 }
 
 // They are those of a set with two members, which stays.
-fn expect_outlines<R: Abort>(rt: &R, alloc: Global, owner: &mut Owner) -> Result<(), Fail>
+pub fn expect_outlines<R: Abort>(rt: &R, alloc: Global, owner: &mut Owner) -> Result<(), Fail>
     requires { owner.old.next ≡ None }
 {
     expect_replies(rt, alloc, owner, &[("ZADD k 1 a 2 b", ":2~")])?;
@@ -230,8 +231,7 @@ fn expect_outlines<R: Abort>(rt: &R, alloc: Global, owner: &mut Owner) -> Result
 
 #[test]
 fn outlines_tell_the_change(rt: HostRuntime) -> Result<(), Fail> {
-    let mut owner = new_owner(&rt)?;
-    expect_outlines(&rt, rt.alloc(), &mut owner)
+    expect_of_owner(&rt, Trial::Outlines)
 }
 
 // Sets at two keys, and one that is gone again.
@@ -267,7 +267,7 @@ fn are_rows(rows: &[Row<Global>], members: &[&[u8]]) -> bool {
     rows.len() == members.len()
 }
 
-fn expect_listed<R: Abort>(rt: &R, alloc: Global, owner: &mut Owner) -> Result<(), Fail>
+pub fn expect_listed<R: Abort>(rt: &R, alloc: Global, owner: &mut Owner) -> Result<(), Fail>
     requires { owner.old.next ≡ None }
 {
     expect_replies(rt, alloc, owner, &TWO_KEYS)?;
@@ -281,6 +281,5 @@ const MEMBERS: [&[u8]; 3] = [b"B", b"a", b"b"];
 
 #[test]
 fn keys_and_pairs_are_listed(rt: HostRuntime) -> Result<(), Fail> {
-    let mut owner = new_owner(&rt)?;
-    expect_listed(&rt, rt.alloc(), &mut owner)
+    expect_of_owner(&rt, Trial::Listed)
 }

@@ -5,6 +5,8 @@
 #[cfg(test)]
 mod agreement;
 #[cfg(test)]
+mod big_sets;
+#[cfg(test)]
 mod columns;
 #[cfg(test)]
 mod cracks;
@@ -22,3 +24,5 @@ mod readings;
 mod score_texts;
 #[cfg(test)]
 mod sizes;
+#[cfg(test)]
+mod trials;

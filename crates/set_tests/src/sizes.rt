@@ -2,7 +2,8 @@
 
 ghost use Rattle.std.specs.Prelude.{◌≡◌, None};
 
-use crate::examples::{Owner, new_owner, reply_to};
+use crate::examples::{Owner, reply_to};
+use crate::trials::{Trial, expect_of_owner};
 use ripple_column::Column;
 use std::alloc::Global;
 use std::process::Abort;
@@ -53,14 +54,22 @@ fn expect(alloc: Global, owner: &mut Owner, talk: &[(&str, &str)]) -> Result<(),
     Ok(())
 }
 
+/// 500 members are added, from a number on.
+fn add_more(alloc: Global, owner: &mut Owner, from: u32) -> Result<(), Fail>
+    requires { owner.old.next ≡ None }
+    ensures { owner.new.next ≡ None }
+{
+    let text = addition(alloc, from, 500)?;
+    expect_one(alloc, owner, text.as_str(), ":500~")
+}
+
 /// A set of so many times 500 members.
 fn fill(alloc: Global, owner: &mut Owner, times: u32) -> Result<(), Fail>
     requires { owner.old.next ≡ None }
     ensures { owner.new.next ≡ None }
 {
     for turn in 0..times {
-        let text = addition(alloc, turn.saturating_mul(500), 500)?;
-        expect_one(alloc, owner, text.as_str(), ":500~")?;
+        add_more(alloc, owner, turn.saturating_mul(500))?;
     }
     Ok(())
 }
@@ -76,21 +85,49 @@ fn expect_one(alloc: Global, owner: &mut Owner, text: &str, wanted: &str) -> Res
     Ok(())
 }
 
+/// So many members are added from `m0` on, all of which are new.
+fn expect_added(alloc: Global, owner: &mut Owner, pairs: u32) -> Result<(), Fail>
+    requires { owner.old.next ≡ None }
+    ensures { owner.new.next ≡ None }
+{
+    let wanted = format!(in alloc; ":{pairs}~")?;
+    let text = addition(alloc, 0, pairs)?;
+    expect_one(alloc, owner, text.as_str(), wanted.as_str())
+}
+
+/// A removal of so many names takes so many members out.
+fn expect_removed(alloc: Global, owner: &mut Owner, names: u32, members: u32) -> Result<(), Fail>
+    requires { owner.old.next ≡ None }
+    ensures { owner.new.next ≡ None }
+{
+    let wanted = format!(in alloc; ":{members}~")?;
+    let text = removal(alloc, names)?;
+    expect_one(alloc, owner, text.as_str(), wanted.as_str())
+}
+
+/// As many names as there may be, each of a missing member.
+fn expect_none_removed(alloc: Global, owner: &mut Owner) -> Result<(), Fail>
+    requires { owner.old.next ≡ None }
+    ensures { owner.new.next ≡ None }
+{
+    let text = removal_of_one_name(alloc)?;
+    expect_one(alloc, owner, text.as_str(), ":0~")
+}
+
 /// Words that name a missing member, that add members, and that take them and more out again.
-fn expect_longest(alloc: Global, owner: &mut Owner) -> Result<(), Fail>
+pub fn expect_longest(alloc: Global, owner: &mut Owner) -> Result<(), Fail>
     requires { owner.old.next ≡ None }
 {
-    expect_one(alloc, owner, removal_of_one_name(alloc)?.as_str(), ":0~")?;
-    expect_one(alloc, owner, addition(alloc, 0, PAIRS)?.as_str(), ":512~")?;
+    expect_none_removed(alloc, owner)?;
+    expect_added(alloc, owner, PAIRS)?;
     expect_one(alloc, owner, "ZCOUNT k 100 199", ":100~")?;
-    expect_one(alloc, owner, removal(alloc, NAMES)?.as_str(), ":512~")?;
+    expect_removed(alloc, owner, NAMES, PAIRS)?;
     expect_one(alloc, owner, "ZCARD k", ":0~")
 }
 
 #[test]
 fn the_longest_commands_are_answered(rt: HostRuntime) -> Result<(), Fail> {
-    let mut owner = new_owner(&rt)?;
-    expect_longest(rt.alloc(), &mut owner)
+    expect_of_owner(&rt, Trial::Longest)
 }
 
 /// Commands with their replies, in which `_` stands for a long member.
@@ -101,32 +138,52 @@ const OF_A_LONG_MEMBER: [(&str, &str); 4] = [
     ("ZRANGEBYSCORE k 5 5", "*0~"),
 ];
 
-fn expect_kept(alloc: Global, owner: &mut Owner, member: &str) -> Result<(), Fail>
+/// One of these, with that member.
+fn expect_of_member(
+    alloc: Global,
+    owner: &mut Owner,
+    member: &str,
+    row: (&str, &str),
+) -> Result<(), Fail>
+    requires { owner.old.next ≡ None }
+    ensures { owner.new.next ≡ None }
+{
+    let text = row.0.replace(alloc, "_", member)?;
+    let wanted = row.1.replace(alloc, "_", member)?;
+    expect_one(alloc, owner, text.as_str(), wanted.as_str())
+}
+
+pub fn expect_kept(alloc: Global, owner: &mut Owner) -> Result<(), Fail>
     requires { owner.old.next ≡ None }
 {
-    for (text, wanted) in OF_A_LONG_MEMBER {
-        let wanted = wanted.replace(alloc, "_", member)?;
-        let text = text.replace(alloc, "_", member)?;
-        expect_one(alloc, owner, text.as_str(), wanted.as_str())?;
+    let member = "m".repeat(alloc, MEMBER)?;
+    for row in OF_A_LONG_MEMBER {
+        expect_of_member(alloc, owner, &member, row)?;
     }
     Ok(())
 }
 
 #[test]
 fn the_longest_member_is_kept(rt: HostRuntime) -> Result<(), Fail> {
-    let member = "m".repeat(rt.alloc(), MEMBER)?;
-    let mut owner = new_owner(&rt)?;
-    expect_kept(rt.alloc(), &mut owner, &member)
+    expect_of_owner(&rt, Trial::LongMember)
+}
+
+/// A member of so many bytes is added.
+fn expect_length(alloc: Global, owner: &mut Owner, bytes: usize) -> Result<(), Fail>
+    requires { owner.old.next ≡ None }
+    ensures { owner.new.next ≡ None }
+{
+    let member = "m".repeat(alloc, bytes)?;
+    let text = format!(in alloc; "ZADD k {bytes} {member}")?;
+    expect_one(alloc, owner, text.as_str(), ":1~")
 }
 
 /// Members of each length up to 299 bytes are kept.
-fn expect_each_length(alloc: Global, owner: &mut Owner) -> Result<(), Fail>
+pub fn expect_each_length(alloc: Global, owner: &mut Owner) -> Result<(), Fail>
     requires { owner.old.next ≡ None }
 {
     for bytes in 0..300usize {
-        let member = "m".repeat(alloc, bytes)?;
-        let text = format!(in alloc; "ZADD k {bytes} {member}")?;
-        expect_one(alloc, owner, text.as_str(), ":1~")?;
+        expect_length(alloc, owner, bytes)?;
     }
     expect_one(alloc, owner, "ZCARD k", ":300~")
 }
@@ -134,8 +191,7 @@ fn expect_each_length(alloc: Global, owner: &mut Owner) -> Result<(), Fail>
 // There is memory, so none is refused.
 #[test]
 fn members_of_each_length_are_kept(rt: HostRuntime) -> Result<(), Fail> {
-    let mut owner = new_owner(&rt)?;
-    expect_each_length(rt.alloc(), &mut owner)
+    expect_of_owner(&rt, Trial::EachLength)
 }
 
 /// From which number of names on, and before which, a removal of each is asked for: few ones, and the most.
@@ -147,19 +203,8 @@ fn expect_number(alloc: Global, owner: &mut Owner, names: u32) -> Result<(), Fai
     ensures { owner.new.next ≡ None }
 {
     let pairs = names.min(PAIRS);
-    let wanted = format!(in alloc; ":{pairs}~")?;
-    expect_one(
-        alloc,
-        owner,
-        addition(alloc, 0, pairs)?.as_str(),
-        wanted.as_str(),
-    )?;
-    expect_one(
-        alloc,
-        owner,
-        removal(alloc, names)?.as_str(),
-        wanted.as_str(),
-    )
+    expect_added(alloc, owner, pairs)?;
+    expect_removed(alloc, owner, names, pairs)
 }
 
 /// The same for each number from one on and before another.
@@ -173,7 +218,7 @@ fn expect_numbers(alloc: Global, owner: &mut Owner, from: u32, to: u32) -> Resul
     Ok(())
 }
 
-fn expect_each_number(alloc: Global, owner: &mut Owner) -> Result<(), Fail>
+pub fn expect_each_number(alloc: Global, owner: &mut Owner) -> Result<(), Fail>
     requires { owner.old.next ≡ None }
 {
     for (from, to) in NUMBERS_OF_NAMES {
@@ -184,8 +229,7 @@ fn expect_each_number(alloc: Global, owner: &mut Owner) -> Result<(), Fail>
 
 #[test]
 fn commands_of_each_length_are_answered(rt: HostRuntime) -> Result<(), Fail> {
-    let mut owner = new_owner(&rt)?;
-    expect_each_number(rt.alloc(), &mut owner)
+    expect_of_owner(&rt, Trial::EachNumber)
 }
 
 /// Commands on 120,000 members, with their replies.
@@ -205,7 +249,7 @@ const OF_A_LARGE_SET: [(&str, &str); 9] = [
 ];
 
 /// Commands in turn on a set of so many times 500 members, with their replies.
-fn expect_of_members(
+pub fn expect_of_members(
     alloc: Global,
     owner: &mut Owner,
     times: u32,
@@ -220,8 +264,7 @@ fn expect_of_members(
 
 #[test]
 fn a_large_set_is_answered(rt: HostRuntime) -> Result<(), Fail> {
-    let mut owner = new_owner(&rt)?;
-    expect_of_members(rt.alloc(), &mut owner, 240, &OF_A_LARGE_SET)
+    expect_of_owner(&rt, Trial::OfMembers(240, &OF_A_LARGE_SET))
 }
 
 /// How many rows stand between the pivots around a place.
@@ -246,7 +289,7 @@ fn rows_of_k(owner: &Owner, place: usize) -> usize {
 }
 
 // A window of a long set leaves short pieces, so that the next one reads few rows.
-fn expect_short_pieces<R: Abort>(rt: &R, alloc: Global, owner: &mut Owner) -> Result<(), Fail>
+pub fn expect_short_pieces<R: Abort>(rt: &R, alloc: Global, owner: &mut Owner) -> Result<(), Fail>
     requires { owner.old.next ≡ None }
 {
     expect_of_members(alloc, owner, 9, &[("ZCOUNT k -inf +inf", ":4500~")])?;
@@ -259,8 +302,7 @@ fn expect_short_pieces<R: Abort>(rt: &R, alloc: Global, owner: &mut Owner) -> Re
 
 #[test]
 fn a_window_leaves_short_pieces(rt: HostRuntime) -> Result<(), Fail> {
-    let mut owner = new_owner(&rt)?;
-    expect_short_pieces(&rt, rt.alloc(), &mut owner)
+    expect_of_owner(&rt, Trial::ShortPieces)
 }
 
 /// Commands on 120,000 members, with their replies.
@@ -277,6 +319,5 @@ const GREAT_RANGES: [(&str, &str); 8] = [
 
 #[test]
 fn a_great_range_is_removed(rt: HostRuntime) -> Result<(), Fail> {
-    let mut owner = new_owner(&rt)?;
-    expect_of_members(rt.alloc(), &mut owner, 240, &GREAT_RANGES)
+    expect_of_owner(&rt, Trial::OfMembers(240, &GREAT_RANGES))
 }

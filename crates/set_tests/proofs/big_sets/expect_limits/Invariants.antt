@@ -1,5 +1,5 @@
 use Rattle.std.proofs.Common.{◌≡◌, None}
-use Rattle.set_tests.proofs.agreement.expect_limits.Given as goal
+use Rattle.set_tests.proofs.big_sets.expect_limits.Given as goal
 
 abbrev pub invariant-loop-limit : goal.invariant-loop-limit
 invariant-loop-limit g l = l.set.next ≡ None
