@@ -1,5 +1,6 @@
 pub mod RecordTexts
 pub mod LogInvariant
+pub mod AppendRefusals
 pub mod PrefixReload
 pub mod ReplayLemmas
 pub mod ReloadFaults

@@ -140,15 +140,15 @@ told_broken (Some bytes) records synced settled appended written true s = s
 told_broken (Some bytes) records synced settled appended written false s = ends_unsettled bytes records synced settled appended written s
 
 -- an append that went well puts its record behind those that stand
-pub has_appends : (old new : LogView) (entry : Record) (records : List Record) → old.broken ≡ false → old.settled ≤ old.appended → IsRecord entry → Appends old new (request entry) → HasRecords old records → HasRecords new (records ++ entry ∷ [])
-has_appends old new entry records good within is a has =
-    let was = rw good at has in
-    rw (a.told, a.appended, a.settled, a.written, a.broken, good) (told_appends old.told records old.synced old.settled new.synced old.appended old.written old.deferred entry is within was (λ at_once. rw a.told at (a.synced at_once)) a.unsynced)
+pub has_appends : (old new : LogView) (entry : Record) (records : List Record) → old.settled ≤ old.appended → IsRecord entry → Appends old new (request entry) → HasRecords old records → HasRecords new (records ++ entry ∷ [])
+has_appends old new entry records within is a has =
+    let was = rw a.unbroken at has in
+    rw (a.told, a.appended, a.settled, a.written, a.broken, a.unbroken) (told_appends old.told records old.synced old.settled new.synced old.appended old.written old.deferred entry is within was (λ at_once. rw a.told at (a.synced at_once)) a.unsynced)
 
 -- one that failed leaves those that stand
-pub has_breaks : (old new : LogView) (entry : Record) (records : List Record) → old.broken ≡ false → IsRecord entry → Breaks old new (request entry) → HasRecords old records → HasRecords new records
-has_breaks old new entry records good is b has =
-    let was = rw good at has in
+pub has_breaks : (old new : LogView) (entry : Record) (records : List Record) → IsRecord entry → Breaks old new (request entry) → HasRecords old records → HasRecords new records
+has_breaks old new entry records is b has =
+    let was = rw b.unbroken at has in
     rw (b.told, b.synced, b.appended, b.settled, b.written, b.broken) (told_breaks old.told records old.synced old.settled old.appended old.written b.out entry is b.at_most was)
 
 -- a sync settles those that stand
@@ -157,9 +157,9 @@ has_settled old new records good b waited has =
     let was = rw good at has in
     rw (b.told, b.appended, b.settled, b.written, b.broken, good) (told_settles old.told records old.synced old.settled new.synced old.appended old.written was (rw b.told at (b.synced waited)))
 
-pub has_unsettled : (old new : LogView) (records : List Record) → old.broken ≡ false → Unsettled old new → HasRecords old records → HasRecords new records
-has_unsettled old new records good b has =
-    let was = rw good at has in
+pub has_unsettled : (old new : LogView) (records : List Record) → Unsettled old new → HasRecords old records → HasRecords new records
+has_unsettled old new records b has =
+    let was = rw b.unbroken at has in
     rw (b.told, b.synced, b.appended, b.settled, b.written, b.broken) (told_broken old.told records old.synced old.settled old.appended old.written false was)
 
 by_mode : (deferred : Bool) (settled appended : ℕ) → settled ≤ appended → settled_with deferred settled (appended + 1) ≤ appended + 1
@@ -170,13 +170,13 @@ by_mode-at_once : (deferred : Bool) (settled appended : ℕ) → deferred ≡ fa
 by_mode-at_once true settled appended is = absurd (let no : true ≡ false = is in cc)
 by_mode-at_once false settled appended is = refl
 
-pub is_log_appends : (old new : LogView) (entry : Record) → IsLog old → old.broken ≡ false → old.appended < old.limit → IsRecord entry → length (request entry) < 2 ^ 64 → Appends old new (request entry) → IsLog new
-is_log_appends old new entry log good room is fits a =
-    let before = log.small_whole good in
+pub is_log_appends : (old new : LogView) (entry : Record) → IsLog old → IsRecord entry → length (request entry) < 2 ^ 64 → Appends old new (request entry) → IsLog new
+is_log_appends old new entry log is fits a =
+    let before = log.small_whole a.unbroken in
     record {
       records = log.records ++ entry ∷ [];
-      stands = has_appends old new entry log.records good log.settled_within is a log.stands;
-      within = omega (arith, a.appended, a.limit, room);
+      stands = has_appends old new entry log.records log.settled_within is a log.stands;
+      within = omega (arith, a.appended, a.limit, log.within, a.room);
       settled_within = rw (a.settled, a.appended) (by_mode old.deferred old.settled old.appended log.settled_within);
       at_once = λ mode. a.settled ∙ by_mode-at_once old.deferred old.settled old.appended (sym a.deferred ∙ mode) ∙ sym a.appended;
       limited = omega (arith, a.limit, log.limited);
@@ -185,12 +185,12 @@ is_log_appends old new entry log good room is fits a =
       has_part = omega (arith, a.parts, log.has_part);
     }
 
-pub is_log_breaks : (old new : LogView) (entry : Record) → IsLog old → old.broken ≡ false → IsRecord entry → length (request entry) < 2 ^ 64 → Breaks old new (request entry) → IsLog new
-is_log_breaks old new entry log good is fits b =
-    let before = log.small_whole good in
+pub is_log_breaks : (old new : LogView) (entry : Record) → IsLog old → IsRecord entry → length (request entry) < 2 ^ 64 → Breaks old new (request entry) → IsLog new
+is_log_breaks old new entry log is fits b =
+    let before = log.small_whole b.unbroken in
     record {
       records = log.records;
-      stands = has_breaks old new entry log.records good is b log.stands;
+      stands = has_breaks old new entry log.records is b log.stands;
       within = omega (arith, b.appended, b.limit, log.within);
       settled_within = omega (arith, b.settled, b.appended, log.settled_within);
       at_once = λ mode. b.settled ∙ log.at_once (sym b.deferred ∙ mode) ∙ sym b.appended;
@@ -215,12 +215,12 @@ is_log_settled old new log good b waited =
       has_part = omega (arith, b.parts, log.has_part);
     }
 
-pub is_log_unsettled : (old new : LogView) → IsLog old → old.broken ≡ false → Unsettled old new → IsLog new
-is_log_unsettled old new log good b =
-    let before = log.small_whole good in
+pub is_log_unsettled : (old new : LogView) → IsLog old → Unsettled old new → IsLog new
+is_log_unsettled old new log b =
+    let before = log.small_whole b.unbroken in
     record {
       records = log.records;
-      stands = has_unsettled old new log.records good b log.stands;
+      stands = has_unsettled old new log.records b log.stands;
       within = omega (arith, b.appended, b.limit, log.within);
       settled_within = omega (arith, b.settled, b.appended, log.settled_within);
       at_once = λ mode. b.settled ∙ log.at_once (sym b.deferred ∙ mode) ∙ sym b.appended;

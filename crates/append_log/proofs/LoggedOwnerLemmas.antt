@@ -1,6 +1,6 @@
 -- What a logged owner keeps over a command.
-use Rattle.std.proofs.Common.{◌≡◌, ℕ, List, [], ◌∷◌, ◌++◌, refl, sym, ◌∙◌, ap, subst, Option, None, Some, Bool, true, false, cond, length, arith, Ok}
-use Rattle.std.specs.Prelude.{◌≢◌, IfSome, option_map}
+use Rattle.std.proofs.Common.{◌≡◌, ℕ, List, [], ◌∷◌, ◌++◌, refl, sym, ◌∙◌, ap, subst, Option, None, Some, Bool, true, false, cond, length, arith, Result, Ok, Err}
+use Rattle.std.specs.Prelude.{◌≢◌, IfErr, IfSome, option_map}
 use Rattle.resp_wire.specs.Response.{Response}
 use Rattle.zset_core.specs.SortedSet.{Members}
 use Rattle.zset_core.specs.AbstractCommand.{Meaning, Asked, key_of, is_writing, Ping, Add, Increase, Remove, RemoveRange, Score, Card, Count, ListRange}
@@ -15,8 +15,8 @@ use Rattle.zset_core.specs.World.{World, set_at, put_set}
 use Rattle.append_log.specs.Records.{Record}
 use Rattle.append_log.specs.Replay.{after}
 use Rattle.append_log.specs.declared.version.Version.TheVariants.{Effects}
-use Rattle.append_log.specs.Log.{LogView, HasRecords, IsLog, Ends}
-use Rattle.append_log.specs.LoggedOwner.{LoggedView, AreSame, Changes, NotAppended, NotRun, Replays}
+use Rattle.append_log.specs.Log.{LogView, HasRecords, IsLog, Ends, NotAppended}
+use Rattle.append_log.specs.LoggedOwner.{LoggedView, AreSame, Changes, NotRecorded, NotRun, Replays}
 use Rattle.append_log.proofs.ReplayLemmas.{replay-push}
 use Rattle.append_log.proofs.SameWorlds.{some_is, AreSame-put_back, AreSame-put_set, set_at-put_set-same}
 use Rattle.append_log.proofs.OutlineLemmas.{unchanged}
@@ -57,10 +57,16 @@ changes-next world outline None o change = tt
 changes-next world outline (Some n) o change = o.changed.0 change
 
 -- a command that changes a set and whose record is not appended is not run
-pub not_run : (refusal : Refusal) (world : World) (made : Option (World × Response)) (bytes : List ℕ) (old new : LogView) → Changes world made → NotAppended refusal bytes old new → NotRun refusal world made bytes old new
+pub not_run : (refusal : Refusal) (world : World) (made : Option (World × Response)) (bytes : List ℕ) (old new : LogView) → Changes world made → NotRecorded refusal old new bytes → NotRun refusal world made bytes old new
 not_run NoMemory world made bytes old new changes cause = cause
 not_run ScoreOverflow world made bytes old new changes cause = absurd cause
 not_run refusal world made bytes old new changes cause = (changes, cause)
+
+-- an append's refusal is one of what makes the record first
+pub not_recorded : {T : Type 0} (result : Result T Refusal) (old new : LogView) (bytes : List ℕ) → IfErr result (λ refusal. NotAppended refusal old new bytes) → IfErr result (λ refusal. NotRecorded refusal old new bytes)
+not_recorded (Ok done) old new bytes cause = tt
+not_recorded (Err NoMemory) old new bytes cause = absurd cause
+not_recorded (Err refusal) old new bytes cause = cause
 
 -- a record more
 pub Replays-push : (start : World) (old new : LoggedView) (words : Record) (key : List ℕ) (members : Members) → new.world ≡ put_set old.world key members

@@ -1,6 +1,9 @@
 -- What a log is seen as, and what holds of every log.
 use Rattle.std.specs.Prelude.{◌≡◌, ◌≢◌, if◌then◌else◌, ℕ, ◌+◌, ◌*◌, ◌^◌, ◌<◌, ◌≤◌, Bool, true, false, List, [], ◌∷◌, ◌++◌, length, take, Option, IfSome, Result, Ok, Err}
 use Rattle.std.specs.Io.KnownBytes.{append_known}
+use Rattle.resp_wire.specs.Device.{Rose}
+use Rattle.zset_core.specs.declared.refusal.Refusal.{Refusal}
+use Rattle.zset_core.specs.declared.refusal.Refusal.TheVariants.{LogBroken, LogFull, LogRefused}
 use Rattle.append_log.specs.Records.{Record, text_of, AreRecords, IsRecordPrefix, ReadsPrefix}
 
 -- a log, without the types of its sink and its ledger
@@ -61,8 +64,10 @@ pub record IsLog (log : LogView) : Type 0 where
 abbrev pub settled_with : Bool → ℕ → ℕ → ℕ
 settled_with deferred settled appended = if deferred then settled else appended
 
--- bytes were written out, and synced unless that is deferred
+-- a log that was neither broken nor full: bytes were written out, and synced unless that is deferred
 pub record Appends (old new : LogView) (bytes : List ℕ) : Type 0 where
+  pub unbroken : old.broken ≡ false
+  pub room : old.appended ≢ old.limit
   pub told : new.told ≡ append_known old.told bytes
   pub synced : old.deferred ≡ false → IfSome new.told (λ all. new.synced ≡ length all)
   pub unsynced : old.deferred ≡ true → new.synced ≡ old.synced
@@ -75,8 +80,11 @@ pub record Appends (old new : LogView) (bytes : List ℕ) : Type 0 where
   pub parts : new.parts ≡ old.parts
   pub failures : new.failures ≡ old.failures
 
--- a prefix of the bytes was written, perhaps none or all of them, and the log is broken
+-- a log that was neither broken nor full, and whose sink failed: a prefix of the bytes was written, perhaps none or all of
+-- them, and the log is broken
 pub record Breaks (old new : LogView) (bytes : List ℕ) : Type 0 where
+  pub unbroken : old.broken ≡ false
+  pub room : old.appended ≢ old.limit
   pub out : ℕ
   pub at_most : out ≤ length bytes
   pub told : new.told ≡ append_known old.told (take out bytes)
@@ -88,6 +96,14 @@ pub record Breaks (old new : LogView) (bytes : List ℕ) : Type 0 where
   pub limit : new.limit ≡ old.limit
   pub broken : new.broken ≡ true
   pub parts : new.parts ≡ old.parts
+  pub failures : Rose old.failures new.failures
+
+-- why a record of these bytes is not appended, and what becomes of the log: it stays, but for LogRefused, which breaks it
+abbrev pub NotAppended : Refusal → LogView → LogView → List ℕ → Type 0
+NotAppended LogBroken old new bytes = (new ≡ old) × (old.broken ≡ true)
+NotAppended LogFull old new bytes = (new ≡ old) × (old.broken ≡ false) × (old.appended ≡ old.limit)
+NotAppended LogRefused old new bytes = Breaks old new bytes
+NotAppended _ old new bytes = ⊥
 
 -- all records are settled, by a sync where one was not; no byte was written
 pub record Settles (old new : LogView) : Type 0 where
@@ -104,8 +120,9 @@ pub record Settles (old new : LogView) : Type 0 where
   pub parts : new.parts ≡ old.parts
   pub failures : new.failures ≡ old.failures
 
--- a sync failed: no record that waited is settled, and the log is broken
+-- a sync of a log that was not broken failed: no record that waited is settled, and the log is broken
 pub record Unsettled (old new : LogView) : Type 0 where
+  pub unbroken : old.broken ≡ false
   pub waited : old.settled ≢ old.appended
   pub told : new.told ≡ old.told
   pub synced : new.synced ≡ old.synced
@@ -116,6 +133,13 @@ pub record Unsettled (old new : LogView) : Type 0 where
   pub limit : new.limit ≡ old.limit
   pub broken : new.broken ≡ true
   pub parts : new.parts ≡ old.parts
+  pub failures : Rose old.failures new.failures
+
+-- why records are not settled, and what becomes of the log
+abbrev pub NotSettled : Refusal → LogView → LogView → Type 0
+NotSettled LogBroken old new = (new ≡ old) × (old.broken ≡ true)
+NotSettled LogRefused old new = Unsettled old new
+NotSettled _ old new = ⊥
 
 -- a share's count after an append with this result
 abbrev pub share_after : {T E : Type 0} → ℕ → Result T E → ℕ

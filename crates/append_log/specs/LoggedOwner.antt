@@ -1,17 +1,16 @@
 -- An owner of sets whose changes are logged.
-use Rattle.std.specs.Prelude.{◌≡◌, ◌≢◌, ℕ, ◌+◌, true, false, List, Option, None, Some, IsSomeAnd}
-use Rattle.resp_wire.specs.Device.{Rose}
+use Rattle.std.specs.Prelude.{◌≡◌, ℕ, ◌+◌, List, Option, None, Some, IsSomeAnd}
 use Rattle.resp_wire.specs.RequestEncoding.{request}
 use Rattle.resp_wire.specs.Response.{Response}
 use Rattle.zset_core.specs.World.{World, set_at}
 use Rattle.zset_core.specs.Semantics.{act}
 use Rattle.zset_core.specs.AbstractCommand.{Asked}
 use Rattle.zset_core.specs.declared.refusal.Refusal.{Refusal}
-use Rattle.zset_core.specs.declared.refusal.Refusal.TheVariants.{NoMemory, ScoreOverflow, LogBroken, LogFull, LogRefused}
+use Rattle.zset_core.specs.declared.refusal.Refusal.TheVariants.{NoMemory, ScoreOverflow}
 use Rattle.append_log.specs.Records.{Record}
 use Rattle.append_log.specs.EffectRecords.{change_record, record_made}
 use Rattle.append_log.specs.Replay.{replay}
-use Rattle.append_log.specs.Log.{LogView, HasRecords, Appends, Breaks}
+use Rattle.append_log.specs.Log.{LogView, HasRecords, Appends, NotAppended}
 
 -- its sets, its log, and how many records it appended
 pub record LoggedView : Type 0 where
@@ -35,14 +34,10 @@ pub record Replays (start : World) (state : LoggedView) : Type 0 where
 abbrev pub Changes : World → Option (World × Response) → Type 0
 Changes world made = IsSomeAnd made (λ done. AreSame world done.0 → ⊥)
 
--- why a record is not appended, and what becomes of the log: it stays but for LogRefused, which breaks it
-abbrev pub NotAppended : Refusal → List ℕ → LogView → LogView → Type 0
-NotAppended NoMemory bytes old new = new ≡ old
-NotAppended LogBroken bytes old new = (new ≡ old) × (old.broken ≡ true)
-NotAppended LogFull bytes old new = (new ≡ old) × (old.broken ≡ false) × (old.appended ≡ old.limit)
-NotAppended LogRefused bytes old new =
-    Breaks old new bytes × Rose old.failures new.failures × (old.broken ≡ false) × (old.appended ≢ old.limit)
-NotAppended _ bytes old new = ⊥
+-- why a command's record is not appended: out of memory it is not made, and the log stays
+abbrev pub NotRecorded : Refusal → LogView → LogView → List ℕ → Type 0
+NotRecorded NoMemory old new bytes = new ≡ old
+NotRecorded refusal old new bytes = NotAppended refusal old new bytes
 
 -- why a command is not run that would make this of a world, and what becomes of the log:
 -- out of memory, the log stays; so it does where the sum of INCR is no score and so nothing is made of the world;
@@ -50,7 +45,7 @@ NotAppended _ bytes old new = ⊥
 abbrev pub NotRun : Refusal → World → Option (World × Response) → List ℕ → LogView → LogView → Type 0
 NotRun NoMemory world made bytes old new = new ≡ old
 NotRun ScoreOverflow world made bytes old new = (new ≡ old) × (made ≡ None)
-NotRun refusal world made bytes old new = Changes world made × NotAppended refusal bytes old new
+NotRun refusal world made bytes old new = Changes world made × NotAppended refusal old new bytes
 
 -- a command was run: the record of its change was appended exactly where a set changed
 pub record Ran (old new : LoggedView) (command : Asked) (reply : Response) : Type 0 where

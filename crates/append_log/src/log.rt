@@ -1,10 +1,10 @@
 //! The log: records one behind the other, each synced before the next, or many by one sync.
 
-ghost use Rattle.std.specs.Prelude.{◌≡◌, ◌≢◌, ℕ, ◌+◌, ◌≤◌, ◌^◌, ◌↔◌, ◌⊎◌, length, take, true, false, OnOk, IsErrOf, IsErr, IfSome, IsTrue};
+ghost use Rattle.std.specs.Prelude.{◌≡◌, ◌≢◌, ℕ, ◌+◌, ◌≤◌, ◌^◌, ◌↔◌, length, take, true, false, OnOk, IfErr, IfSome, IsTrue};
 ghost use Rattle.std.specs.Io.KnownBytes.{append_known};
 ghost use Rattle.resp_wire.specs.Device.{Rose};
 ghost use Rattle.resp_wire.specs.RequestEncoding.{request};
-ghost use Rattle.append_log.specs.Log.{Appends, Breaks, HasRecords, IsLog, Readable, Settles, Unsettled, settled_with, share_after, records_after};
+ghost use Rattle.append_log.specs.Log.{Appends, HasRecords, IsLog, NotAppended, NotSettled, Readable, Settles, settled_with, share_after, records_after};
 
 use crate::record::Record;
 use crate::share::RecordShare;
@@ -265,21 +265,9 @@ impl<S: LogSink, L: Ledger> Log<S, L> {
         entry: &Record<A>,
     ) -> Result<(), Refusal>
         ensures ok { OnOk result (Appends self.old self.new (request entry.now)) }
+        ensures err { IfErr result
+            (λ refusal. NotAppended refusal self.old self.new (request entry.now)) }
         ensures share { share.new ≡ share_after share.old result }
-        ensures broken { IsErrOf result Refusal.LogBroken ↔ (self.old.broken ≡ true) }
-        ensures full { IsErrOf result Refusal.LogFull ↔ ((self.old.broken ≡ false)
-            × (self.old.appended ≡ self.old.limit)) }
-        ensures untouched { IsErrOf result Refusal.LogBroken ⊎ IsErrOf result Refusal.LogFull
-            → self.new ≡ self.old }
-        ensures refused { IsErrOf result Refusal.LogRefused
-            → Breaks self.old self.new (request entry.now) }
-        ensures cause { IsErrOf result Refusal.LogRefused
-            → Rose self.old.failures self.new.failures }
-        // Only a log that is neither broken nor full asks its sink.
-        ensures asked { IsErrOf result Refusal.LogRefused → (self.old.broken ≡ false)
-            × (self.old.appended ≢ self.old.limit) }
-        ensures no_other { IsErr result → IsErrOf result Refusal.LogBroken
-            ⊎ IsErrOf result Refusal.LogFull ⊎ IsErrOf result Refusal.LogRefused }
         // Where the sink ends with such records before the call, it ends with them and this one afterwards; on
         // Err with them and at most a prefix of one more. Of a sink that does not tell its bytes this says nothing.
         ensures records { (records : _) → HasRecords self.old records
@@ -328,13 +316,8 @@ impl<S: LogSink, L: Ledger> Log<S, L> {
     /// where the sync failed: no record that waited is settled, and the log is broken for good.
     pub fn sync(&mut self) -> Result<(), Refusal>
         ensures ok { OnOk result (Settles self.old self.new) }
-        ensures broken { IsErrOf result Refusal.LogBroken ↔ (self.old.broken ≡ true) }
-        ensures untouched { IsErrOf result Refusal.LogBroken → self.new ≡ self.old }
-        ensures refused { IsErrOf result Refusal.LogRefused → Unsettled self.old self.new }
-        ensures cause { IsErrOf result Refusal.LogRefused
-            → Rose self.old.failures self.new.failures }
-        ensures no_other { IsErr result → IsErrOf result Refusal.LogBroken
-            ⊎ IsErrOf result Refusal.LogRefused }
+        ensures unbroken { OnOk result (self.old.broken ≡ false) }
+        ensures err { IfErr result (λ refusal. NotSettled refusal self.old self.new) }
         // The records stand as they stood.
         ensures records { (records : _) → HasRecords self.old records → HasRecords self.new records }
     {

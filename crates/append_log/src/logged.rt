@@ -1,17 +1,16 @@
 //! An owner of sets whose changes are logged.
 
 ghost use Rattle.std.specs.Prelude.{◌≡◌, ◌≢◌, ◌↔◌, ◌⊎◌, ℕ, List, IfSome, ◌+◌, ◌≤◌, None, Some, true, false, IfOk, IfErr, OnOk, IsTrue, IsErr, IsErrOf};
-ghost use Rattle.resp_wire.specs.Device.{Rose};
 ghost use Rattle.resp_wire.specs.Response.{response_of};
 ghost use Rattle.resp_wire.specs.RequestEncoding.{request};
 ghost use Rattle.zset_core.specs.AbstractCommand.{is_writing, key_of};
 ghost use Rattle.zset_core.specs.SetAndOwnerViews.{IsPreparedAt, IsPreparedFor};
 ghost use Rattle.zset_core.specs.World.{World as WorldType, put_set, set_at};
 ghost use Rattle.append_log.specs.EffectRecords.{next_record, prepared_record};
-ghost use Rattle.append_log.specs.Log.{LogView, Appends, HasRecords, Settles, Unsettled, records_after, share_after};
+ghost use Rattle.append_log.specs.Log.{LogView, Appends, HasRecords, NotSettled, Settles, records_after, share_after};
 ghost use Rattle.append_log.specs.Replay.{after};
 ghost use Rattle.append_log.specs.declared.version.Version.TheVariants.{Effects};
-ghost use Rattle.append_log.specs.LoggedOwner.{LoggedView, AreSame, Replays, NotAppended, Ran, Refused};
+ghost use Rattle.append_log.specs.LoggedOwner.{LoggedView, AreSame, Replays, NotRecorded, Ran, Refused};
 
 use crate::log::Log;
 use crate::record::Record;
@@ -36,10 +35,9 @@ fn append_prepared<H: BuildHasher, S: LogSink, L: Ledger, A: Allocator + Copy>(
     requires prepared { IsPreparedFor set.now.members command.now.meaning set.now.next }
     requires changes { IfSome set.now.next (λ next. next.members ≢ set.now.members) }
     ensures ok { OnOk result (Appends log.old log.new (request (next_record command.now set.now))) }
-    ensures unbroken { OnOk result (log.old.broken ≡ false) }
+    ensures err { IfErr result
+        (λ refusal. NotRecorded refusal log.old log.new (request (next_record command.now set.now))) }
     ensures share { share.new ≡ share_after share.old result }
-    ensures cause { IfErr result
-        (λ refusal. NotAppended refusal (request (next_record command.now set.now)) log.old log.new) }
     ensures records { (records : _) → HasRecords log.old records
         → HasRecords log.new (records_after records (next_record command.now set.now) result) }
     ensures replays { OnOk result ((world : WorldType) (key : List ℕ) → key_of command.now.meaning ≡ Some key
@@ -65,10 +63,9 @@ fn append_command<H: BuildHasher + Clone + Drop, S: LogSink, L: Ledger, A: Alloc
     requires changes { IfSome owner.now.next
         (λ next. next.1.members ≢ set_at owner.now.world next.0) }
     ensures ok { OnOk result (Appends log.old log.new (request (prepared_record command.now owner.now))) }
-    ensures unbroken { OnOk result (log.old.broken ≡ false) }
+    ensures err { IfErr result (λ refusal. NotRecorded refusal log.old log.new
+        (request (prepared_record command.now owner.now))) }
     ensures share { share.new ≡ share_after share.old result }
-    ensures cause { IfErr result (λ refusal. NotAppended refusal
-        (request (prepared_record command.now owner.now)) log.old log.new) }
     ensures records { (records : _) → HasRecords log.old records
         → HasRecords log.new (records_after records (prepared_record command.now owner.now) result) }
     ensures replays { OnOk result ((world : WorldType) → AreSame world owner.now.world
@@ -275,13 +272,8 @@ impl<H: BuildHasher + Clone + Drop, S: LogSink, L: Ledger, A: Allocator + Copy> 
     pub fn sync(&mut self) -> Result<(), Refusal>
         ensures sets { (self.new.world ≡ self.old.world) × (self.new.share ≡ self.old.share) }
         ensures ok { OnOk result (Settles self.old.log self.new.log) }
-        ensures broken { IsErrOf result Refusal.LogBroken ↔ (self.old.log.broken ≡ true) }
-        ensures untouched { IsErrOf result Refusal.LogBroken → self.new ≡ self.old }
-        ensures refused { IsErrOf result Refusal.LogRefused → Unsettled self.old.log self.new.log }
-        ensures cause { IsErrOf result Refusal.LogRefused
-            → Rose self.old.log.failures self.new.log.failures }
-        ensures no_other { IsErr result → IsErrOf result Refusal.LogBroken
-            ⊎ IsErrOf result Refusal.LogRefused }
+        ensures unbroken { OnOk result (self.old.log.broken ≡ false) }
+        ensures err { IfErr result (λ refusal. NotSettled refusal self.old.log self.new.log) }
         ensures replays { (start : WorldType) → Replays start self.old → Replays start self.new }
     {
         self.log.sync()

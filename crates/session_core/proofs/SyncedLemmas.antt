@@ -1,10 +1,10 @@
 -- A log that is synced between the exchanges of a session.
-use Rattle.std.proofs.Common.{◌≡◌, ℕ, ◌≤◌, refl, sym, ap, ◌∙◌, subst, arith, true, Result, Ok, Err, ◌⊎◌, inl, inr}
-use Rattle.std.specs.Prelude.{OnOk, IsErr, IsErrOf}
+use Rattle.std.proofs.Common.{◌≡◌, ℕ, ◌≤◌, refl, ap, ◌∙◌, arith, true, Result, Ok, Err}
+use Rattle.std.specs.Prelude.{OnOk, IfErr}
 use Rattle.zset_core.specs.World.{World}
 use Rattle.zset_core.specs.declared.refusal.Refusal.{Refusal}
 use Rattle.zset_core.specs.declared.refusal.Refusal.TheVariants.{LogBroken, LogRefused}
-use Rattle.append_log.specs.Log.{Settles, Unsettled}
+use Rattle.append_log.specs.Log.{LogView, NotSettled, Settles, Unsettled}
 use Rattle.append_log.specs.LoggedOwner.{LoggedView, Replays}
 use Rattle.session_core.specs.Deferred.{IsSynced}
 
@@ -70,9 +70,23 @@ module _ (old new : LoggedView) (world : new.world ≡ old.world) (share : new.s
     replays = replays;
   }
 
-  pub synced : (result : Result Unit Refusal) → OnOk result (Settles old.log new.log) → (IsErrOf result LogBroken → new ≡ old) → (IsErrOf result LogRefused → Unsettled old.log new.log) → (IsErr result → IsErrOf result LogBroken ⊎ IsErrOf result LogRefused) → IsSynced old new
-  synced (Ok unit) settles untouched unsettled other = went_well settles
-  synced (Err refusal) settles untouched unsettled other = elim (other refl) [
-    | inl broken ↦ subst (IsSynced old) (sym (untouched broken)) (synced-refl old)
-    | inr refused ↦ failed (unsettled refused)
-  ]
+  was_broken : new.log ≡ old.log → IsSynced old new
+  was_broken same = record {
+    world = world;
+    share = share;
+    told = ap (λ (log : LogView). log.told) same;
+    appended = ap (λ (log : LogView). log.appended) same;
+    written = ap (λ (log : LogView). log.written) same;
+    limit = ap (λ (log : LogView). log.limit) same;
+    deferred = ap (λ (log : LogView). log.deferred) same;
+    parts = ap (λ (log : LogView). log.parts) same;
+    settled = omega (arith, ap (λ (log : LogView). log.settled) same);
+    broken = λ is. ap (λ (log : LogView). log.broken) same ∙ is;
+    replays = replays;
+  }
+
+  pub synced : (result : Result Unit Refusal) → OnOk result (Settles old.log new.log) → IfErr result (λ refusal. NotSettled refusal old.log new.log) → IsSynced old new
+  synced (Ok unit) settles err = went_well settles
+  synced (Err LogBroken) settles err = was_broken err.0
+  synced (Err LogRefused) settles err = failed err
+  synced (Err _) settles err = absurd err

@@ -1,5 +1,5 @@
 -- What is prepared, committed and let go.
-use Rattle.std.proofs.Common.{◌≡◌, ℕ, ◌+◌, true, false, Option, Some, None, IfSome, IsTrue, IsSome, Result, Ok, IfOk, inl, inr, refl, sym, subst, ◌∙◌, arith}
+use Rattle.std.proofs.Common.{◌≡◌, ℕ, ◌+◌, true, false, Option, Some, None, IfSome, IsTrue, IsSome, List, Result, Ok, Err, IfOk, IfErr, inl, inr, refl, sym, subst, ◌∙◌, arith}
 use Rattle.std.specs.Prelude.{◌≢◌}
 use Rattle.resp_wire.specs.Response.{Response}
 use Rattle.zset_core.specs.SortedSet.{Members}
@@ -11,6 +11,7 @@ use Rattle.zset_core.specs.declared.set.change_outline.Outline.{Outline}
 use Rattle.zset_core.specs.declared.refusal.Refusal.{Refusal}
 use Rattle.zset_core.specs.declared.refusal.Refusal.TheVariants.{NoMemory, UnknownCommand, WrongArity, Syntax, NxAndXx, GtLtNx, IncrPair, BadScore, BadBound, BadInteger, TableFull, Spent, ScoreOverflow, LogBroken, LogFull, LogRefused, OutOfStep}
 use Rattle.zset_core.proofs.CallerLemmas.{missing_none}
+use Rattle.append_log.specs.Log.{LogView, NotAppended}
 use Rattle.append_log.proofs.CallerLemmas.{unchanged}
 use Rattle.set_table.specs.declared.counts.OwnCounts.{OwnCounts}
 use Rattle.set_table.specs.Tallies.{no_counts}
@@ -36,6 +37,14 @@ prepared m command o next writes ready outlined changed = by (step m command.mea
     by (Some done) is next shows h =
         let at = subst (λ (n : Option Next). IfSome n (λ n. IsOutline o m n.members)) shows h in
         record { writes = writes; next = done.0; reply = done.1; step_is = is; other = at.changed.0 changed }
+
+-- why an append is refused is why a step is
+pub append_refusal : {T : Type 0} (result : Result T Refusal) (old new : LogView) (bytes : List ℕ) → IfErr result (λ refusal. NotAppended refusal old new bytes) → IfErr result IsAppendRefusal
+append_refusal (Ok done) old new bytes err = tt
+append_refusal (Err LogBroken) old new bytes err = tt
+append_refusal (Err LogFull) old new bytes err = tt
+append_refusal (Err LogRefused) old new bytes err = tt
+append_refusal (Err _) old new bytes err = absurd err
 
 -- an append that is refused hinders a command that changes the set
 pub hinders : (m : Members) (command : Asked) (o : Outline) (next : Option Next) (e : Refusal) → IsTrue (is_writing command.meaning) → IsPreparedFor m command.meaning next → IfSome next (λ n. IsOutline o m n.members) → IsTrue o.changed

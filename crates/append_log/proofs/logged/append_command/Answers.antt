@@ -6,7 +6,6 @@ use Rattle.zset_core.specs.SetAndOwnerViews.{IsPreparedAt, Next}
 use Rattle.zset_core.specs.World.{World, put_set, set_at}
 use Rattle.append_log.specs.EffectRecords.{next_record, prepared_record}
 use Rattle.append_log.specs.Log.{Appends, HasRecords, records_after}
-use Rattle.append_log.specs.LoggedOwner.{NotAppended}
 use Rattle.append_log.specs.Records.{Record}
 use Rattle.append_log.specs.Replay.{after}
 use Rattle.append_log.specs.declared.version.Version.TheVariants.{Effects}

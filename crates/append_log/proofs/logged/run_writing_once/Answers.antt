@@ -7,7 +7,7 @@ use Rattle.resp_wire.specs.RequestEncoding.{request}
 use Rattle.resp_wire.specs.Response.{response_of}
 use Rattle.append_log.specs.EffectRecords.{change_record, prepared_record, record_made, record_of_owner_next}
 use Rattle.append_log.specs.Log.{Appends}
-use Rattle.append_log.specs.LoggedOwner.{NotAppended}
+use Rattle.append_log.specs.LoggedOwner.{NotRecorded}
 use Rattle.append_log.specs.Records.{Record}
 use Rattle.append_log.specs.Replay.{after}
 use Rattle.append_log.specs.declared.version.Version.TheVariants.{Effects}
@@ -37,7 +37,7 @@ returns-in-Err-clause-err g c =
     record {
       world_stays = c.drop_prepared.ensures.world ∙ c.in_ok-outline.ensures.world;
       share_stays = c.in-Err.ensures.share;
-      cause = not_run _ _ _ _ _ _ changes (subst (λ (words : Record). NotAppended c.in-Err.refusal (request words) c.args.log.now c.append_command.new.log) same c.in-Err.ensures.cause);
+      cause = not_run _ _ _ _ _ _ changes (subst (λ (words : Record). NotRecorded c.in-Err.refusal c.args.log.now c.append_command.new.log (request words)) same c.in-Err.ensures.err);
     }
 
 pub returns-in-Err-clause-replays : goal.returns-in-Err-clause-replays
@@ -74,7 +74,7 @@ returns-clause-unbroken g c =
     let made = rw c.in_ok-outline.ensures.world at c.commit.ensures.made in
     let done = committed c.args.owner.now.world c.commit.new.self.world (key_of command.meaning) command.meaning c.in_ok-outline.outline c.prepare.new.self.next (response_of c.commit.result) c.in_ok-outline.ensures.ready c.in_ok-outline.ensures.outline made in
     λ broken. elim c.if-outline.branch [
-      | then-outline+in_default w ↦ absurd (let no_way : true ≡ false = sym broken ∙ w.in_default.ensures.unbroken in cc)
+      | then-outline+in_default w ↦ absurd (let no_way : true ≡ false = sym broken ∙ w.in_default.ensures.ok.unbroken in cc)
       | else-outline w ↦ done.kept w.if-outline.false
     ]
 

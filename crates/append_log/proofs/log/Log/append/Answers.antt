@@ -14,7 +14,9 @@ invariant_of-self g c =
     let wrote = rw c.text.ensures.text at c.put-out.ensures in
     let not_whole : c.put-out.result.whole ≡ false = search rules in
     let fits : length (request c.args.entry.now) < 2 ^ 64 = omega (arith, c.text.type_inv.0, ap length c.text.ensures.text) in (
-      is_log_breaks _ _ c.args.entry.now c.self.invariant.0 c.if-self.false c.text.ensures.is_record fits record {
+      is_log_breaks _ _ c.args.entry.now c.self.invariant.0 c.text.ensures.is_record fits record {
+        unbroken = c.if-self.false;
+        room = c.if-self-2.false;
         out = c.put-out.result.taken;
         at_most = wrote.at_most;
         told = wrote.told;
@@ -26,15 +28,18 @@ invariant_of-self g c =
         limit = refl;
         broken = refl;
         parts = refl;
+        failures = wrote.cause not_whole;
       },
       c.self.invariant.1,
     )
 
-pub returns-then-not-out-clause-refused : goal.returns-then-not-out-clause-refused
-returns-then-not-out-clause-refused g c =
+pub returns-then-not-out-clause-err : goal.returns-then-not-out-clause-err
+returns-then-not-out-clause-err g c =
     let wrote = rw c.text.ensures.text at c.put-out.ensures in
     let not_whole : c.put-out.result.whole ≡ false = search rules in
-    λ _. rw (← c.self.view_is) (record {
+    rw (← c.self.view_is) (record {
+      unbroken = c.if-self.false;
+      room = c.if-self-2.false;
       out = c.put-out.result.taken;
       at_most = wrote.at_most;
       told = wrote.told;
@@ -46,6 +51,7 @@ returns-then-not-out-clause-refused g c =
       limit = refl;
       broken = refl;
       parts = refl;
+      failures = wrote.cause not_whole;
     })
 
 pub invariant_of-self-2 : goal.invariant_of-self-2
@@ -56,7 +62,9 @@ invariant_of-self-2 g c =
     let fits : length (request c.args.entry.now) < 2 ^ 64 = omega (arith, c.text.type_inv.0, ap length c.text.ensures.text) in
     let text = request c.args.entry.now in
     let sink = c.self.inside.sink in (
-      is_log_appends _ _ c.args.entry.now c.self.invariant.0 c.if-self.false (omega (arith, c.self.invariant.0.within, c.if-self-2.false)) c.text.ensures.is_record fits record {
+      is_log_appends _ _ c.args.entry.now c.self.invariant.0 c.text.ensures.is_record fits record {
+        unbroken = c.if-self.false;
+        room = c.if-self-2.false;
         told = wrote.told ∙ ap (λ n. append_known (g.S.LogSink.told sink) (take n text)) all ∙ ap (append_known (g.S.LogSink.told sink)) (take_all (length text) text (omega arith));
         synced = wrote.synced whole;
         unsynced = wrote.unsynced;
@@ -82,7 +90,9 @@ returns-then-not-out-clause-records g c =
     let not_whole : c.put-out.result.whole ≡ false = search rules in
     let old : LogView = record { told = S.told from.sink; synced = S.synced from.sink; calls = S.calls from.sink; failures = S.failures from.sink; appended = from.appended; settled = from.settled; written = from.written; limit = from.limit; deferred = from.deferred; broken = from.broken; parts = from.rest.parts } in
     let new : LogView = record { told = S.told to; synced = S.synced to; calls = S.calls to; failures = S.failures to; appended = from.appended; settled = from.settled; written = from.written + out; limit = from.limit; deferred = from.deferred; broken = true; parts = from.rest.parts } in
-    λ records has. has_breaks old new c.args.entry.now records c.if-self.false c.text.ensures.is_record (record {
+    λ records has. has_breaks old new c.args.entry.now records c.text.ensures.is_record (record {
+      unbroken = c.if-self.false;
+      room = c.if-self-2.false;
       out = out;
       at_most = wrote.at_most;
       told = wrote.told;
@@ -94,6 +104,7 @@ returns-then-not-out-clause-records g c =
       limit = refl;
       broken = refl;
       parts = refl;
+      failures = wrote.cause not_whole;
     }) (rw (← c.self.view_is) at has)
 
 pub returns-clause-records : goal.returns-clause-records
@@ -108,7 +119,9 @@ returns-clause-records g c =
     let all = wrote.whole whole in
     let old : LogView = record { told = S.told from.sink; synced = S.synced from.sink; calls = S.calls from.sink; failures = S.failures from.sink; appended = from.appended; settled = from.settled; written = from.written; limit = from.limit; deferred = from.deferred; broken = from.broken; parts = from.rest.parts } in
     let new : LogView = record { told = S.told to; synced = S.synced to; calls = S.calls to; failures = S.failures to; appended = from.appended + 1; settled = c.settled_after-self-inside.result; written = from.written + out; limit = from.limit; deferred = from.deferred; broken = from.broken; parts = from.rest.parts } in
-    λ records has. has_appends old new c.args.entry.now records c.if-self.false c.self.invariant.0.settled_within c.text.ensures.is_record (record {
+    λ records has. has_appends old new c.args.entry.now records c.self.invariant.0.settled_within c.text.ensures.is_record (record {
+      unbroken = c.if-self.false;
+      room = c.if-self-2.false;
       told = wrote.told ∙ ap (λ n. append_known (S.told from.sink) (take n text)) all ∙ ap (append_known (S.told from.sink)) (take_all (length text) text (omega arith));
       synced = wrote.synced whole;
       unsynced = wrote.unsynced;

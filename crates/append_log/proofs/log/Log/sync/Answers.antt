@@ -6,7 +6,8 @@ use Rattle.append_log.proofs.log.Log.sync.Goals as goal
 pub invariant_of-self : goal.invariant_of-self
 invariant_of-self g c =
     let stays : g.S.LogSink.synced c.sync.new.self ≡ g.S.LogSink.synced c.self.inside.sink = search rules in (
-      is_log_unsettled _ _ c.self.invariant.0 c.if-self.false (record {
+      is_log_unsettled _ _ c.self.invariant.0 (record {
+        unbroken = c.if-self.false;
         waited = c.if-self-2.false;
         told = c.sync.ensures.told;
         synced = stays;
@@ -17,6 +18,7 @@ invariant_of-self g c =
         limit = refl;
         broken = refl;
         parts = refl;
+        failures = search rules;
       }),
       c.self.invariant.1,
     )
@@ -29,7 +31,8 @@ returns-then-is_err-clause-records g c =
     let stays : S.synced to ≡ S.synced from.sink = search rules in
     let old : LogView = record { told = S.told from.sink; synced = S.synced from.sink; calls = S.calls from.sink; failures = S.failures from.sink; appended = from.appended; settled = from.settled; written = from.written; limit = from.limit; deferred = from.deferred; broken = from.broken; parts = from.rest.parts } in
     let new : LogView = record { told = S.told to; synced = S.synced to; calls = S.calls to; failures = S.failures to; appended = from.appended; settled = from.settled; written = from.written; limit = from.limit; deferred = from.deferred; broken = true; parts = from.rest.parts } in
-    λ records has. has_unsettled old new records c.if-self.false (record {
+    λ records has. has_unsettled old new records (record {
+      unbroken = c.if-self.false;
       waited = c.if-self-2.false;
       told = c.sync.ensures.told;
       synced = stays;
@@ -40,4 +43,5 @@ returns-then-is_err-clause-records g c =
       limit = refl;
       broken = refl;
       parts = refl;
+      failures = search rules;
     }) (rw (← c.self.view_is) at has)
