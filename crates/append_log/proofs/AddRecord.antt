@@ -88,9 +88,9 @@ module _ (read_back : (score : ℤ) → IsScore score → score_value (score_tex
   unrefused : first_of (conditions (add_record key (p ∷ ps))) ≡ None
   unrefused = ap (λ n. first_of (named_conditions n (add_record key (p ∷ ps)))) zadd ∙ rw (enough, even, value, options) refl
 
-  meant : meaning (add_record key (p ∷ ps)) ≡ Some (meanings.Add key plain false (p ∷ ps))
+  meant : meaning (add_record key (p ∷ ps)) ≡ Some (meanings.Changes key (meanings.Add plain false (p ∷ ps)))
   unfolding meaning
   meant = rw (zadd, value, options) refl
 
-  pub asked_add : asked (add_record key (p ∷ ps)) ≡ Ok (meanings.Add key plain false (p ∷ ps))
-  asked_add = asked-ok (add_record key (p ∷ ps)) (meanings.Add key plain false (p ∷ ps)) unrefused meant
+  pub asked_add : asked (add_record key (p ∷ ps)) ≡ Ok (meanings.Changes key (meanings.Add plain false (p ∷ ps)))
+  asked_add = asked-ok (add_record key (p ∷ ps)) (meanings.Changes key (meanings.Add plain false (p ∷ ps))) unrefused meant

@@ -15,7 +15,7 @@ use Rattle.zset_core.proofs.CallerLemmas.{get_put_set, filled}
 use Rattle.append_log.specs.Records.{Record}
 use Rattle.append_log.specs.Replay.{after, after_reading, replay_as, replay}
 use Rattle.append_log.specs.declared.version.Version.TheVariants.{Effects}
-use Rattle.append_log.specs.Dump.{add_record, cut_pieces, set_records, records_at, dump, image}
+use Rattle.append_log.specs.Dump.{add_record, cut_pieces, set_records, records_at, image}
 use Rattle.append_log.proofs.AddRecord.{asked_add}
 use Rattle.append_log.proofs.WholeListing.{each_found, each_of_whole}
 use Rattle.append_log.proofs.ReplayLemmas.{replay_as-append}

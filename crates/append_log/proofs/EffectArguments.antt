@@ -1,14 +1,14 @@
 -- The arguments that tell of an effect: that they are those of a request, and how it is read.
-use Rattle.std.proofs.Common.{◌≡◌, ℕ, zero, suc, ◌+◌, ◌*◌, ◌<◌, ◌≤◌, ℤ, ◌==◌, nat_le, Bool, true, false, cond, not, ◌||◌, List, [], ◌∷◌, ◌++◌, filter, length, take, map, Option, None, Some, Ok, is_some, IfSome, refl, sym, ap, subst, ◌∙◌, arith, true≢false}
+use Rattle.std.proofs.Common.{◌≡◌, ℕ, suc, ◌+◌, ◌*◌, ◌≤◌, ℤ, nat_le, Bool, true, false, cond, not, ◌||◌, List, [], ◌∷◌, filter, length, Option, None, Some, Ok, is_some, IfSome, refl, sym, ap, ◌∙◌, arith, true≢false}
 use Rattle.std.specs.Prelude.{codes}
-use Rattle.std.specs.List.{AllByRecursion, flat_map}
+use Rattle.std.specs.List.{AllByRecursion}
 use Rattle.std.specs.Str.{bytes_eq}
-use Rattle.std.specs.Cmp.Lexicographic.{bytes_decides, nat_list_eq_equiv}
+use Rattle.std.specs.Cmp.Lexicographic.{nat_list_eq_equiv}
 use Rattle.std.specs.FinMap as fin
 use Rattle.std.proofs.lemmas.Bool.{le-leb}
 use Rattle.resp_wire.specs.RequestEncoding.{IsArgument, IsRequest, most_arguments}
 use Rattle.score_bounds.specs.Scores.{IsScore, score_text}
-use Rattle.zset_core.specs.SortedSet.{Members, Pair, names_of}
+use Rattle.zset_core.specs.SortedSet.{Members}
 use Rattle.zset_core.specs.AbstractCommand.{Meaning}
 use Rattle.zset_core.specs.AbstractCommand as meanings
 use Rattle.zset_core.specs.ChangeEffect.{differs, once, moved_names}
@@ -16,7 +16,7 @@ use Rattle.zset_core.specs.CommandGrammar.{command_named, named_conditions, cond
 use Rattle.zset_core.specs.declared.command.name.CommandName.TheVariants.{Remove}
 use Rattle.zset_core.proofs.CallerLemmas.{asked-ok}
 use Rattle.zset_core.proofs.Outlines.{has}
-use Rattle.append_log.specs.EffectRecords.{Entry, HasScore, entry_words, effect_words}
+use Rattle.append_log.specs.EffectRecords.{HasScore, effect_words}
 use Rattle.append_log.proofs.AddRecord.{pair_words}
 use Rattle.append_log.proofs.DumpRequests.{all_of, score_short}
 use Rattle.append_log.proofs.EffectReplay.{pairs_of, scores_in}
@@ -117,9 +117,9 @@ module _ (key name : List ℕ) (names : List (List ℕ)) where
   unrefused : first_of (conditions (codes "ZREM" ∷ (key ∷ (name ∷ names)))) ≡ None
   unrefused = ap (λ n. first_of (named_conditions n (codes "ZREM" ∷ (key ∷ (name ∷ names))))) zrem ∙ rw enough refl
 
-  meant : meaning (codes "ZREM" ∷ (key ∷ (name ∷ names))) ≡ Some (meanings.Remove key (name ∷ names))
+  meant : meaning (codes "ZREM" ∷ (key ∷ (name ∷ names))) ≡ Some (meanings.Changes key (meanings.Remove (name ∷ names)))
   unfolding meaning
   meant = rw zrem refl
 
-  pub asked_remove : asked (codes "ZREM" ∷ (key ∷ (name ∷ names))) ≡ Ok (meanings.Remove key (name ∷ names))
-  asked_remove = asked-ok (codes "ZREM" ∷ (key ∷ (name ∷ names))) (meanings.Remove key (name ∷ names)) unrefused meant
+  pub asked_remove : asked (codes "ZREM" ∷ (key ∷ (name ∷ names))) ≡ Ok (meanings.Changes key (meanings.Remove (name ∷ names)))
+  asked_remove = asked-ok (codes "ZREM" ∷ (key ∷ (name ∷ names))) (meanings.Changes key (meanings.Remove (name ∷ names))) unrefused meant

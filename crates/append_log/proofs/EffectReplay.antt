@@ -1,15 +1,15 @@
 -- The effect of a change makes of a set what the change made of it.
-use Rattle.std.proofs.Common.{◌≡◌, ℕ, ℤ, Bool, true, false, cond, not, ◌||◌, ◌&&◌, List, [], ◌∷◌, filter, map, Option, None, Some, is_some, refl, sym, ap, subst, ◌∙◌}
-use Rattle.std.specs.List.{AllByRecursion, list_any}
+use Rattle.std.proofs.Common.{◌≡◌, ℕ, ℤ, Bool, true, false, cond, not, ◌||◌, ◌&&◌, List, [], ◌∷◌, filter, map, Option, None, Some, is_some, refl, sym, ap, ◌∙◌}
+use Rattle.std.specs.List.{AllByRecursion}
 use Rattle.std.specs.Str.{bytes_eq}
-use Rattle.std.specs.Ordering.{eq_by_cmp, int_eq}
-use Rattle.std.specs.Cmp.{signed_Decides, eq_by_cmp_equiv}
+use Rattle.std.specs.Ordering.{eq_by_cmp}
+use Rattle.std.specs.Cmp.{signed_Decides}
 use Rattle.std.specs.Cmp.Lexicographic.{bytes_decides, nat_list_eq_equiv}
 use Rattle.std.specs.FinMap as fin
 use Rattle.zset_core.specs.SortedSet.{Members, Pair, bytes_cmp, names_of}
 use Rattle.zset_core.specs.Semantics.{outcome_of, writes, put_one, put_all, remove_all}
-use Rattle.zset_core.specs.ChangeEffect.{same_score, differs, once, moved_names}
-use Rattle.zset_core.specs.declared.set.pair_outcome.Flags.{Flags}
+use Rattle.zset_core.specs.ChangeEffect.{same_score, differs, moved_names}
+use Rattle.zset_core.specs.declared.command.pair_outcome.Flags.{Flags}
 use Rattle.zset_core.proofs.CallerLemmas.{total, exact, tied}
 use Rattle.zset_core.proofs.Outlines.{has}
 use Rattle.zset_core.proofs.Gathering.{get-remove_all}

@@ -4,7 +4,7 @@ use Rattle.std.proofs.lemmas.List.{append-nil, take-append-drop, take-append-le,
 use Rattle.std.specs.Io.KnownBytes.{append_known}
 use Rattle.std.specs.Prelude.{codes}
 use Rattle.resp_wire.specs.RequestEncoding.{request}
-use Rattle.append_log.specs.Records.{Record, IsRecord, text_of, AreRecords}
+use Rattle.append_log.specs.Records.{Record, IsRecord, text_of}
 use Rattle.append_log.specs.Log.{LogView, IsLog, HasRecords, Ends, Appends, Breaks, Settles, Unsettled, settled_with}
 use Rattle.append_log.proofs.EffectArguments.{asked_remove, effect_request}
 use Rattle.append_log.proofs.RecordTexts.{text_of-push, AreRecords-push}

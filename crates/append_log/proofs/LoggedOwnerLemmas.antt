@@ -1,10 +1,10 @@
 -- What a logged owner keeps over a command.
-use Rattle.std.proofs.Common.{◌≡◌, ℕ, List, [], ◌∷◌, ◌++◌, refl, sym, ◌∙◌, ap, subst, Option, None, Some, Bool, true, false, cond, length, arith, Result, Ok, Err}
+use Rattle.std.proofs.Common.{◌≡◌, ℕ, List, [], ◌∷◌, ◌++◌, refl, sym, ◌∙◌, ap, subst, Option, None, Some, true, false, length, arith, Result, Ok, Err}
 use Rattle.std.specs.Prelude.{◌≢◌, IfErr, IfSome, option_map}
 use Rattle.resp_wire.specs.Response.{Response}
 use Rattle.zset_core.specs.SortedSet.{Members}
-use Rattle.zset_core.specs.AbstractCommand.{Meaning, Asked, key_of, is_writing, Ping, Add, Increase, Remove, RemoveRange, Score, Card, Count, ListRange}
-use Rattle.zset_core.specs.CommandGrammar.{asked}
+use Rattle.zset_core.specs.AbstractCommand.{Meaning, Asked, key_of, is_writing}
+use Rattle.zset_core.specs.AbstractCommand as meanings
 use Rattle.zset_core.specs.Semantics.{step, act_at, act}
 use Rattle.zset_core.specs.SetAndOwnerViews.{Next, ShowsAt, IsPreparedAt}
 use Rattle.zset_core.specs.ChangeOutline.{IsOutline}
@@ -98,16 +98,9 @@ put_back world k = AreSame-put_back world k (set_at world k) refl
 
 -- a command that reads changes no set
 pub reading-stays : (world end : World) (meaning : Meaning) (reply : Response) → is_writing meaning ≡ false → act world meaning ≡ Some (end, reply) → AreSame world end
-reading-stays world end (Ping None) reply reads is = ends_at _ world end reply (λ q. refl) is
-reading-stays world end (Ping (Some text)) reply reads is = ends_at _ world end reply (λ q. refl) is
-reading-stays world end (Add key flags changed pairs) reply reads is = absurd (let no_way : true ≡ false = reads in cc)
-reading-stays world end (Increase key flags given member) reply reads is = absurd (let no_way : true ≡ false = reads in cc)
-reading-stays world end (Remove key members) reply reads is = absurd (let no_way : true ≡ false = reads in cc)
-reading-stays world end (RemoveRange key range) reply reads is = absurd (let no_way : true ≡ false = reads in cc)
-reading-stays world end (Score key member) reply reads is = ends_at _ world end reply (put_back world key) is
-reading-stays world end (Card key) reply reads is = ends_at _ world end reply (put_back world key) is
-reading-stays world end (Count key range) reply reads is = ends_at _ world end reply (put_back world key) is
-reading-stays world end (ListRange key range with_scores limit) reply reads is = ends_at _ world end reply (put_back world key) is
+reading-stays world end (meanings.Ping text) reply reads is = ends_at _ world end reply (λ q. refl) is
+reading-stays world end (meanings.Asks key question) reply reads is = ends_at _ world end reply (put_back world key) is
+reading-stays world end (meanings.Changes key change) reply reads is = absurd (let no_way : true ≡ false = reads in cc)
 
 no_record : (records : List Record) → length records ≡ 0 → records ≡ []
 no_record [] e = refl

@@ -7,7 +7,7 @@ use Rattle.resp_wire.specs.declared.fault.Stop.TheVariants.{Short}
 use Rattle.resp_wire.specs.RequestEncoding.{Item, Ask, IsItem, IsRequest, request, encoding_of}
 use Rattle.resp_wire.specs.Parser.{item_at}
 use Rattle.resp_wire.specs.Stream.{items, rest}
-use Rattle.append_log.specs.Records.{Record, text_of, AreRecords, ReadsPrefix}
+use Rattle.append_log.specs.Records.{Record, text_of, ReadsPrefix}
 use Rattle.append_log.specs.Log.{LogView, IsLog, Ends, Readable}
 use Rattle.append_log.proofs.RecordTexts.{AreRequests, requests_of, text_of-push, AreRecords-push, reads_text, nothing_short}
 

@@ -1,24 +1,23 @@
 -- The record of a change makes of a set what the change made of it.
-use Rattle.std.proofs.Common.{◌≡◌, ℕ, ◌+◌, ◌*◌, ◌<◌, ◌≤◌, ℤ, ◌&&◌, ◌||◌, ◌-◌, pos, not, if◌then◌else◌, Bool, true, false, cond, List, [], ◌∷◌, ◌++◌, length, slice_get, unwrap_or, append-nil, Option, None, Some, Result, Ok, Err, IfSome, IsTrue, is_some, option_map, refl, sym, ap, subst, ◌∙◌, arith, true≢false}
+use Rattle.std.proofs.Common.{◌≡◌, ℕ, ◌+◌, ◌*◌, ◌≤◌, ℤ, ◌&&◌, ◌-◌, pos, not, if◌then◌else◌, Bool, true, false, cond, List, [], ◌∷◌, ◌++◌, length, slice_get, unwrap_or, append-nil, Option, None, Some, Result, Ok, IfSome, IsTrue, is_some, option_map, refl, sym, ap, subst, ◌∙◌, arith, true≢false}
 use Rattle.std.specs.Prelude.{codes, IsOkAnd, ◌≢◌}
 use Rattle.std.specs.List.{AllByRecursion, flat_map}
 use Rattle.std.specs.FinMap as fin
-use Rattle.std.specs.Cmp.Lexicographic.{nat_list_eq_equiv}
 use Rattle.std.proofs.lemmas.List.{length-map}
 use Rattle.resp_wire.specs.RequestEncoding.{Item, IsArgument, IsItem, IsRequest, encoding_of, most_arguments, request}
 use Rattle.resp_wire.specs.Stream.{items, rest}
 use Rattle.resp_wire.specs.Response.{Response, Integer, NullBulk}
 use Rattle.score_bounds.specs.Scores.{IsScore, IsPlain, score_text, score_value}
 use Rattle.zset_core.specs.SortedSet.{Members, Pair, names_of}
-use Rattle.zset_core.specs.AbstractCommand.{Meaning, Asked, key_of, is_writing, Ping, Add, Increase, Remove, RemoveRange, Score, Card, Count, ListRange}
+use Rattle.zset_core.specs.AbstractCommand.{Meaning, Asked, key_of, is_writing, Ping, Asks, Changes, Add, Increase, Remove, RemoveRange}
 use Rattle.zset_core.specs.ChangeEffect.{differs, effect, effect_of_next, moved_names, prepared_effect, same_score}
 use Rattle.zset_core.specs.SetAndOwnerViews.{IsPreparedFor, Next, SetView, Shows}
 use Rattle.zset_core.specs.CommandGrammar.{asked}
 use Rattle.zset_core.specs.ExpressibleWorld.{FitsRequest, IsBoundedMeaning}
-use Rattle.zset_core.specs.Semantics.{count_all, put_one, put_all, remove_all, step, act, act_at, increase, increase_reply, is_barred, outcome_of, sum_of}
+use Rattle.zset_core.specs.Semantics.{count_all, put_one, put_all, remove_all, step, act, act_at, increase_reply, is_barred, outcome_of, sum_of}
 use Rattle.zset_core.specs.World.{World, set_at, put_set}
 use Rattle.zset_core.specs.declared.refusal.Refusal.{Refusal}
-use Rattle.zset_core.specs.declared.set.pair_outcome.Flags.{Flags}
+use Rattle.zset_core.specs.declared.command.pair_outcome.Flags.{Flags}
 use Rattle.zset_core.proofs.Outlines.{has}
 use Rattle.zset_core.proofs.Gathering.{get-remove_all}
 use Rattle.append_log.specs.Dump.{add_record}
@@ -29,7 +28,7 @@ use Rattle.append_log.specs.declared.version.Version.TheVariants.{Effects}
 use Rattle.append_log.proofs.RecordTexts.{nothing_short, reads_text}
 use Rattle.append_log.proofs.AddRecord.{asked_add, pair_words}
 use Rattle.append_log.proofs.SetUnion.{plain}
-use Rattle.append_log.proofs.EffectReplay.{effect_adds, effect_removes, has-moved, not_differs, pair_behind, pairs_of, put_all_keeps, scores_in}
+use Rattle.append_log.proofs.EffectReplay.{effect_adds, effect_removes, has-moved, pairs_of, put_all_keeps, scores_in}
 use Rattle.append_log.proofs.EffectArguments.{asked_remove, each_moved, each_word, effect_request, few_moved, few_words, words_of_names, words_of_pairs}
 
 -- a request that is read as an effect, which makes a new set of an old one
@@ -113,20 +112,17 @@ prepared_is members meaning next shown = by (step members meaning) shown
     by (Some done) is = (done, refl, is)
 
 few_effect : (meaning : Meaning) (old : Members) (done : Members × Response) → step old meaning ≡ Some done → FitsRequest meaning → 2 + length (effect_words (effect old done.0 meaning)) ≤ most_arguments
-few_effect (Add key f ch ps) old done made fits =
+few_effect (Changes key (Add f ch ps)) old done made fits =
     omega (arith, fits.few, few_words done.0 (moved_names old done.0 (names_of ps)), few_moved old done.0 (names_of ps), length-map ps (λ (p : Pair). p.1))
-few_effect (Increase key f given member) old done made fits =
+few_effect (Changes key (Increase f given member)) old done made fits =
     omega (arith, few_words done.0 (moved_names old done.0 (member ∷ [])), few_moved old done.0 (member ∷ []))
-few_effect (Remove key names) old done made fits =
+few_effect (Changes key (Remove names)) old done made fits =
     let same : remove_all old names ≡ done.0 = ap (λ (d : Members × Response). d.0) (some_done _ _ made) in
     subst (λ (m : Members). 2 + length (effect_words (scores_in m (moved_names old m names))) ≤ most_arguments) same
     (omega (arith, fits.few, few_moved old (remove_all old names) names, ap (λ (l : List (List ℕ)). length l) (words_of_names (remove_all old names) (moved_names old (remove_all old names) names) (moved_gone old names))))
-few_effect (RemoveRange key range) old done made fits = omega arith
+few_effect (Changes key (RemoveRange range)) old done made fits = omega arith
 few_effect (Ping text) old done made fits = omega arith
-few_effect (Score key member) old done made fits = omega arith
-few_effect (Card key) old done made fits = omega arith
-few_effect (Count key range) old done made fits = omega arith
-few_effect (ListRange key range with_scores limit) old done made fits = omega arith
+few_effect (Asks key question) old done made fits = omega arith
 
 pub few_prepared : (set : SetView) (meaning : Meaning) → IsPreparedFor set.members meaning set.next → FitsRequest meaning → 2 + length (effect_words (prepared_effect set)) ≤ most_arguments
 few_prepared set meaning prepared fits =
@@ -152,21 +148,18 @@ still_increase f old member done false (Some score) is none =
 
 given_as : (words : Record) (meaning : Meaning) (old : Members) (done : Members × Response) → IsTrue (is_writing meaning) → step old meaning ≡ Some done → (done.0 ≢ old) → length (effect old done.0 meaning) ≡ 0
     → record_for words (effect old done.0 meaning) meaning ≡ words
-given_as words (Add key f ch ps) old done writing made changes none =
+given_as words (Changes key (Add f ch ps)) old done writing made changes none =
     let same : put_all f old ps ≡ done.0 = ap (λ (d : Members × Response). d.0) (some_done _ _ made) in
     absurd (changes (sym same ∙ still_add f old ps (ap (λ (m : Members). moved_names old m (names_of ps)) same ∙ no_names done.0 (moved_names old done.0 (names_of ps)) none)))
-given_as words (Increase key f given member) old done writing made changes none =
+given_as words (Changes key (Increase f given member)) old done writing made changes none =
     absurd (changes (still_increase f old member done (is_barred f (fin.get old member)) (sum_of (fin.get old member) given) made (no_names done.0 (moved_names old done.0 (member ∷ [])) none)))
-given_as words (Remove key names) old done writing made changes none =
+given_as words (Changes key (Remove names)) old done writing made changes none =
     let same : remove_all old names ≡ done.0 = ap (λ (d : Members × Response). d.0) (some_done _ _ made) in
     let moved : moved_names old (remove_all old names) names ≡ [] = ap (λ (m : Members). moved_names old m names) same ∙ no_names done.0 (moved_names old done.0 names) none in
     absurd (changes (sym same ∙ sym (effect_removes old names) ∙ ap (remove_all old) moved))
-given_as words (RemoveRange key range) old done writing made changes none = refl
+given_as words (Changes key (RemoveRange range)) old done writing made changes none = refl
 given_as words (Ping text) old done writing made changes none = refl
-given_as words (Score key member) old done writing made changes none = refl
-given_as words (Card key) old done writing made changes none = refl
-given_as words (Count key range) old done writing made changes none = refl
-given_as words (ListRange key range with_scores limit) old done writing made changes none = refl
+given_as words (Asks key question) old done writing made changes none = refl
 
 pub prepared_as_given : (command : Asked) (set : SetView) → IsTrue (is_writing command.meaning) → IsPreparedFor set.members command.meaning set.next → IfSome set.next (λ next. next.members ≢ set.members) → length (prepared_effect set) ≡ 0
     → next_record command set ≡ command.words
@@ -182,7 +175,7 @@ module _ (read_back : (score : ℤ) → IsScore score → score_value (score_tex
   add_of old new [] request scored made changes = absurd (changes (sym made))
   add_of old new (p ∷ ps) request scored made changes = record {
     request = request;
-    meaning = Add key plain false (p ∷ ps);
+    meaning = Changes key (Add plain false (p ∷ ps));
     read = asked_add read_back is_plain key p ps scored;
     effect = refl;
     keyed = refl;
@@ -208,7 +201,7 @@ module _ (read_back : (score : ℤ) → IsScore score → score_value (score_tex
   remove_of old new [] request made changes = absurd (changes (sym made))
   remove_of old new (n ∷ names) request made changes = record {
     request = request;
-    meaning = Remove key (n ∷ names);
+    meaning = Changes key (Remove (n ∷ names));
     read = asked_remove key n names;
     effect = refl;
     keyed = refl;
@@ -242,25 +235,25 @@ module _ (read_back : (score : ℤ) → IsScore score → score_value (score_tex
   -- the record of any of them
   pub remade : (words : Record) (meaning : Meaning) (old : Members) (done : Members × Response) → IsRequest words → asked words ≡ Ok meaning → IsTrue (is_writing meaning) → key_of meaning ≡ Some key → FitsRequest meaning
       → step old meaning ≡ Some done → AllByRecursion HasScore (effect old done.0 meaning) → (done.0 ≢ old) → Remakes (record_for words (effect old done.0 meaning) meaning) key old done.0
-  remade words (Add k f ch ps) old done request read writing keyed fits made scored changes =
+  remade words (Changes k (Add f ch ps)) old done request read writing keyed fits made scored changes =
       let same : put_all f old ps ≡ done.0 = ap (λ (d : Members × Response). d.0) (some_done _ _ made) in
       let here : k ≡ key = some_key k keyed in
-      subst (λ (n : List ℕ). Remakes (codes "ZADD" ∷ (n ∷ effect_words (effect old done.0 (Add k f ch ps)))) key old done.0) (sym here)
+      subst (λ (n : List ℕ). Remakes (codes "ZADD" ∷ (n ∷ effect_words (effect old done.0 (Changes k (Add f ch ps))))) key old done.0) (sym here)
       (subst (λ (m : Members). Remakes (codes "ZADD" ∷ (key ∷ effect_words (scores_in m (moved_names old m (names_of ps))))) key old m) same
       (remade_add f old ps fits.each fits.few (subst (λ (m : Members). AllByRecursion HasScore (scores_in m (moved_names old m (names_of ps)))) (sym same) scored) (λ stays. changes (sym same ∙ stays))))
-  remade words (Increase k f given member) old done request read writing keyed fits made scored changes =
+  remade words (Changes k (Increase f given member)) old done request read writing keyed fits made scored changes =
       let here : k ≡ key = some_key k keyed in
-      subst (λ (n : List ℕ). Remakes (codes "ZADD" ∷ (n ∷ effect_words (effect old done.0 (Increase k f given member)))) key old done.0) (sym here)
+      subst (λ (n : List ℕ). Remakes (codes "ZADD" ∷ (n ∷ effect_words (effect old done.0 (Changes k (Increase f given member))))) key old done.0) (sym here)
       (remade_increase f old given member done fits.each.0 (is_barred f (fin.get old member)) (sum_of (fin.get old member) given) made scored changes)
-  remade words (Remove k names) old done request read writing keyed fits made scored changes =
+  remade words (Changes k (Remove names)) old done request read writing keyed fits made scored changes =
       let same : remove_all old names ≡ done.0 = ap (λ (d : Members × Response). d.0) (some_done _ _ made) in
       let here : k ≡ key = some_key k keyed in
-      subst (λ (n : List ℕ). Remakes (codes "ZREM" ∷ (n ∷ effect_words (effect old done.0 (Remove k names)))) key old done.0) (sym here)
+      subst (λ (n : List ℕ). Remakes (codes "ZREM" ∷ (n ∷ effect_words (effect old done.0 (Changes k (Remove names))))) key old done.0) (sym here)
       (subst (λ (m : Members). Remakes (codes "ZREM" ∷ (key ∷ effect_words (scores_in m (moved_names old m names)))) key old m) same
       (remade_remove old names fits.each fits.few (λ stays. changes (sym same ∙ stays))))
-  remade words (RemoveRange k range) old done request read writing keyed fits made scored changes = record {
+  remade words (Changes k (RemoveRange range)) old done request read writing keyed fits made scored changes = record {
     request = request;
-    meaning = RemoveRange k range;
+    meaning = Changes k (RemoveRange range);
     read = read;
     effect = refl;
     keyed = keyed;
@@ -268,22 +261,13 @@ module _ (read_back : (score : ℤ) → IsScore score → score_value (score_tex
     made = made;
   }
   remade words (Ping text) old done request read writing keyed fits made scored changes = absurd (true≢false (sym writing))
-  remade words (Score k member) old done request read writing keyed fits made scored changes = absurd (true≢false (sym writing))
-  remade words (Card k) old done request read writing keyed fits made scored changes = absurd (true≢false (sym writing))
-  remade words (Count k range) old done request read writing keyed fits made scored changes = absurd (true≢false (sym writing))
-  remade words (ListRange k range with_scores limit) old done request read writing keyed fits made scored changes = absurd (true≢false (sym writing))
+  remade words (Asks k question) old done request read writing keyed fits made scored changes = absurd (true≢false (sym writing))
 
 -- ---- the record of what a set has prepared
 written_key : (meaning : Meaning) → IsTrue (is_writing meaning) → (key : List ℕ) × (key_of meaning ≡ Some key)
-written_key (Add key f ch ps) writing = (key, refl)
-written_key (Increase key f given member) writing = (key, refl)
-written_key (Remove key names) writing = (key, refl)
-written_key (RemoveRange key range) writing = (key, refl)
+written_key (Changes key change) writing = (key, refl)
 written_key (Ping text) writing = absurd (true≢false (sym writing))
-written_key (Score key member) writing = (key, refl)
-written_key (Card key) writing = (key, refl)
-written_key (Count key range) writing = (key, refl)
-written_key (ListRange key range with_scores limit) writing = (key, refl)
+written_key (Asks key question) writing = (key, refl)
 
 pub recorded : ((score : ℤ) → IsScore score → score_value (score_text score) ≡ Some score) → ((score : ℤ) → IsScore score → IsPlain (score_text score)) → (command : Asked) (set : SetView) → IsRequest command.words
     → asked command.words ≡ Ok command.meaning → IsTrue (is_writing command.meaning) → IsBoundedMeaning command.meaning → FitsRequest command.meaning → IsPreparedFor set.members command.meaning set.next

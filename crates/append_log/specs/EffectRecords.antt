@@ -1,13 +1,13 @@
 -- The record of a change: what it leaves of the members that its command names, whatever was asked for.
 use Rattle.std.specs.Prelude.{ℕ, ℤ, List, [], ◌∷◌, codes, Option, Some, None, unwrap_or, slice_get, IfSome}
-use Rattle.std.specs.List.{AllByRecursion, flat_map}
+use Rattle.std.specs.List.{flat_map}
 use Rattle.score_bounds.specs.Scores.{IsScore, score_text}
 use Rattle.resp_wire.specs.Stream.{requests}
 use Rattle.zset_core.specs.SortedSet.{Members}
 use Rattle.resp_wire.specs.Response.{Response}
 use Rattle.zset_core.specs.SetAndOwnerViews.{Next, OwnerView, SetView}
 use Rattle.zset_core.specs.World.{World, set_at}
-use Rattle.zset_core.specs.AbstractCommand.{Meaning, Asked, key_of, Ping, Add, Increase, Remove, RemoveRange, Score, Card, Count, ListRange}
+use Rattle.zset_core.specs.AbstractCommand.{Meaning, Asked, key_of, Ping, Asks, Changes, Change, Add, Increase, Remove, RemoveRange}
 use Rattle.zset_core.specs.ChangeEffect.{effect}
 use Rattle.append_log.specs.Records.{Record}
 
@@ -27,17 +27,18 @@ entry_words entry = words_behind entry.0 entry.1
 abbrev pub effect_words : List Entry → List (List ℕ)
 effect_words entries = flat_map entry_words entries
 
--- ZADD of the members that came in or got another score; ZREM of those that left; ZREMRANGEBYSCORE as it was given
+-- of a change: ZADD of the members that came in or got another score; ZREM of those that left; ZREMRANGEBYSCORE as it was
+-- given
+abbrev pub change_record_for : Record → List Entry → List ℕ → Change → Record
+change_record_for words entries key (Add flags changed pairs) = codes "ZADD" ∷ (key ∷ effect_words entries)
+change_record_for words entries key (Increase flags given member) = codes "ZADD" ∷ (key ∷ effect_words entries)
+change_record_for words entries key (Remove names) = codes "ZREM" ∷ (key ∷ effect_words entries)
+change_record_for words entries key (RemoveRange range) = words
+
 abbrev pub record_for : Record → List Entry → Meaning → Record
 record_for words entries (Ping text) = words
-record_for words entries (Add key flags changed pairs) = codes "ZADD" ∷ (key ∷ effect_words entries)
-record_for words entries (Increase key flags given member) = codes "ZADD" ∷ (key ∷ effect_words entries)
-record_for words entries (Remove key names) = codes "ZREM" ∷ (key ∷ effect_words entries)
-record_for words entries (RemoveRange key range) = words
-record_for words entries (Score key member) = words
-record_for words entries (Card key) = words
-record_for words entries (Count key range) = words
-record_for words entries (ListRange key range with_scores limit) = words
+record_for words entries (Asks key question) = words
+record_for words entries (Changes key change) = change_record_for words entries key change
 
 -- the record of a command that makes a new set of an old one
 abbrev pub effect_record : Asked → Members → Members → Record

@@ -2,9 +2,8 @@
 use Rattle.std.specs.Prelude.{◌≡◌, ◌≢◌, ◌<◌, ℕ, List, Result, Ok, Err}
 use Rattle.zset_core.specs.World.{World}
 use Rattle.append_log.specs.Reload.{IsLoaded, FaultAt}
-use Rattle.append_log.specs.declared.drafting.RenewFault.{RenewFault}
 use Rattle.append_log.specs.declared.file.FileFault.{FileFault}
-use Rattle.append_log.specs.declared.file.FileFault.TheVariants.{Open, NotRegular, Locked, Lock, Cut, Sync, Write, Name, Folder}
+use Rattle.append_log.specs.declared.file.FileFault.TheVariants.{Open, NotRegular, Locked, Lock, Cut, Sync, Folder}
 use Rattle.append_log.specs.declared.loading.Loaded.{Loaded}
 use Rattle.append_log.specs.declared.opening.OpenFault.{OpenFault}
 use Rattle.append_log.specs.declared.opening.OpenFault.TheVariants.{File, Reload, Renew}

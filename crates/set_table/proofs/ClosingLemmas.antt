@@ -1,5 +1,5 @@
 -- Totals over passes and places.
-use Rattle.std.proofs.Common.{◌≡◌, ℕ, ◌+◌, ◌-◌, ◌<◌, ◌∙◌, List, [], ◌∷◌, length, map, get_or, sym, ap, subst, add-one, refl, arith, zero, suc, min, inl, inr, ◌⊎◌, Option, None, Some, IfNone}
+use Rattle.std.proofs.Common.{◌≡◌, ℕ, ◌+◌, ◌-◌, ◌<◌, ◌∙◌, List, [], ◌∷◌, length, map, get_or, sym, ap, subst, add-one, refl, arith, zero, suc, min, inl, inr, Option, None, Some, IfNone}
 use Rattle.std.proofs.Math.Seq.{take-length}
 use Rattle.std.proofs.lemmas.List.{get_or-map, length-map, get_or_default, same_lists}
 use Rattle.std.specs.List.{sum_by}

@@ -1,6 +1,5 @@
 -- What a memory says stays so while more names become known.
 use Rattle.std.proofs.Common.{◌≡◌, ◌≢◌, ◌⊎◌, inl, inr, ℕ, List, sym, subst, ap, ◌∙◌}
-use Rattle.std.proofs.Math.ListN.{get_or}
 use Rattle.std.specs.declared.option.Option.{Option}
 use Rattle.set_table.specs.declared.naming.memory.MetKey.{MetKey}
 use Rattle.set_table.specs.KeyCache.{Says, IsMet, AllMet, HasHash, AllHashed}

@@ -1,5 +1,5 @@
 -- Sets take their places.
-use Rattle.std.proofs.Common.{◌≡◌, ◌≢◌, ℕ, zero, suc, ◌+◌, ◌%◌, ◌<◌, ◌≤◌, ◌⊎◌, ◌∙◌, inl, inr, List, [], ◌∷◌, ◌++◌, ◌&&◌, Bool, true, false, cond, length, map, get_or, set, take, drop, sym, ap, subst, refl, arith, IfSome, mod-lt, add-one, length-drop, length-set, get_or-set_same, get_or-set_other}
+use Rattle.std.proofs.Common.{◌≡◌, ◌≢◌, ℕ, zero, suc, ◌+◌, ◌%◌, ◌<◌, ◌⊎◌, ◌∙◌, inl, inr, List, [], ◌∷◌, ◌++◌, ◌&&◌, Bool, true, false, cond, length, get_or, set, take, drop, sym, ap, subst, refl, arith, IfSome, mod-lt, add-one, length-drop, get_or-set_same, get_or-set_other}
 use Rattle.std.specs.Prelude.{T}
 use Rattle.std.specs.List.{All}
 use Rattle.std.specs.FinMap as fin

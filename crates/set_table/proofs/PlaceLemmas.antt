@@ -2,7 +2,7 @@
 use Rattle.std.proofs.Common.{◌≡◌, ℕ, ◌∙◌, List, sym, ap, subst, arith, IfSome, IfNone, IsTrue, MatchOption}
 use Rattle.std.specs.declared.option.Option.{Option}
 use Rattle.std.specs.declared.option.Option.TheVariants.{None, Some}
-use Rattle.zset_core.specs.AbstractCommand.{Meaning, Ping, Add, Increase, Remove, RemoveRange, Score, Card, Count, ListRange, key_of, is_creating}
+use Rattle.zset_core.specs.AbstractCommand.{Meaning, Ping, Asks, Changes, key_of, is_creating}
 use Rattle.set_table.specs.Naming.{Naming, Grows, BearsOther, IsPlace, walk}
 
 pub joined : {X : Type 0} (o : Option X) (A : Type 0) (B : X → Type 0) → IfSome o B → IfNone o A → MatchOption o A B
@@ -25,11 +25,5 @@ place_grows old new key p g place = record {
 -- a command that has no key makes no set
 pub keyless : (m : Meaning) → key_of m ≡ None → IsTrue (is_creating m) → ⊥
 keyless (Ping text) is h = cc
-keyless (Add key flags changed pairs) is h = cc
-keyless (Increase key flags given member) is h = cc
-keyless (Remove key names) is h = cc
-keyless (RemoveRange key range) is h = cc
-keyless (Score key member) is h = cc
-keyless (Card key) is h = cc
-keyless (Count key range) is h = cc
-keyless (ListRange key range with_scores limit) is h = cc
+keyless (Asks key question) is h = cc
+keyless (Changes key change) is h = cc

@@ -3,9 +3,10 @@ use Rattle.std.proofs.Common.{◌≡◌, ℕ, ◌+◌, true, false, Option, Some
 use Rattle.std.specs.Prelude.{◌≢◌}
 use Rattle.resp_wire.specs.Response.{Response}
 use Rattle.zset_core.specs.SortedSet.{Members}
-use Rattle.zset_core.specs.AbstractCommand.{Asked, is_writing, Meaning, Ping, Add, Increase, Remove, RemoveRange, Score, Card, Count, ListRange}
+use Rattle.zset_core.specs.AbstractCommand.{Asked, is_writing, Meaning, Change, Add, Increase, Remove, RemoveRange}
+use Rattle.zset_core.specs.AbstractCommand as meanings
 use Rattle.zset_core.specs.ChangeOutline.{IsOutline}
-use Rattle.zset_core.specs.Semantics.{step}
+use Rattle.zset_core.specs.Semantics.{changed_by, step}
 use Rattle.zset_core.specs.SetAndOwnerViews.{Next, Shows, IsPreparedFor}
 use Rattle.zset_core.specs.declared.set.change_outline.Outline.{Outline}
 use Rattle.zset_core.specs.declared.refusal.Refusal.{Refusal}
@@ -15,7 +16,7 @@ use Rattle.append_log.specs.Log.{LogView, NotAppended}
 use Rattle.append_log.proofs.CallerLemmas.{unchanged}
 use Rattle.set_table.specs.declared.counts.OwnCounts.{OwnCounts}
 use Rattle.set_table.specs.Tallies.{no_counts}
-use Rattle.set_table.specs.TableAnswers.{IsSetRefusal, is_increase}
+use Rattle.set_table.specs.TableAnswers.{IsSetRefusal, is_increase, is_sum}
 use Rattle.set_table.specs.SetSteps.{Stepped, IsLogged, Changes, IsHindered, IsAppendRefusal}
 
 -- a reading leaves the set
@@ -74,17 +75,16 @@ hinders m command o next e writes ready outlined changed h = by e h
     by OutOfStep h = h
 
 -- where a step is none, a sum of INCR is no score
+increases_by : (m : Members) (change : Change) → changed_by m change ≡ None → IsTrue (is_sum change)
+increases_by m (Add flags changed pairs) is = cc
+increases_by m (Increase flags given member) is = refl
+increases_by m (Remove names) is = cc
+increases_by m (RemoveRange range) is = cc
+
 increases : (m : Members) (meaning : Meaning) → step m meaning ≡ None → IsTrue (is_increase meaning)
-increases m (Ping None) is = cc
-increases m (Ping (Some text)) is = cc
-increases m (Add key flags changed pairs) is = cc
-increases m (Increase key flags given member) is = refl
-increases m (Remove key names) is = cc
-increases m (RemoveRange key range) is = cc
-increases m (Score key member) is = cc
-increases m (Card key) is = cc
-increases m (Count key range) is = cc
-increases m (ListRange key range with_scores limit) is = cc
+increases m (meanings.Ping text) is = cc
+increases m (meanings.Asks key question) is = cc
+increases m (meanings.Changes key change) is = increases_by m change is
 
 -- what hinders a command in some set, told without the set
 pub told_of : (m : Members) (command : Asked) (e : Refusal) → IsHindered e m command → IsSetRefusal command.meaning e

@@ -2,7 +2,7 @@
 use Rattle.std.specs.Prelude.{◌≡◌, ℕ, ◌⊎◌, Bool, true, false, List, None, Some, IsTrue}
 use Rattle.std.specs.FinMap as fin
 use Rattle.resp_wire.specs.Response.{response_of}
-use Rattle.zset_core.specs.AbstractCommand.{Asked, Meaning, Increase, key_of, is_creating, is_writing}
+use Rattle.zset_core.specs.AbstractCommand.{Asked, Meaning, Ping, Asks, Changes, Change, Increase, key_of, is_creating, is_writing}
 use Rattle.zset_core.specs.Semantics.{step}
 use Rattle.zset_core.specs.SortedSet.{Members}
 use Rattle.zset_core.specs.declared.refusal.Refusal.{Refusal}
@@ -25,10 +25,15 @@ IsAnswered table old new command (NoPlace reply) =
     (new.shares ≡ old.shares) × (step fin.empty command.meaning ≡ Some (fin.empty, response_of reply))
     × ((key_of command.meaning ≡ None) ⊎ ((is_creating command.meaning ≡ false) × ((key : List ℕ) → key_of command.meaning ≡ Some key → HasNoPlace old key)))
 
--- whether a command is ZADD with INCR
+-- whether a change is ZADD with INCR
+abbrev pub is_sum : Change → Bool
+is_sum (Increase flags given member) = true
+is_sum _ = false
+
 abbrev pub is_increase : Meaning → Bool
-is_increase (Increase key flags given member) = true
-is_increase _ = false
+is_increase (Ping text) = false
+is_increase (Asks key question) = false
+is_increase (Changes key change) = is_sum change
 
 -- why a key gets no place
 abbrev pub IsClaimRefusal : PassView → List ℕ → Refusal → Type 0

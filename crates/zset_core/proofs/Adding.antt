@@ -10,7 +10,7 @@ use Rattle.zset_core.specs.ParsedArguments.{word_at, scored}
 use Rattle.zset_core.specs.CommandGrammar.{first_of, has_option, has_two_of_gt_lt_nx, are_pairs, asked_flags, add_meaning, add_options, add_pairs, pairs_value, command_conditions, command_meaning}
 use Rattle.zset_core.specs.ReadingMatchesGrammar.{AreAddParts, AreScores, given_value}
 use Rattle.zset_core.specs.declared.command.name.CommandName.TheVariants as names
-use Rattle.zset_core.specs.declared.set.pair_outcome.Flags.{Flags}
+use Rattle.zset_core.specs.declared.command.pair_outcome.Flags.{Flags}
 use Rattle.zset_core.specs.declared.refusal.Refusal.{Refusal}
 use Rattle.zset_core.specs.declared.refusal.Refusal.TheVariants.{Syntax, NxAndXx, GtLtNx, IncrPair, BadScore}
 use lib.Dec.{eqb}
@@ -92,7 +92,7 @@ increase_refused words refusal whole apart agreeing incr read = elim (given_err 
 
 increase_meaning : (words : List (List ℕ)) (flags : Flags) (given : ℤ) (member : ℕ) → has_option (codes "INCR") (add_options words) ≡ true
     → given_value (add_pairs words) ≡ Ok given → flags ≡ asked_flags (add_options words) → member ≡ 2 + length (add_options words) + 1
-    → (command_meaning names.Add words ≡ Some (meanings.Increase (word_at words 1) flags given (word_at words member))) × ((1 < length words) × (member < length words))
+    → (command_meaning names.Add words ≡ Some (meanings.Changes (word_at words 1) (meanings.Increase flags given (word_at words member)))) × ((1 < length words) × (member < length words))
 unfolding given_value
 increase_meaning words flags given member incr read is_flags is_member =
     let facts = given_ok (eqb (length (add_pairs words)) 2) (score_value (word_at (add_pairs words) 0)) given read in
@@ -101,10 +101,10 @@ increase_meaning words flags given member incr read is_flags is_member =
     let value : pairs_value (add_pairs words) ≡ Some ((given, word_at (add_pairs words) 1) ∷ []) = value_of_one (add_pairs words) two (Some given) facts.1 in
     let place : word_at (add_pairs words) 1 ≡ word_at words member =
     ap (λ ws. word_at ws 1) (add_pairs-drop words) ∙ get_or-drop (2 + length (add_options words)) words 1 [] ∙ ap (word_at words) (sym is_member) in
-    let meaning : command_meaning names.Add words ≡ Some (meanings.Increase (word_at words 1) flags given (word_at words member)) =
+    let meaning : command_meaning names.Add words ≡ Some (meanings.Changes (word_at words 1) (meanings.Increase flags given (word_at words member))) =
     ap (option_and_then (add_meaning words)) value ∙ cond-true _ _ _ incr
-    ∙ ap (λ f. Some (meanings.Increase (word_at words 1) f given (word_at (add_pairs words) 1))) (sym is_flags)
-    ∙ ap (λ m. Some (meanings.Increase (word_at words 1) flags given m)) place in
+    ∙ ap (λ f. Some (meanings.Changes (word_at words 1) (meanings.Increase f given (word_at (add_pairs words) 1)))) (sym is_flags)
+    ∙ ap (λ m. Some (meanings.Changes (word_at words 1) (meanings.Increase flags given m))) place in
     (meaning, (omega (arith, count), omega (arith, count, is_member, two)))
 
 -- without INCR
@@ -122,16 +122,16 @@ scores_refused words whole apart agreeing no_incr none =
 
 scores_meaning : (words : List (List ℕ)) (flags : Flags) (changed : Bool) (first : ℕ) (scores : List ℤ) → 0 < length (add_pairs words) → has_option (codes "INCR") (add_options words) ≡ false
     → AreScores (add_pairs words) scores → flags ≡ asked_flags (add_options words) → changed ≡ has_option (codes "CH") (add_options words) → first ≡ 2 + length (add_options words)
-    → (command_meaning names.Add words ≡ Some (meanings.Add (word_at words 1) flags changed (scored scores (drop first words))))
+    → (command_meaning names.Add words ≡ Some (meanings.Changes (word_at words 1) (meanings.Add flags changed (scored scores (drop first words)))))
     × ((2 ≤ first) × (0 < length scores) × (first + 2 * length scores ≡ length words))
 scores_meaning words flags changed first scores some no_incr are is_flags is_changed is_first =
     let count = words_count words some in
     let pairs : add_pairs words ≡ drop first words = add_pairs-drop words ∙ ap (λ n. drop n words) (sym is_first) in
-    let meaning : command_meaning names.Add words ≡ Some (meanings.Add (word_at words 1) flags changed (scored scores (drop first words))) =
+    let meaning : command_meaning names.Add words ≡ Some (meanings.Changes (word_at words 1) (meanings.Add flags changed (scored scores (drop first words)))) =
     ap (option_and_then (add_meaning words)) are.value ∙ cond-false _ _ _ no_incr
-    ∙ ap (λ f. Some (meanings.Add (word_at words 1) f (has_option (codes "CH") (add_options words)) (scored scores (add_pairs words)))) (sym is_flags)
-    ∙ ap (λ c. Some (meanings.Add (word_at words 1) flags c (scored scores (add_pairs words)))) (sym is_changed)
-    ∙ ap (λ ps. Some (meanings.Add (word_at words 1) flags changed (scored scores ps))) pairs in
+    ∙ ap (λ f. Some (meanings.Changes (word_at words 1) (meanings.Add f (has_option (codes "CH") (add_options words)) (scored scores (add_pairs words))))) (sym is_flags)
+    ∙ ap (λ c. Some (meanings.Changes (word_at words 1) (meanings.Add flags c (scored scores (add_pairs words))))) (sym is_changed)
+    ∙ ap (λ ps. Some (meanings.Changes (word_at words 1) (meanings.Add flags changed (scored scores ps)))) pairs in
     (meaning, (omega (arith, is_first), omega (arith, are.all, some), omega (arith, count, are.all, is_first)))
 
 -- the same of options and pairs that were told apart
@@ -157,7 +157,7 @@ module _ (words options pairs : List (List ℕ)) (flags : Flags) (is_options : o
 
   pub increase_ok : (given : ℤ) → has_option (codes "INCR") options ≡ true → given_value pairs ≡ Ok given
       → (first_of (command_conditions names.Add words) ≡ None)
-      × (command_meaning names.Add words ≡ Some (meanings.Increase (word_at words 1) flags given (word_at words (2 + length options + 1))))
+      × (command_meaning names.Add words ≡ Some (meanings.Changes (word_at words 1) (meanings.Increase flags given (word_at words (2 + length options + 1)))))
       × ((1 < length words) × (2 + length options + 1 < length words))
   increase_ok given increases read =
       let read' : given_value (add_pairs words) ≡ Ok given = ap given_value (sym is_pairs) ∙ read in
@@ -170,7 +170,7 @@ module _ (words options pairs : List (List ℕ)) (flags : Flags) (is_options : o
 
   pub scores_ok : (scores : List ℤ) (changed : Bool) → has_option (codes "INCR") options ≡ false → AreScores pairs scores → changed ≡ has_option (codes "CH") options
       → (first_of (command_conditions names.Add words) ≡ None)
-      × (command_meaning names.Add words ≡ Some (meanings.Add (word_at words 1) flags changed (scored scores (drop (2 + length options) words))))
+      × (command_meaning names.Add words ≡ Some (meanings.Changes (word_at words 1) (meanings.Add flags changed (scored scores (drop (2 + length options) words)))))
       × ((2 ≤ 2 + length options) × (0 < length scores) × (2 + length options + 2 * length scores ≡ length words))
   scores_ok scores changed puts are is_changed =
       let are' : AreScores (add_pairs words) scores = subst (λ ps. AreScores ps scores) is_pairs are in

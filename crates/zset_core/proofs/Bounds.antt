@@ -12,18 +12,18 @@ use Rattle.resp_wire.specs.RequestEncoding.{IsArgument, IsRequest}
 use Rattle.resp_wire.specs.Response.{Response, NullBulk}
 use Rattle.score_bounds.specs.Scores.{IsScore, is_score, integer_value, score_value}
 use Rattle.zset_core.specs.SortedSet.{Members, Pair, bytes_cmp, names_of}
-use Rattle.zset_core.specs.AbstractCommand.{Meaning, key_of}
+use Rattle.zset_core.specs.AbstractCommand.{Meaning, Change, key_of}
 use Rattle.zset_core.specs.AbstractCommand as meanings
-use Rattle.zset_core.specs.Semantics.{outcome_of, writes, put_one, put_all, remove_all, sum_of, is_barred, increase_reply, step, act_at}
+use Rattle.zset_core.specs.Semantics.{outcome_of, writes, put_one, put_all, remove_all, sum_of, is_barred, increase_reply, changed_by, step, act_at}
 use Rattle.zset_core.specs.World.{World, is_empty, set_at, put_set}
 use Rattle.zset_core.specs.SetAndOwnerViews.{Next, ShowsAt, IsPreparedAt}
 use Rattle.zset_core.specs.ParsedArguments.{word_at}
 use Rattle.zset_core.specs.CommandGrammar.{add_options, add_pairs, has_option, pairs_value, add_meaning, increase, asked_flags, command_meaning, meaning, command_named, refusal_of, asked, asked_range, asked_options, RangeOption, is_with_scores, last_limit}
 use Rattle.score_bounds.specs.declared.bounds.Range.{Range}
-use Rattle.zset_core.specs.ExpressibleWorld.{IsSpelled, IsBoundedSet, IsBoundedAt, IsBoundedWorld, PutsSpelled, IsBoundedMeaning}
+use Rattle.zset_core.specs.ExpressibleWorld.{IsSpelled, IsBoundedSet, IsBoundedAt, IsBoundedWorld, PutsSpelled, PutsSpelledPairs, IsBoundedMeaning}
 use Rattle.zset_core.specs.declared.command.name.CommandName.{CommandName}
 use Rattle.zset_core.specs.declared.command.name.CommandName.TheVariants.{Ping, Add, Remove, RemoveRange, Score, Card, Count, ListRange}
-use Rattle.zset_core.specs.declared.set.pair_outcome.Flags.{Flags}
+use Rattle.zset_core.specs.declared.command.pair_outcome.Flags.{Flags}
 use Rattle.zset_core.specs.declared.refusal.Refusal.{Refusal}
 use Rattle.zset_core.specs.declared.refusal.Refusal.TheVariants.{UnknownCommand}
 use Rattle.zset_core.proofs.Bridge.{total, tied}
@@ -84,18 +84,17 @@ increase_bounded f m k given bounded spelled true sum within = bounded
 increase_bounded f m k given bounded spelled false None within = tt
 increase_bounded f m k given bounded spelled false (Some score) within = put_one_bounded f m k score bounded (within, spelled.1)
 
-step_bounded : (m : Members) (c : Meaning) → IsBoundedSet m → PutsSpelled c → IfSome (step m c) (λ done. IsBoundedSet done.0)
-step_bounded m (meanings.Ping None) bounded puts = bounded
-step_bounded m (meanings.Ping (Some text)) bounded puts = bounded
-step_bounded m (meanings.Add key f changed pairs) bounded puts = put_all_bounded f m pairs bounded puts
-step_bounded m (meanings.Increase key f given member) bounded puts =
+changed_bounded : (m : Members) (c : Change) → IsBoundedSet m → PutsSpelledPairs c → IfSome (changed_by m c) (λ done. IsBoundedSet done.0)
+changed_bounded m (meanings.Add f changed pairs) bounded puts = put_all_bounded f m pairs bounded puts
+changed_bounded m (meanings.Increase f given member) bounded puts =
     increase_bounded f m member given bounded puts (is_barred f (fin.get m member)) (sum_of (fin.get m member) given) (sum_bounded (fin.get m member) given puts.0)
-step_bounded m (meanings.Remove key names) bounded puts = remove_all_bounded m names bounded
-step_bounded m (meanings.RemoveRange key range) bounded puts = subst IsBoundedSet (removed_inside range m) (remove_all_bounded m (names_of (inside range m)) bounded)
-step_bounded m (meanings.Score key member) bounded puts = bounded
-step_bounded m (meanings.Card key) bounded puts = bounded
-step_bounded m (meanings.Count key range) bounded puts = bounded
-step_bounded m (meanings.ListRange key range with_scores limit) bounded puts = bounded
+changed_bounded m (meanings.Remove names) bounded puts = remove_all_bounded m names bounded
+changed_bounded m (meanings.RemoveRange range) bounded puts = subst IsBoundedSet (removed_inside range m) (remove_all_bounded m (names_of (inside range m)) bounded)
+
+step_bounded : (m : Members) (c : Meaning) → IsBoundedSet m → PutsSpelled c → IfSome (step m c) (λ done. IsBoundedSet done.0)
+step_bounded m (meanings.Ping text) bounded puts = bounded
+step_bounded m (meanings.Asks key question) bounded puts = bounded
+step_bounded m (meanings.Changes key change) bounded puts = changed_bounded m change bounded puts
 
 -- ---- worlds
 pub no_sets_bounded : IsBoundedWorld fin.empty
@@ -196,17 +195,17 @@ pairs_are_spelled ws h = pairs_spelled (drop (length (add_options ws)) (drop 2 w
 
 increase_meant : (key : List ℕ) (f : Flags) (ps : List Pair) (c : Meaning) → IsArgument key → AllByRecursion IsSpelled ps → increase key f ps ≡ Some c → IsBoundedMeaning c
 increase_meant key f [] c word each is = absurd (let no : None ≡ Some c = is in cc)
-increase_meant key f (p ∷ []) c word each is = subst IsBoundedMeaning (let same : meanings.Increase key f p.0 p.1 ≡ c = cc in same) (record { key = word; puts = each.0 })
+increase_meant key f (p ∷ []) c word each is = subst IsBoundedMeaning (let same : meanings.Changes key (meanings.Increase f p.0 p.1) ≡ c = cc in same) (record { key = word; puts = each.0 })
 increase_meant key f (p ∷ q ∷ ps) c word each is = absurd (let no : None ≡ Some c = is in cc)
 
 add_meant : (ws : List (List ℕ)) (ps : List Pair) (c : Meaning) → AllByRecursion IsArgument ws → AllByRecursion IsSpelled ps → add_meaning ws ps ≡ Some c → IsBoundedMeaning c
 add_meant ws ps c words each is = by _ is
   where
     by : (b : Bool)
-        → cond b (increase (word_at ws 1) (asked_flags (add_options ws)) ps) (Some (meanings.Add (word_at ws 1) (asked_flags (add_options ws)) (has_option (codes "CH") (add_options ws)) ps)) ≡ Some c
+        → cond b (increase (word_at ws 1) (asked_flags (add_options ws)) ps) (Some (meanings.Changes (word_at ws 1) (meanings.Add (asked_flags (add_options ws)) (has_option (codes "CH") (add_options ws)) ps))) ≡ Some c
         → IsBoundedMeaning c
     by true h = increase_meant (word_at ws 1) (asked_flags (add_options ws)) ps c (word_at_bounded ws 1 words) each h
-    by false h = subst IsBoundedMeaning (let same : meanings.Add (word_at ws 1) (asked_flags (add_options ws)) (has_option (codes "CH") (add_options ws)) ps ≡ c = cc in same) (record { key = word_at_bounded ws 1 words; puts = each })
+    by false h = subst IsBoundedMeaning (let same : meanings.Changes (word_at ws 1) (meanings.Add (asked_flags (add_options ws)) (has_option (codes "CH") (add_options ws)) ps) ≡ c = cc in same) (record { key = word_at_bounded ws 1 words; puts = each })
 
 command_meant : (name : CommandName) (ws : List (List ℕ)) (c : Meaning) → AllByRecursion IsArgument ws → command_meaning name ws ≡ Some c → IsBoundedMeaning c
 command_meant Ping ws c words is = subst IsBoundedMeaning (some_is _ _ is) (record { key = tt; puts = tt })
@@ -218,20 +217,20 @@ command_meant Add ws c words is = by (pairs_value (add_pairs ws)) (pairs_are_spe
 command_meant Remove ws c words is = subst IsBoundedMeaning (some_is _ _ is) (record { key = word_at_bounded ws 1 words; puts = tt })
 command_meant RemoveRange ws c words is = by (asked_range ws) is
   where
-    by : (o : Option Range) → option_map (meanings.RemoveRange (word_at ws 1)) o ≡ Some c → IsBoundedMeaning c
+    by : (o : Option Range) → option_map (λ range. meanings.Changes (word_at ws 1) (meanings.RemoveRange range)) o ≡ Some c → IsBoundedMeaning c
     by None h = absurd (let no : None ≡ Some c = h in cc)
     by (Some range) h = subst IsBoundedMeaning (some_is _ _ h) (record { key = word_at_bounded ws 1 words; puts = tt })
 command_meant Score ws c words is = subst IsBoundedMeaning (some_is _ _ is) (record { key = word_at_bounded ws 1 words; puts = tt })
 command_meant Card ws c words is = subst IsBoundedMeaning (some_is _ _ is) (record { key = word_at_bounded ws 1 words; puts = tt })
 command_meant Count ws c words is = by (asked_range ws) is
   where
-    by : (o : Option Range) → option_map (meanings.Count (word_at ws 1)) o ≡ Some c → IsBoundedMeaning c
+    by : (o : Option Range) → option_map (λ range. meanings.Asks (word_at ws 1) (meanings.Count range)) o ≡ Some c → IsBoundedMeaning c
     by None h = absurd (let no : None ≡ Some c = h in cc)
     by (Some range) h = subst IsBoundedMeaning (some_is _ _ h) (record { key = word_at_bounded ws 1 words; puts = tt })
 command_meant ListRange ws c words is = by (asked_range ws) (asked_options ws) is
   where
     by : (range : Option Range) (options : Option (List RangeOption))
-        → option_and_then (λ range. option_map (λ options. meanings.ListRange (word_at ws 1) range (list_any is_with_scores options) (last_limit None options)) options) range ≡ Some c → IsBoundedMeaning c
+        → option_and_then (λ range. option_map (λ options. meanings.Asks (word_at ws 1) (meanings.ListRange range (list_any is_with_scores options) (last_limit None options))) options) range ≡ Some c → IsBoundedMeaning c
     by None options h = absurd (let no : None ≡ Some c = h in cc)
     by (Some range) None h = absurd (let no : None ≡ Some c = h in cc)
     by (Some range) (Some options) h = subst IsBoundedMeaning (some_is _ _ h) (record { key = word_at_bounded ws 1 words; puts = tt })

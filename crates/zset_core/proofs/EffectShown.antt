@@ -6,25 +6,25 @@ use Rattle.std.proofs.lemmas.Option.{slice_get-map, slice_get-get_or}
 use Rattle.ripple_column.specs.Content.{ColumnState}
 use Rattle.score_bounds.specs.declared.bounds.Range.{Range}
 use Rattle.zset_core.specs.SortedSet.{Members}
-use Rattle.zset_core.specs.AbstractCommand.{Meaning, Ping, Add, Increase, Remove, RemoveRange, Score, Card, Count, ListRange, range_to_remove}
-use Rattle.zset_core.specs.ChangeEffect.{effect, moved_names, names_in, prepared_effect}
+use Rattle.zset_core.specs.AbstractCommand.{Meaning, Ping, Asks, Changes, Change, Add, Increase, Remove, RemoveRange, range_of_change, range_to_remove}
+use Rattle.zset_core.specs.ChangeEffect.{effect, moved_names, names_in, names_of_change, prepared_effect}
 use Rattle.zset_core.specs.MembersWithStagedScores.{Entry, current_score, rows_by, name_at}
 use Rattle.zset_core.specs.Plan.{edited_by, left_by, moved_places, range_of, without_given}
 use Rattle.zset_core.specs.SetAndOwnerViews.{SetView}
 use Rattle.zset_core.specs.SetViewAndInvariant.{view_of, IsPlanned, IsSound}
 use Rattle.zset_core.specs.declared.set.Prepared.{Prepared}
 
--- only a command that names no member removes a range
+-- only a change that names no member removes a range
+no_range_of : (range : Option Range) (change : Change) (old new : Members) (n i : ℕ) → range ≡ range_of_change change → n ≡ length (moved_names old new (names_of_change change)) → i < n → range ≡ None
+no_range_of range (Add flags changed pairs) old new n i is many lt = is
+no_range_of range (Increase flags given member) old new n i is many lt = is
+no_range_of range (Remove names) old new n i is many lt = is
+no_range_of range (RemoveRange bounds) old new n i is many lt = absurd (omega (arith, many, lt))
+
 no_range : (range : Option Range) (meaning : Meaning) (old new : Members) (n i : ℕ) → range ≡ range_to_remove meaning → n ≡ length (moved_names old new (names_in meaning)) → i < n → range ≡ None
 no_range range (Ping text) old new n i is many lt = is
-no_range range (Add key flags changed pairs) old new n i is many lt = is
-no_range range (Increase key flags given member) old new n i is many lt = is
-no_range range (Remove key names) old new n i is many lt = is
-no_range range (RemoveRange key bounds) old new n i is many lt = absurd (omega (arith, many, lt))
-no_range range (Score key member) old new n i is many lt = is
-no_range range (Card key) old new n i is many lt = is
-no_range range (Count key bounds) old new n i is many lt = is
-no_range range (ListRange key bounds with_scores limit) old new n i is many lt = is
+no_range range (Asks key question) old new n i is many lt = is
+no_range range (Changes key change) old new n i is many lt = no_range_of range change old new n i is many lt
 
 module _ {A : Type 0} (es : List Entry) (column : ColumnState) (q : Prepared A) (planned : IsPlanned es column q.asked.value.meaning q.plan) where
   abbrev old : Members

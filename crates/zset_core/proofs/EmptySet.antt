@@ -1,14 +1,14 @@
 -- What a command that makes no set replies where its key has none.
 use Rattle.std.proofs.Common.{◌≡◌, ℕ, ◌-◌, ℤ, pos, negsuc, Bool, true, false, cond, List, [], ◌∷◌, map, filter, count_by, length, take, drop, zero, suc, Option, None, Some, refl, sym, ap, ◌∙◌, arith, true≢false}
-use Rattle.std.specs.Prelude.{not, IsSome, option_map}
+use Rattle.std.specs.Prelude.{not, option_map}
 use Rattle.std.specs.FinMap as fin
 use Rattle.score_bounds.specs.Bounds.{is_in}
 use Rattle.resp_wire.specs.Response.{Response, Integer, NullBulk, Array}
 use Rattle.zset_core.specs.SortedSet.{Members, Pair, bytes_cmp, pairs, listing}
-use Rattle.zset_core.specs.AbstractCommand.{Meaning, key_of, Ping, Add, Increase, Remove, RemoveRange, Score, Card, Count, ListRange, is_creating}
-use Rattle.zset_core.specs.Semantics.{outcome_of, writes, counted, put_one, put_all, count_all, is_barred, sum_of, increase_reply, remove_all, without_range, score_reply, elements, apply_limit, from_offset, at_most, step}
-use Rattle.zset_core.specs.declared.set.pair_outcome.Flags.{Flags}
-use Rattle.zset_core.specs.declared.set.pair_outcome.Outcome.TheVariants.{Stopped, Added}
+use Rattle.zset_core.specs.AbstractCommand.{Meaning, Asks, Changes, Question, Score, Card, Count, ListRange, Change, Add, Increase, Remove, RemoveRange, is_creating, makes_a_set}
+use Rattle.zset_core.specs.Semantics.{outcome_of, writes, counted, put_one, put_all, count_all, is_barred, sum_of, increase_reply, remove_all, without_range, score_reply, elements, apply_limit, from_offset, at_most, answer, changed_by, step}
+use Rattle.zset_core.specs.declared.command.pair_outcome.Flags.{Flags}
+use Rattle.zset_core.specs.declared.command.pair_outcome.Outcome.TheVariants.{Stopped, Added}
 use Rattle.zset_core.specs.declared.command.limit.Limit.{Limit}
 use Rattle.zset_core.proofs.Bridge.{total}
 use Rattle.zset_core.proofs.RangeRows.{length_listing}
@@ -91,38 +91,52 @@ none_shown : (with_scores : Bool) → elements with_scores [] ≡ []
 none_shown true = refl
 none_shown false = refl
 
--- the reply by the command's kind
-abbrev pub empty_reply : Meaning → Response
-empty_reply (Ping text) = NullBulk
-empty_reply (Add key flags changed ps) = Integer (pos 0)
-empty_reply (Increase key flags given member) = NullBulk
-empty_reply (Remove key names) = Integer (pos 0)
-empty_reply (RemoveRange key range) = Integer (pos 0)
-empty_reply (Score key member) = NullBulk
-empty_reply (Card key) = Integer (pos 0)
-empty_reply (Count key range) = Integer (pos 0)
-empty_reply (ListRange key range with_scores limit) = Array []
+-- the reply to a question of the empty set
+abbrev pub empty_answer : Question → Response
+empty_answer (Score member) = NullBulk
+empty_answer Card = Integer (pos 0)
+empty_answer (Count range) = Integer (pos 0)
+empty_answer (ListRange range with_scores limit) = Array []
 
-pub empty_step : (meaning : Meaning) → IsSome (key_of meaning) → is_creating meaning ≡ false → step fin.empty meaning ≡ Some (fin.empty, empty_reply meaning)
-empty_step (Ping text) keyed h = absurd (true≢false (sym keyed))
-empty_step (Add key flags changed ps) keyed h =
+answered : (question : Question) → answer none question ≡ empty_answer question
+answered (Score member) = ap score_reply (no_score member)
+answered Card = ap (λ (n : ℕ). Integer (pos n)) (fin.len-empty bytes_cmp ℤ)
+answered (Count range) = ap (λ (ps : List Pair). Integer (pos (length ps))) (none_listed (is_in range))
+answered (ListRange range with_scores limit) =
+    ap (λ (ps : List Pair). Array (elements with_scores (apply_limit limit ps))) (none_listed (is_in range))
+    ∙ ap (λ (ps : List Pair). Array (elements with_scores ps)) (none_limited limit) ∙ ap Array (none_shown with_scores)
+
+-- the reply to a change of it that makes no set
+abbrev pub empty_change : Change → Response
+empty_change (Add flags changed ps) = Integer (pos 0)
+empty_change (Increase flags given member) = NullBulk
+empty_change (Remove names) = Integer (pos 0)
+empty_change (RemoveRange range) = Integer (pos 0)
+
+changed : (change : Change) → makes_a_set change ≡ false → changed_by none change ≡ Some (none, empty_change change)
+changed (Add flags changes ps) h =
     let xx = must_be_there flags h in
-    ap (λ m. Some (m, Integer (pos (count_all flags changed none ps)))) (put_all_stopped flags ps xx) ∙ ap (λ n. Some (none, Integer (pos n))) (none_counted flags changed ps xx)
-empty_step (Increase key flags given member) keyed h =
+    ap (λ m. Some (m, Integer (pos (count_all flags changes none ps)))) (put_all_stopped flags ps xx) ∙ ap (λ n. Some (none, Integer (pos n))) (none_counted flags changes ps xx)
+changed (Increase flags given member) h =
     let xx = must_be_there flags h in
     let barred : is_barred flags (fin.get none member) ≡ true = ap (is_barred flags) (no_score member) ∙ xx in
     ap (λ b. cond b (Some (none, NullBulk)) (option_map (λ score. (put_one flags none member score, increase_reply (outcome_of flags (fin.get none member) score) score)) (sum_of (fin.get none member) given))) barred
-empty_step (Remove key names) keyed h = ap (λ m. Some (m, Integer (pos (fin.len none - fin.len m)))) (none_removed names) ∙ ap (λ (n : ℕ). Some (none, Integer (pos (n - n)))) (fin.len-empty bytes_cmp ℤ)
-empty_step (RemoveRange key range) keyed h =
+changed (Remove names) h = ap (λ m. Some (m, Integer (pos (fin.len none - fin.len m)))) (none_removed names) ∙ ap (λ (n : ℕ). Some (none, Integer (pos (n - n)))) (fin.len-empty bytes_cmp ℤ)
+changed (RemoveRange range) h =
     ap (λ m. Some (m, Integer (pos (length (listing (is_in range) none))))) (none_in_range range) ∙ ap (λ (ps : List Pair). Some (none, Integer (pos (length ps)))) (none_listed (is_in range))
-empty_step (Score key member) keyed h = ap (λ o. Some (none, score_reply o)) (no_score member)
-empty_step (Card key) keyed h = ap (λ (n : ℕ). Some (none, Integer (pos n))) (fin.len-empty bytes_cmp ℤ)
-empty_step (Count key range) keyed h = ap (λ (ps : List Pair). Some (none, Integer (pos (length ps)))) (none_listed (is_in range))
-empty_step (ListRange key range with_scores limit) keyed h =
-    ap (λ (ps : List Pair). Some (none, Array (elements with_scores (apply_limit limit ps)))) (none_listed (is_in range))
-    ∙ ap (λ (ps : List Pair). Some (none, Array (elements with_scores ps))) (none_limited limit) ∙ ap (λ l. Some (none, Array l)) (none_shown with_scores)
 
--- the same of a meaning by what it is equal to
-pub empty_step_of : (meaning form : Meaning) → meaning ≡ form → IsSome (key_of form) → is_creating meaning ≡ false → step fin.empty meaning ≡ Some (fin.empty, empty_reply form)
-empty_step_of meaning form is keyed h =
-    ap (step fin.empty) is ∙ empty_step form keyed (sym (ap is_creating is) ∙ h)
+-- the same of a question and a change by what they are equal to
+pub answered_of : (question form : Question) (reply : Response) → question ≡ form → reply ≡ empty_answer form → reply ≡ answer fin.empty question
+answered_of question form reply is told = told ∙ sym (answered form) ∙ ap (answer none) (sym is)
+
+pub changed_of : (change form : Change) (reply : Response) → change ≡ form → reply ≡ empty_change form → makes_a_set change ≡ false → changed_by fin.empty change ≡ Some (fin.empty, reply)
+changed_of change form reply is told h =
+    ap (changed_by none) is ∙ changed form (sym (ap makes_a_set is) ∙ h) ∙ ap (λ (r : Response). Some (none, r)) (sym told)
+
+-- and of a command that asks for a set
+pub asked_of : (meaning : Meaning) (key : List ℕ) (question : Question) (reply : Response) → meaning ≡ Asks key question → reply ≡ answer fin.empty question → step fin.empty meaning ≡ Some (fin.empty, reply)
+asked_of meaning key question reply is told = ap (step none) is ∙ ap (λ (r : Response). Some (none, r)) (sym told)
+
+pub altered_of : (meaning : Meaning) (key : List ℕ) (change : Change) (reply : Response) → meaning ≡ Changes key change → is_creating meaning ≡ false
+    → (makes_a_set change ≡ false → changed_by fin.empty change ≡ Some (fin.empty, reply)) → step fin.empty meaning ≡ Some (fin.empty, reply)
+altered_of meaning key change reply is h told = ap (step none) is ∙ told (sym (ap is_creating is) ∙ h)

@@ -9,6 +9,7 @@ pub mod Order
 pub mod Bags
 pub mod Planning
 pub mod RangeRows
+pub mod ReadySets
 pub mod Ranks
 pub mod LeastPairs
 pub mod Limits

@@ -14,8 +14,8 @@ use Rattle.zset_core.specs.ChangeEffect.{same_score, differs, once, moved_names}
 use Rattle.zset_core.specs.NotedNames.{mention, mentions, noted, all_noted}
 use Rattle.zset_core.specs.MembersWithStagedScores.{Entry, name_at, names_at, slots, IsWithin}
 use Rattle.zset_core.specs.declared.set.members_with_staged_scores.ScoreSlot.{ScoreSlot}
-use Rattle.zset_core.specs.declared.set.pair_outcome.Flags.{Flags}
-use Rattle.zset_core.specs.declared.set.pair_outcome.Outcome.TheVariants.{Stopped, Added}
+use Rattle.zset_core.specs.declared.command.pair_outcome.Flags.{Flags}
+use Rattle.zset_core.specs.declared.command.pair_outcome.Outcome.TheVariants.{Stopped, Added}
 use Rattle.zset_core.proofs.Bridge.{total, tied}
 use Rattle.zset_core.proofs.Outlines.{has}
 use Rattle.zset_core.proofs.Gathering.{get-remove_all, any_put}

@@ -4,9 +4,9 @@ use Rattle.std.specs.FinMap as fin
 use Rattle.zset_core.specs.ParsedArguments.{scored}
 use Rattle.zset_core.specs.SortedSet.{Members, Pair}
 use Rattle.zset_core.specs.Semantics.{outcome_of, counted, put_one, put_all, count_all}
-use Rattle.zset_core.specs.declared.set.pair_outcome.Flags.{Flags}
-use Rattle.zset_core.specs.declared.set.pair_outcome.Outcome.{Outcome}
-use Rattle.zset_core.specs.declared.set.pair_outcome.Outcome.TheVariants.{Stopped, Added, Changed, Same}
+use Rattle.zset_core.specs.declared.command.pair_outcome.Flags.{Flags}
+use Rattle.zset_core.specs.declared.command.pair_outcome.Outcome.{Outcome}
+use Rattle.zset_core.specs.declared.command.pair_outcome.Outcome.TheVariants.{Stopped, Added, Changed, Same}
 
 get_or-any : {X : Type 0} (xs : List X) (i : ℕ) (a b : X) → i < length xs → get_or xs i a ≡ get_or xs i b
 get_or-any [] i a b h = absurd (omega arith)

@@ -4,13 +4,13 @@ use Rattle.std.specs.FinMap as fin
 use Rattle.resp_wire.specs.Response.{Response}
 use Rattle.ripple_column.specs.Content.{ColumnState, Holds, SameContent, IsUnchanged, most_pending}
 use Rattle.zset_core.specs.SortedSet.{Members, pairs}
-use Rattle.zset_core.specs.MembersWithStagedScores.{Entry, current_score, staged_score, rows_by, members_by, names_at, IsSettled}
+use Rattle.zset_core.specs.MembersWithStagedScores.{Entry, current_score, staged_score, rows_by, members_by, names_at, IsBack, IsSettled}
 use Rattle.zset_core.specs.RowEdits.{most_edits}
 use Rattle.zset_core.specs.ChangeEffect.{moved_names, names_in}
 use Rattle.zset_core.specs.Plan.{Moves, MovesTo, NeedsAtMost, Plans, Prepares, edited_by, left_by, range_of, rows_coming, rows_leaving}
 use Rattle.zset_core.specs.ChangeOutline.{IsOutline}
-use Rattle.zset_core.specs.CommandEffectsOnColumn.{edit_count}
-use Rattle.zset_core.specs.AbstractCommand.{Meaning, range_to_remove}
+use Rattle.zset_core.specs.CommandEffectsOnColumn.{changes_named, edit_count, edits_of, names_members}
+use Rattle.zset_core.specs.AbstractCommand.{Change, Changes, Meaning, range_to_remove}
 use Rattle.zset_core.specs.SetAndOwnerViews.{SetView, Next}
 use Rattle.zset_core.specs.SetViewAndInvariant.{view_of, next_of, IsIdle, IsPlanned, IsReadyForPlan, IsSound}
 use Rattle.zset_core.specs.declared.set.plan.Plan.{Plan}
@@ -79,6 +79,16 @@ module _ {A : Type 0} where
   pub IsSound-none : (es : List Entry) (c : ColumnState) (p : Option (Prepared A)) → p ≡ None → IsIdle es c → IsSound es c p
   IsSound-none es c p is s = subst (IsSound es c) (sym is) s
 
+  -- a set that is as it was once no plan could be made
+  pub IsSound-back : (old new : List Entry) (c d : ColumnState) (p : Option (Prepared A)) (v : SetView) → view_of old c p ≡ v → v.next ≡ None → IsSound old c p → IsBack old new → SameContent c d → IsSound new d p
+  IsSound-back old new c d None v is idle sound back content = record {
+    settled = back.settled;
+    content = λ t. content t ∙ sound.content t ∙ ap (λ (rows : List (List ℕ × ℤ)). count_by t (pairs (fin.from_entries rows))) (sym back.same);
+  }
+  IsSound-back old new c d (Some q) v is idle sound back content =
+      let shown : Some (next_of old q) ≡ v.next = ap (λ (w : SetView). w.next) is in
+      absurd (not_none (next_of old q) (shown ∙ idle))
+
   -- the members that a plan moves, by the set that its commit leaves
   MovesTo-left : (old new : List Entry) (plan : Plan A) (names : List (List ℕ)) (o : Option (Members × Response)) → Plans old new plan o → Moves old new plan names o → MovesTo old new plan.draft names (left_by new plan)
   MovesTo-left old new plan names None h m = absurd h
@@ -115,6 +125,11 @@ pub still_shown : (a b new : ColumnState) (m n : Members) (meaning : Meaning) (r
 still_shown a b new m n meaning room columns sets still =
     subst (λ (c : ColumnState). most_pending c + edit_count n meaning ≤ room → IsUnchanged c new) columns
     (subst (λ (k : Members). most_pending a + edit_count k meaning ≤ room → IsUnchanged a new) sets still)
+
+-- and of the command that a change is of
+pub still_asked : (a new : ColumnState) (m : Members) (meaning : Meaning) (key : List ℕ) (change : Change) (room : ℕ) → meaning ≡ Changes key change
+    → (names_members change ≡ true → most_pending a + edits_of m change ≤ room → IsUnchanged a new) → changes_named meaning ≡ true → most_pending a + edit_count m meaning ≤ room → IsUnchanged a new
+still_asked a new m meaning key change room is still = subst (λ (k : Meaning). changes_named k ≡ true → most_pending a + edit_count m k ≤ room → IsUnchanged a new) (sym is) still
 
 pub empty_list : {X : Type 0} (xs : List X) → length xs ≡ 0 → xs ≡ []
 empty_list [] h = refl

@@ -18,8 +18,8 @@ use Rattle.zset_core.specs.SortedSet.{Members, Pair, pair_cmp, pairs, marks, lis
 use Rattle.resp_wire.specs.Response.{Response, Integer, Array}
 use Rattle.ripple_column.specs.RangeEffects.{Selects}
 use Rattle.zset_core.specs.CommandEffectsOnColumn.{Reads, SelectsListed, SelectsWindow}
-use Rattle.zset_core.specs.AbstractCommand.{Meaning, Count, ListRange}
-use Rattle.zset_core.specs.Semantics.{step, elements, apply_limit}
+use Rattle.zset_core.specs.AbstractCommand.{Question, Count, ListRange}
+use Rattle.zset_core.specs.Semantics.{answer, elements, apply_limit}
 use Rattle.zset_core.specs.declared.command.limit.Limit.{Limit}
 use Rattle.zset_core.proofs.Order.{is_pair, is_equal, pair_total, filter_apart, len_marks, pairs_apart}
 
@@ -100,14 +100,14 @@ length_listing t m rows bag =
     length-map (fin.entries (fin.from_entries {R = pair_cmp} (marks L))) (λ (e : Pair × Unit {0}). e.0) ∙ sym (fin.len-entries (fin.from_entries {R = pair_cmp} (marks L)))
     ∙ len_marks L (filter_apart (λ p. t p.0) (pairs m) (pairs_apart m)) ∙ sym (count_all L) ∙ sym (bag (λ x. true)) ∙ count_all rows
 
--- the replies to the commands that name a range
-pub count_reply : (m : Members) (meaning : Meaning) (key : List ℕ) (range : Range) (reply : Response) → meaning ≡ Count key range
-    → reply ≡ Integer (pos (length (listing (is_in range) m))) → step m meaning ≡ Some (m, reply)
-count_reply m meaning key range reply is told = ap (step m) is ∙ ap (λ (r : Response). Some (m, r)) (sym told)
+-- the replies to the questions that name a range
+pub count_reply : (m : Members) (question : Question) (range : Range) (reply : Response) → question ≡ Count range
+    → reply ≡ Integer (pos (length (listing (is_in range) m))) → reply ≡ answer m question
+count_reply m question range reply is told = told ∙ sym (ap (answer m) is)
 
-pub list_reply : (m : Members) (meaning : Meaning) (key : List ℕ) (range : Range) (with_scores : Bool) (limit : Option Limit) (reply : Response) → meaning ≡ ListRange key range with_scores limit
-    → reply ≡ Array (elements with_scores (apply_limit limit (listing (is_in range) m))) → step m meaning ≡ Some (m, reply)
-list_reply m meaning key range with_scores limit reply is told = ap (step m) is ∙ ap (λ (r : Response). Some (m, r)) (sym told)
+pub list_reply : (m : Members) (question : Question) (range : Range) (with_scores : Bool) (limit : Option Limit) (reply : Response) → question ≡ ListRange range with_scores limit
+    → reply ≡ Array (elements with_scores (apply_limit limit (listing (is_in range) m))) → reply ≡ answer m question
+list_reply m question range with_scores limit reply is told = told ∙ sym (ap (answer m) is)
 
 pub IfOk-all : {T E : Type 0} {P Q : T → Type 0} (r : Result T E) → ((x : T) → P x → Q x) → IfOk r P → IfOk r Q
 IfOk-all (Ok x) all h = all x h
@@ -117,12 +117,12 @@ IfOk-all (Err e) all h = tt
 pub Holds-same : (c c' : ColumnState) (m : Members) → SameContent c c' → Holds c (pairs m) → Holds c' (pairs m)
 Holds-same c c' m same holds p = same p ∙ holds p
 
--- what a query of a range does to the column
-pub Reads-count : (old new : ColumnState) (meaning : Meaning) (key : List ℕ) (range : Range) → meaning ≡ Count key range → Selects range old new → Reads meaning old new
-Reads-count old new meaning key range is selects = subst (λ (m : Meaning). Reads m old new) (sym is) selects
+-- what a question of a range does to the column
+pub Reads-count : (old new : ColumnState) (question : Question) (range : Range) → question ≡ Count range → Selects range old new → Reads question old new
+Reads-count old new question range is selects = subst (λ (q : Question). Reads q old new) (sym is) selects
 
-pub Reads-list : (old new : ColumnState) (meaning : Meaning) (key : List ℕ) (range : Range) (with_scores : Bool) (limit : Option Limit) → meaning ≡ ListRange key range with_scores limit → SelectsListed limit range old new → Reads meaning old new
-Reads-list old new meaning key range with_scores limit is selects = subst (λ (m : Meaning). Reads m old new) (sym is) selects
+pub Reads-list : (old new : ColumnState) (question : Question) (range : Range) (with_scores : Bool) (limit : Option Limit) → question ≡ ListRange range with_scores limit → SelectsListed limit range old new → Reads question old new
+Reads-list old new question range with_scores limit is selects = subst (λ (q : Question). Reads q old new) (sym is) selects
 
 -- a range that was asked for may be listed, all of it or a window
 pub SelectsListed-selects : (limit : Option Limit) (range : Range) (old new : ColumnState) → HasAnswer new range → Selects range old new → SelectsListed limit range old new

@@ -7,7 +7,7 @@ use Rattle.std.specs.Str.{bytes_eq}
 use Rattle.std.specs.FinMap as fin
 use Rattle.zset_core.specs.SortedSet.{Members, names_of}
 use Rattle.zset_core.specs.SetAndOwnerViews.{SetView, Next}
-use Rattle.zset_core.specs.AbstractCommand.{Meaning, Ping, Add, Increase, Remove, RemoveRange, Score, Card, Count, ListRange}
+use Rattle.zset_core.specs.AbstractCommand.{Meaning, Ping, Asks, Changes, Change, Add, Increase, Remove, RemoveRange}
 
 -- two scores are the same; None is that of no member
 abbrev pub same_score : Option ℤ → Option ℤ → Bool
@@ -29,17 +29,18 @@ once (name ∷ names) = name ∷ filter (λ other. not (bytes_eq other name)) (o
 abbrev pub moved_names : Members → Members → List (List ℕ) → List (List ℕ)
 moved_names old new names = once (filter (differs old new) names)
 
--- the members that a command names to change them, in its order. ZREMRANGEBYSCORE names none
+-- the members that a change names, in its order. ZREMRANGEBYSCORE names none
+abbrev pub names_of_change : Change → List (List ℕ)
+names_of_change (Add flags changed pairs) = names_of pairs
+names_of_change (Increase flags given member) = member ∷ []
+names_of_change (Remove names) = names
+names_of_change (RemoveRange range) = []
+
+-- the members that a command names to change them
 abbrev pub names_in : Meaning → List (List ℕ)
 names_in (Ping text) = []
-names_in (Add key flags changed pairs) = names_of pairs
-names_in (Increase key flags given member) = member ∷ []
-names_in (Remove key names) = names
-names_in (RemoveRange key range) = []
-names_in (Score key member) = []
-names_in (Card key) = []
-names_in (Count key range) = []
-names_in (ListRange key range with_scores limit) = []
+names_in (Asks key question) = []
+names_in (Changes key change) = names_of_change change
 
 -- each member that a command names and that differs once it is made, in the order in which the command first names them, with
 -- the score that it has then, None where it is gone

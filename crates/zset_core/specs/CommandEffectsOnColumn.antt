@@ -7,22 +7,22 @@ use Rattle.ripple_column.specs.RangeEffects.{Selects}
 use Rattle.ripple_column.specs.Content.{ColumnState, IsUnchanged, SameOutside}
 use Rattle.ripple_column.specs.CutPivots.{is_before}
 use Rattle.zset_core.specs.SortedSet.{Members}
-use Rattle.zset_core.specs.AbstractCommand.{Meaning, Ping, Add, Increase, Remove, RemoveRange, Score, Card, Count, ListRange}
+use Rattle.zset_core.specs.AbstractCommand.{Meaning, Ping, Asks, Changes, Question, Score, Card, Count, ListRange, Change, Add, Increase, Remove, RemoveRange}
 use Rattle.zset_core.specs.Semantics.{outcome_of, counted, count_all, sum_of, remove_all}
 use Rattle.zset_core.specs.declared.command.limit.Limit.{Limit}
-use Rattle.zset_core.specs.declared.set.pair_outcome.Flags.{Flags}
+use Rattle.zset_core.specs.declared.command.pair_outcome.Flags.{Flags}
 
--- whether a command changes members that it names: ZADD and ZREM. ZREMRANGEBYSCORE changes a set too, but names a range
+-- whether a change names its members: ZADD and ZREM. ZREMRANGEBYSCORE names a range
+abbrev pub names_members : Change → Bool
+names_members (Add flags changed pairs) = true
+names_members (Increase flags given member) = true
+names_members (Remove members) = true
+names_members (RemoveRange range) = false
+
 abbrev pub changes_named : Meaning → Bool
 changes_named (Ping text) = false
-changes_named (Add key flags changed pairs) = true
-changes_named (Increase key flags given member) = true
-changes_named (Remove key members) = true
-changes_named (RemoveRange key range) = false
-changes_named (Score key member) = false
-changes_named (Card key) = false
-changes_named (Count key range) = false
-changes_named (ListRange key range with_scores limit) = false
+changes_named (Asks key question) = false
+changes_named (Changes key change) = names_members change
 
 -- INCR writes its pair or leaves it
 abbrev pub increase_edits : Flags → Members → List ℕ → ℤ → ℕ
@@ -30,17 +30,17 @@ increase_edits flags members member given =
     let old = fin.get members member in
     unwrap_or (option_map (λ score. counted true (outcome_of flags old score)) (sum_of old given)) 0
 
--- how many edits such a command makes: the pairs that it adds or changes, or the members that it takes out
+-- how many edits such a change makes: the pairs that it adds or changes, or the members that it takes out
+abbrev pub edits_of : Members → Change → ℕ
+edits_of members (Add flags changed pairs) = count_all flags true members pairs
+edits_of members (Increase flags given member) = increase_edits flags members member given
+edits_of members (Remove names) = fin.len members - fin.len (remove_all members names)
+edits_of members (RemoveRange range) = 0
+
 abbrev pub edit_count : Members → Meaning → ℕ
 edit_count members (Ping text) = 0
-edit_count members (Add key flags changed pairs) = count_all flags true members pairs
-edit_count members (Increase key flags given member) = increase_edits flags members member given
-edit_count members (Remove key names) = fin.len members - fin.len (remove_all members names)
-edit_count members (RemoveRange key range) = 0
-edit_count members (Score key member) = 0
-edit_count members (Card key) = 0
-edit_count members (Count key range) = 0
-edit_count members (ListRange key range with_scores limit) = 0
+edit_count members (Asks key question) = 0
+edit_count members (Changes key change) = edits_of members change
 
 -- a window of a range is to be listed: the column gets its answer for the range, as where the range alone is asked for, and rows
 -- may move between the pivots
@@ -56,14 +56,14 @@ abbrev pub SelectsListed : Option Limit → Range → ColumnState → ColumnStat
 SelectsListed None range old new = Selects range old new
 SelectsListed (Some limit) range old new = SelectsWindow range old new
 
--- what a command that reads a set does to its column: only one that names a range changes it
-abbrev pub Reads : Meaning → ColumnState → ColumnState → Type 0
-Reads (Ping text) old new = IsUnchanged old new
-Reads (Add key flags changed pairs) old new = IsUnchanged old new
-Reads (Increase key flags given member) old new = IsUnchanged old new
-Reads (Remove key members) old new = IsUnchanged old new
-Reads (RemoveRange key range) old new = IsUnchanged old new
-Reads (Score key member) old new = IsUnchanged old new
-Reads (Card key) old new = IsUnchanged old new
-Reads (Count key range) old new = Selects range old new
-Reads (ListRange key range with_scores limit) old new = SelectsListed limit range old new
+-- what a question does to the column of its set: only one that names a range changes it
+abbrev pub Reads : Question → ColumnState → ColumnState → Type 0
+Reads (Score member) old new = IsUnchanged old new
+Reads Card old new = IsUnchanged old new
+Reads (Count range) old new = Selects range old new
+Reads (ListRange range with_scores limit) old new = SelectsListed limit range old new
+
+abbrev pub ReadsFor : Meaning → ColumnState → ColumnState → Type 0
+ReadsFor (Ping text) old new = IsUnchanged old new
+ReadsFor (Asks key question) old new = Reads question old new
+ReadsFor (Changes key change) old new = IsUnchanged old new

@@ -11,7 +11,7 @@ use Rattle.zset_core.specs.AbstractCommand.{Meaning}
 use Rattle.zset_core.specs.AbstractCommand as meanings
 use Rattle.zset_core.specs.ParsedArguments.{word_at}
 use Rattle.zset_core.specs.declared.command.limit.Limit.{Limit}
-use Rattle.zset_core.specs.declared.set.pair_outcome.Flags.{Flags}
+use Rattle.zset_core.specs.declared.command.pair_outcome.Flags.{Flags}
 use Rattle.zset_core.specs.declared.command.name.CommandName.{CommandName}
 use Rattle.zset_core.specs.declared.command.name.CommandName.TheVariants.{Ping, Add, Remove, RemoveRange, Score, Card, Count, ListRange}
 use Rattle.zset_core.specs.declared.refusal.Refusal.{Refusal}
@@ -174,7 +174,7 @@ refusal_of words = first_of (conditions words)
 
 -- ZADD with INCR: its one pair
 abbrev pub increase : List ℕ → Flags → List (ℤ × List ℕ) → Option Meaning
-increase key flags ((given, member) ∷ []) = Some (meanings.Increase key flags given member)
+increase key flags ((given, member) ∷ []) = Some (meanings.Changes key (meanings.Increase flags given member))
 increase key flags _ = None
 
 -- ZADD with its pairs
@@ -184,21 +184,22 @@ add_meaning words pairs =
     let key = word_at words 1 in
     if has_option (codes "INCR") options
     then increase key (asked_flags options) pairs
-    else Some (meanings.Add key (asked_flags options) (has_option (codes "CH") options) pairs)
+    else Some (meanings.Changes key (meanings.Add (asked_flags options) (has_option (codes "CH") options) pairs))
 
 -- what a command asks for, or none where a word is no score, bound or option where one is wanted. It is asked only of
 -- words that no refusal stands against: of a LIMIT with a bad integer it would make no limit
 abbrev pub command_meaning : CommandName → List (List ℕ) → Option Meaning
 command_meaning Ping words = Some (meanings.Ping (slice_get words 1))
 command_meaning Add words = option_and_then (add_meaning words) (pairs_value (add_pairs words))
-command_meaning Remove words = Some (meanings.Remove (word_at words 1) (drop 2 words))
-command_meaning RemoveRange words = option_map (meanings.RemoveRange (word_at words 1)) (asked_range words)
-command_meaning Score words = Some (meanings.Score (word_at words 1) (word_at words 2))
-command_meaning Card words = Some (meanings.Card (word_at words 1))
-command_meaning Count words = option_map (meanings.Count (word_at words 1)) (asked_range words)
+command_meaning Remove words = Some (meanings.Changes (word_at words 1) (meanings.Remove (drop 2 words)))
+command_meaning RemoveRange words =
+    option_map (λ range. meanings.Changes (word_at words 1) (meanings.RemoveRange range)) (asked_range words)
+command_meaning Score words = Some (meanings.Asks (word_at words 1) (meanings.Score (word_at words 2)))
+command_meaning Card words = Some (meanings.Asks (word_at words 1) meanings.Card)
+command_meaning Count words = option_map (λ range. meanings.Asks (word_at words 1) (meanings.Count range)) (asked_range words)
 command_meaning ListRange words =
     option_and_then (λ range. option_map
-    (λ options. meanings.ListRange (word_at words 1) range (list_any is_with_scores options) (last_limit None options))
+    (λ options. meanings.Asks (word_at words 1) (meanings.ListRange range (list_any is_with_scores options) (last_limit None options)))
     (asked_options words)) (asked_range words)
 
 unfoldable pub meaning : List (List ℕ) → Option Meaning

@@ -6,8 +6,7 @@ use Rattle.std.specs.FinMap as fin
 use Rattle.resp_wire.specs.RequestEncoding.{IsArgument, most_arguments}
 use Rattle.score_bounds.specs.Scores.{IsScore}
 use Rattle.zset_core.specs.SortedSet.{Members, Pair}
-use Rattle.zset_core.specs.AbstractCommand.{Meaning, key_of}
-use Rattle.zset_core.specs.AbstractCommand as meanings
+use Rattle.zset_core.specs.AbstractCommand.{Meaning, Ping, Asks, Changes, Change, Add, Increase, Remove, RemoveRange, key_of}
 use Rattle.zset_core.specs.ChangeEffect.{names_in}
 use Rattle.zset_core.specs.SetAndOwnerViews.{OwnerView}
 use Rattle.zset_core.specs.World.{World, is_empty}
@@ -30,33 +29,33 @@ pub record IsBoundedAt (name : List ℕ) (set : Members) : Type 0 where
 abbrev pub IsBoundedWorld : World → Type 0
 IsBoundedWorld world = (key : List ℕ) → IfSome (fin.get world key) (IsBoundedAt key)
 
--- a command puts no other pairs into a set
+-- a change puts no other pairs into a set
+abbrev pub PutsSpelledPairs : Change → Type 0
+PutsSpelledPairs (Add flags changed pairs) = AllByRecursion IsSpelled pairs
+PutsSpelledPairs (Increase flags given member) = IsSpelled (given, member)
+PutsSpelledPairs (Remove members) = Unit {0}
+PutsSpelledPairs (RemoveRange range) = Unit {0}
+
 abbrev pub PutsSpelled : Meaning → Type 0
-PutsSpelled (meanings.Ping text) = Unit {0}
-PutsSpelled (meanings.Add key flags changed pairs) = AllByRecursion IsSpelled pairs
-PutsSpelled (meanings.Increase key flags given member) = IsSpelled (given, member)
-PutsSpelled (meanings.Remove key members) = Unit {0}
-PutsSpelled (meanings.RemoveRange key range) = Unit {0}
-PutsSpelled (meanings.Score key member) = Unit {0}
-PutsSpelled (meanings.Card key) = Unit {0}
-PutsSpelled (meanings.Count key range) = Unit {0}
-PutsSpelled (meanings.ListRange key range with_scores limit) = Unit {0}
+PutsSpelled (Ping text) = Unit {0}
+PutsSpelled (Asks key question) = Unit {0}
+PutsSpelled (Changes key change) = PutsSpelledPairs change
 
 pub record IsBoundedMeaning (meaning : Meaning) : Type 0 where
   pub key : IfSome (key_of meaning) IsArgument
   pub puts : PutsSpelled meaning
 
--- how many arguments a request needs to change the members that a command names: of ZADD also a score for each
+-- how many arguments a request needs to change the members that a change names: of ZADD also a score for each
+abbrev pub change_arguments : Change → ℕ
+change_arguments (Add flags changed pairs) = 2 * length pairs
+change_arguments (Increase flags given member) = 2
+change_arguments (Remove members) = length members
+change_arguments (RemoveRange range) = 0
+
 abbrev pub naming_arguments : Meaning → ℕ
-naming_arguments (meanings.Ping text) = 0
-naming_arguments (meanings.Add key flags changed pairs) = 2 * length pairs
-naming_arguments (meanings.Increase key flags given member) = 2
-naming_arguments (meanings.Remove key members) = length members
-naming_arguments (meanings.RemoveRange key range) = 0
-naming_arguments (meanings.Score key member) = 0
-naming_arguments (meanings.Card key) = 0
-naming_arguments (meanings.Count key range) = 0
-naming_arguments (meanings.ListRange key range with_scores limit) = 0
+naming_arguments (Ping text) = 0
+naming_arguments (Asks key question) = 0
+naming_arguments (Changes key change) = change_arguments change
 
 -- a request of the same name and key, without options, can change the members that a command names
 pub record FitsRequest (meaning : Meaning) : Type 0 where

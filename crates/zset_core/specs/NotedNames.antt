@@ -5,7 +5,7 @@ use Rattle.std.specs.Str.{bytes_eq}
 use Rattle.std.specs.FinMap as fin
 use Rattle.zset_core.specs.SortedSet.{Members, Pair}
 use Rattle.zset_core.specs.declared.set.draft.Draft.{Draft}
-use Rattle.zset_core.specs.declared.set.pair_outcome.Flags.{Flags}
+use Rattle.zset_core.specs.declared.command.pair_outcome.Flags.{Flags}
 
 -- the name of one pair of ZADD: with XX only where it is a member
 abbrev pub mention : Flags → Members → List ℕ → List (List ℕ)

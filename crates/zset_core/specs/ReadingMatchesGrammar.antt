@@ -8,7 +8,7 @@ use Rattle.zset_core.specs.ParsedArguments.{word_at, scored, meaning_of, IsWhole
 use Rattle.zset_core.specs.AbstractCommand.{Meaning}
 use Rattle.zset_core.specs.declared.command.parsed_arguments.Form.{Form}
 use Rattle.zset_core.specs.declared.command.range_commands.RangeChoice.{RangeChoice}
-use Rattle.zset_core.specs.declared.set.pair_outcome.Flags.{Flags}
+use Rattle.zset_core.specs.declared.command.pair_outcome.Flags.{Flags}
 use Rattle.zset_core.specs.declared.refusal.Refusal.{Refusal}
 use Rattle.zset_core.specs.declared.refusal.Refusal.TheVariants.{NoMemory, IncrPair, BadScore}
 

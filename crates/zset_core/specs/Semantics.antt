@@ -9,10 +9,10 @@ use Rattle.score_bounds.specs.Bounds.{is_in}
 use Rattle.score_bounds.specs.Scores.{is_score, score_text}
 use Rattle.zset_core.specs.SortedSet.{Members, Pair, listing}
 use Rattle.zset_core.specs.World.{World, put_set, set_at}
-use Rattle.zset_core.specs.AbstractCommand.{Meaning, key_of, Ping, Add, Increase, Remove, RemoveRange, Score, Card, Count, ListRange}
-use Rattle.zset_core.specs.declared.set.pair_outcome.Flags.{Flags}
-use Rattle.zset_core.specs.declared.set.pair_outcome.Outcome.{Outcome}
-use Rattle.zset_core.specs.declared.set.pair_outcome.Outcome.TheVariants.{Stopped, Added, Changed, Same}
+use Rattle.zset_core.specs.AbstractCommand.{Meaning, key_of, Ping, Asks, Changes, Question, Score, Card, Count, ListRange, Change, Add, Increase, Remove, RemoveRange}
+use Rattle.zset_core.specs.declared.command.pair_outcome.Flags.{Flags}
+use Rattle.zset_core.specs.declared.command.pair_outcome.Outcome.{Outcome}
+use Rattle.zset_core.specs.declared.command.pair_outcome.Outcome.TheVariants.{Stopped, Added, Changed, Same}
 use Rattle.zset_core.specs.declared.command.limit.Limit.{Limit}
 
 -- GT keeps a member's score from one that is not greater, LT from one that is not less
@@ -111,20 +111,31 @@ abbrev pub elements : Bool → List Pair → List (List ℕ)
 elements false ps = map (λ p. p.1) ps
 elements true ps = flat_map (λ p. p.1 ∷ score_text p.0 ∷ []) ps
 
+-- the reply to a question of a set
+abbrev pub answer : Members → Question → Response
+answer members (Score member) = score_reply (map_of.get members member)
+answer members Card = Integer (pos (map_of.len members))
+answer members (Count range) = Integer (pos (length (listing (is_in range) members)))
+answer members (ListRange range with_scores limit) = Array (elements with_scores (apply_limit limit (listing (is_in range) members)))
+
+-- what a change leaves of a set, and its reply; none where a sum of INCR is no score
+abbrev pub changed_by : Members → Change → Option (Members × Response)
+changed_by members (Add flags changed pairs) = Some (put_all flags members pairs, Integer (pos (count_all flags changed members pairs)))
+changed_by members (Increase flags given member) = increase flags members member given
+changed_by members (Remove names) =
+    Some (remove_all members names, Integer (pos (map_of.len members - map_of.len (remove_all members names))))
+changed_by members (RemoveRange range) = Some (without_range range members, Integer (pos (length (listing (is_in range) members))))
+
+-- the reply to PING
+abbrev pub echo : Option (List ℕ) → Response
+echo None = SimpleString (codes "PONG")
+echo (Some text) = BulkString text
+
 -- what a command leaves of the set that it asks for, and its reply; none where a sum of INCR is no score
 abbrev pub step : Members → Meaning → Option (Members × Response)
-step members (Ping None) = Some (members, SimpleString (codes "PONG"))
-step members (Ping (Some text)) = Some (members, BulkString text)
-step members (Add key flags changed pairs) = Some (put_all flags members pairs, Integer (pos (count_all flags changed members pairs)))
-step members (Increase key flags given member) = increase flags members member given
-step members (Remove key names) =
-    Some (remove_all members names, Integer (pos (map_of.len members - map_of.len (remove_all members names))))
-step members (RemoveRange key range) = Some (without_range range members, Integer (pos (length (listing (is_in range) members))))
-step members (Score key member) = Some (members, score_reply (map_of.get members member))
-step members (Card key) = Some (members, Integer (pos (map_of.len members)))
-step members (Count key range) = Some (members, Integer (pos (length (listing (is_in range) members))))
-step members (ListRange key range with_scores limit) =
-    Some (members, Array (elements with_scores (apply_limit limit (listing (is_in range) members))))
+step members (Ping text) = Some (members, echo text)
+step members (Asks key question) = Some (members, answer members question)
+step members (Changes key change) = changed_by members change
 
 -- what a command makes of the set at its key, if it has one
 abbrev pub act_at : World → Option (List ℕ) → Meaning → Option (World × Response)

@@ -12,13 +12,13 @@ pub mod add;
 pub mod dispatch;
 pub mod given_pairs;
 pub mod limit;
-pub mod missing_key_reply;
 pub mod name;
+pub mod pair_outcome;
 pub mod parsed_arguments;
 pub mod range_commands;
 
 use crate::command::dispatch::{argument, read_form};
-use crate::command::parsed_arguments::Form;
+use crate::command::parsed_arguments::{ChangeForm, Form};
 use crate::refusal::Refusal;
 use resp_wire::Request;
 use std::alloc::Allocator;
@@ -89,7 +89,7 @@ impl<A: Allocator> Command<A> {
         let words = self.request.words();
         match &self.form {
             Form::Ping => None,
-            _ => Some(argument(words, 1)),
+            Form::Asks(_) | Form::Changes(_) => Some(argument(words, 1)),
         }
     }
 
@@ -97,19 +97,17 @@ impl<A: Allocator> Command<A> {
     pub fn writes(&self) -> bool
         ensures { result ≡ is_writing self.now.meaning }
     {
-        match &self.form {
-            Form::Add { .. } | Form::Increase { .. } | Form::Remove | Form::RemoveRange { .. } =>
-                true,
-            Form::Ping | Form::Score | Form::Card | Form::Count { .. } | Form::ListRange { .. } =>
-                false,
-        }
+        matches!(self.form, Form::Changes(_))
     }
 
     /// Whether the command only takes members out: ZREM and ZREMRANGEBYSCORE.
     pub fn removes(&self) -> bool
         ensures { result ≡ is_removing self.now.meaning }
     {
-        matches!(self.form, Form::Remove | Form::RemoveRange { .. })
+        matches!(
+            self.form,
+            Form::Changes(ChangeForm::Remove | ChangeForm::RemoveRange { .. })
+        )
     }
 
     /// Whether the command is a ZADD with options, CH and INCR among them.
@@ -117,10 +115,10 @@ impl<A: Allocator> Command<A> {
         ensures { result ≡ has_options self.now.meaning }
     {
         match &self.form {
-            Form::Add { flags, changed, .. } => {
+            Form::Changes(ChangeForm::Add { flags, changed, .. }) => {
                 flags.nx || flags.xx || flags.gt || flags.lt || *changed
             }
-            Form::Increase { .. } => true,
+            Form::Changes(ChangeForm::Increase { .. }) => true,
             _ => false,
         }
     }
@@ -130,7 +128,9 @@ impl<A: Allocator> Command<A> {
         ensures { result ≡ is_creating self.now.meaning }
     {
         match &self.form {
-            Form::Add { flags, .. } | Form::Increase { flags, .. } => !flags.xx,
+            Form::Changes(ChangeForm::Add { flags, .. } | ChangeForm::Increase { flags, .. }) => {
+                !flags.xx
+            }
             _ => false,
         }
     }

@@ -16,9 +16,9 @@ mod spare;
 
 pub use command::Command;
 pub use command::limit::Limit;
+pub use command::pair_outcome::{Flags, Outcome};
 pub use owner::OneOwner;
 pub use refusal::Refusal;
 pub use set::ZSet;
 pub use set::change_outline::Outline;
-pub use set::pair_outcome::{Flags, Outcome};
 pub use spare::{KEPT_BACK, Spare};

@@ -25,7 +25,6 @@ use crate::owner::keys_in_order::{first_key, next_key, nth_key};
 use crate::owner::prepare_and_commit::{commit_at, drop_at, prepare_at};
 use crate::owner::run::run_at;
 use crate::owner::set_tree::SetTree;
-use crate::query::ping::pong;
 use crate::refusal::Refusal;
 use crate::set::ZSet;
 use crate::set::change_outline::Outline;
@@ -98,7 +97,7 @@ impl<H: BuildHasher + Clone + Drop, A: Allocator + Copy> OneOwner<H, A> {
         ensures idle { self.new.next ≡ None }
     {
         match command.key() {
-            None => Ok(pong(self.alloc, command)?),
+            None => Ok(command.reply_without_set(self.alloc)?),
             Some(key) => {
                 let sets = &mut self.sets;
                 run_at(

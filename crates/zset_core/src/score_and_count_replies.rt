@@ -4,7 +4,7 @@ ghost use Rattle.resp_wire.specs.Response.{response_of, Integer};
 ghost use Rattle.score_bounds.specs.Scores.{score_text};
 ghost use Rattle.zset_core.specs.Semantics.{increase_reply, score_reply};
 
-use crate::set::pair_outcome::Outcome;
+use crate::command::pair_outcome::Outcome;
 use itoa::Buffer;
 use resp_wire::{Bytes, Reply};
 use std::alloc::{AllocError, Allocator};

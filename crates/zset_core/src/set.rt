@@ -4,17 +4,16 @@ ghost use Rattle.std.specs.FinMap as map;
 ghost use Rattle.indexmap.specs.IndexMap.{IsUnique};
 ghost use Rattle.zset_core.specs.MembersWithStagedScores.{current_score, slot_at, same_bytes};
 ghost use Rattle.zset_core.specs.SetViewAndInvariant.{kept_of};
-ghost use Rattle.zset_core.specs.AbstractCommand.{is_writing, key_of, range_to_remove};
+ghost use Rattle.zset_core.specs.AbstractCommand.{is_writing, range_to_remove};
 ghost use Rattle.zset_core.specs.ChangeEffect.{prepared_effect};
 ghost use Rattle.zset_core.specs.ChangeOutline.{IsOutline};
 ghost use Rattle.zset_core.specs.Refusal.{IsRefused};
 ghost use Rattle.ripple_column.specs.Content.{Holds, IsUnchanged, most_pending};
 ghost use Rattle.ripple_column.specs.CutPivots.{values};
 ghost use Rattle.ripple_column.specs.RangeEffects.{Selects, TakesOut};
-ghost use Rattle.zset_core.specs.CommandEffectsOnColumn.{Reads, changes_named, edit_count};
+ghost use Rattle.zset_core.specs.CommandEffectsOnColumn.{changes_named, edit_count};
 ghost use Rattle.zset_core.specs.RowEdits.{most_edits};
-ghost use Rattle.zset_core.specs.AnswerableAsItStands.{IsReadyFor, ListsWindow};
-ghost use Rattle.zset_core.specs.SortedSet.{pairs, whole};
+ghost use Rattle.zset_core.specs.SortedSet.{pairs};
 ghost use Rattle.zset_core.specs.Semantics.{step};
 ghost use Rattle.zset_core.specs.SetAndOwnerViews.{IsPreparedFor};
 ghost use Rattle.resp_wire.specs.Response.{response_of};
@@ -25,22 +24,19 @@ pub mod commit;
 pub mod draft;
 pub mod member_removal;
 pub mod members_with_staged_scores;
-pub mod pair_outcome;
 pub mod place_marks;
 pub mod plan;
 pub mod range_removal;
 pub mod row_edits;
 
 use crate::command::Command;
-use crate::query::answer::{answer_from, ready_from};
-use crate::query::listing::all_rows;
+use crate::command::parsed_arguments::Form;
 use crate::refusal::Refusal;
 use crate::set::change_effect::effect_entry;
 use crate::set::change_outline::Outline;
 use crate::set::commit::{apply_plan, discard};
 use crate::set::members_with_staged_scores::MemberMap;
 use crate::set::plan::{Plan, make_plan};
-use crack_kernel::Row;
 use indexmap::IndexMap;
 use resp_wire::Reply;
 use ripple_column::{Column, MAX_PENDING};
@@ -65,9 +61,9 @@ struct Prepared<A: Allocator + Copy> {
 /// between two calls.
 #[derive(Drop)]
 pub struct ZSet<H: BuildHasher, A: Allocator + Copy> {
-    alloc: A,
-    members: MemberMap<H, A>,
-    column: Column<A>,
+    pub(crate) alloc: A,
+    pub(crate) members: MemberMap<H, A>,
+    pub(crate) column: Column<A>,
     prepared: Option<Prepared<A>>,
 }
 
@@ -125,59 +121,6 @@ impl<H: BuildHasher, A: Allocator + Copy> ZSet<H, A> {
         self.prepared.is_some()
     }
 
-    /// Answers a command that reads the set of its key: ZSCORE, ZCARD, ZCOUNT, ZRANGEBYSCORE. Then
-    /// the set is ready for it. For LIMIT its column is cracked so that mostly few rows stand in the pieces round the
-    /// window that is asked for. Refused only when out of memory.
-    pub fn answer(&mut self, command: &Command<A>) -> Result<Reply<A>, AllocError>
-        requires idle { self.old.next ≡ None }
-        requires reading { is_writing command.now.meaning ≡ false }
-        requires keyed { IsSome (key_of command.now.meaning) }
-        ensures reply { IfOk result (λ reply. step self.old.members command.now.meaning
-            ≡ Some (self.old.members, response_of reply)) }
-        ensures members { self.new.members ≡ self.old.members }
-        ensures idle { self.new.next ≡ None }
-        ensures ready { OnOk result (IsReadyFor self.new.column command.now.meaning) }
-
-        // Outside the range asked for nothing is merged. On Err, the column is unchanged or as an Ok
-        // would leave it.
-        ensures column { OnOk result (Reads command.now.meaning self.old.column self.new.column) }
-        ensures refused { OnErr result (IsUnchanged self.old.column self.new.column
-            ⊎ Reads command.now.meaning self.old.column self.new.column) }
-    {
-        answer_from(self.alloc, &self.members, &mut self.column, command)
-    }
-
-    /// The reply to a command that reads the set of its key, where the set can give it as it
-    /// stands: as `answer` gives it. None for a command that changes sets, and where a range is
-    /// asked for that the column is not ready for: a cut of it is no pivot, or a change of its rows
-    /// waits. `Some(Err(_))` where the set is ready and there was no memory for the reply.
-    pub fn ready(&self, command: &Command<A>) -> Option<Result<Reply<A>, AllocError>>
-        requires idle { self.now.next ≡ None }
-        requires keyed { IsSome (key_of command.now.meaning) }
-        ensures reply { IfSome result
-            (λ answer. IfOk answer (λ reply. step self.now.members command.now.meaning
-            ≡ Some (self.now.members, response_of reply))) }
-        ensures exact { IsSome result ↔ IsReadyFor self.now.column command.now.meaning }
-    {
-        ready_from(self.alloc, &self.members, &self.column, command, true)
-    }
-
-    /// The reply as `ready` gives it, where it needs no more than few rows: None too where `ready` would read many for a
-    /// window that `answer` would let be listed by few. Only ZRANGEBYSCORE with LIMIT asks for a window. How many rows
-    /// are many is a hint, which no reply depends on.
-    pub fn ready_by_few(&self, command: &Command<A>) -> Option<Result<Reply<A>, AllocError>>
-        requires idle { self.now.next ≡ None }
-        requires keyed { IsSome (key_of command.now.meaning) }
-        ensures reply { IfSome result
-            (λ answer. IfOk answer (λ reply. step self.now.members command.now.meaning
-            ≡ Some (self.now.members, response_of reply))) }
-        ensures ready { IsSome result → IsReadyFor self.now.column command.now.meaning }
-        ensures window { IfNone result (IsReadyFor self.now.column command.now.meaning
-            → ListsWindow self.now.column command.now.meaning) }
-    {
-        ready_from(self.alloc, &self.members, &self.column, command, false)
-    }
-
     /// The column of the members' rows. Its content is the bag of their pairs, also while a command
     /// is prepared.
     pub fn column(&self) -> &Column<A>
@@ -185,15 +128,6 @@ impl<H: BuildHasher, A: Allocator + Copy> ZSet<H, A> {
         ensures content { Holds self.now.column (pairs self.now.members) }
     {
         &self.column
-    }
-
-    /// All pairs by rising score, equal scores by the bytes of their members. Refused for want of
-    /// memory alone.
-    pub fn pairs(&self) -> Result<Vec<Row<A>, A>, AllocError>
-        requires { self.now.next ≡ None }
-        ensures { IfOk result (λ rows. rows.items ≡ whole self.now.members) }
-    {
-        all_rows(self.alloc, &self.members)
     }
 
     /// Prepares a command that changes sets: takes all the memory that it needs, and leaves the
@@ -229,7 +163,17 @@ impl<H: BuildHasher, A: Allocator + Copy> ZSet<H, A> {
         ensures unselected { OnErr result (IfSome (range_to_remove command.now.meaning)
             (λ range. IsUnchanged self.old.column self.new.column)) }
     {
-        let plan = make_plan(self.alloc, &mut self.members, &mut self.column, command)?;
+        let words = command.request().words();
+        let Form::Changes(change) = command.form() else {
+            unreachable!();
+        };
+        let plan = make_plan(
+            self.alloc,
+            &mut self.members,
+            &mut self.column,
+            words,
+            change,
+        )?;
         let outline = plan.outline;
         let asked = Snapshot::of(command);
         self.prepared = Some(Prepared { asked, plan });

@@ -9,9 +9,9 @@ ghost use Rattle.zset_core.specs.declared.refusal.Refusal.TheVariants as refusal
 
 use crate::command::dispatch::{argument, behind};
 use crate::command::name::is_named;
-use crate::command::parsed_arguments::Form;
+use crate::command::pair_outcome::Flags;
+use crate::command::parsed_arguments::{ChangeForm, Form};
 use crate::refusal::Refusal;
-use crate::set::pair_outcome::Flags;
 use resp_wire::Bytes;
 use score_bounds::read_score;
 use std::alloc::{AllocError, Allocator};
@@ -55,11 +55,11 @@ fn read_increase<A: Allocator>(
         (command_meaning names.Add words) result }
 {
     let given = read_given(pairs)?;
-    Ok(Form::Increase {
+    Ok(Form::Changes(ChangeForm::Increase {
         flags,
         given,
         member: 2 + options.len() + 1,
-    })
+    }))
 }
 
 // Reads ZADD without INCR, once its options and pairs are told apart.
@@ -77,12 +77,12 @@ fn read_pairs<A: Allocator + Copy>(
         (command_meaning names.Add words) result }
 {
     let scores = read_scores(alloc, pairs)?;
-    Ok(Form::Add {
+    Ok(Form::Changes(ChangeForm::Add {
         flags,
         changed: has_option(options, b"CH"),
         first: 2 + options.len(),
         scores,
-    })
+    }))
 }
 
 fn read_flags<A: Allocator>(options: &[Bytes<A>]) -> Flags

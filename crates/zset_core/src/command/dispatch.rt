@@ -7,7 +7,7 @@ ghost use Rattle.zset_core.specs.ReadingMatchesGrammar.{IsReading};
 
 use crate::command::add::read_add;
 use crate::command::name::CommandName;
-use crate::command::parsed_arguments::Form;
+use crate::command::parsed_arguments::{ChangeForm, Form, QuestionForm};
 use crate::command::range_commands::{read_count, read_list_range, read_remove_range};
 use crate::refusal::Refusal;
 use resp_wire::Bytes;
@@ -59,10 +59,10 @@ fn read_named<A: Allocator + Copy>(
     match name {
         CommandName::Ping => Ok(Form::Ping),
         CommandName::Add => read_add(alloc, words),
-        CommandName::Remove => Ok(Form::Remove),
+        CommandName::Remove => Ok(Form::Changes(ChangeForm::Remove)),
         CommandName::RemoveRange => read_remove_range(words),
-        CommandName::Score => Ok(Form::Score),
-        CommandName::Card => Ok(Form::Card),
+        CommandName::Score => Ok(Form::Asks(QuestionForm::Score)),
+        CommandName::Card => Ok(Form::Asks(QuestionForm::Card)),
         CommandName::Count => read_count(words),
         CommandName::ListRange => read_list_range(words),
     }

@@ -1,7 +1,7 @@
 //! What a command keeps of its arguments once they are read.
 
 use crate::command::limit::Limit;
-use crate::set::pair_outcome::Flags;
+use crate::command::pair_outcome::Flags;
 use score_bounds::Range;
 use std::alloc::Allocator;
 
@@ -12,6 +12,35 @@ use std::alloc::Allocator;
 pub enum Form<A: Allocator> {
     /// PING: the text, if there is one, is at 1.
     Ping,
+    /// A question of the key's set.
+    Asks(QuestionForm),
+    /// A change of the key's set.
+    Changes(ChangeForm<A>),
+}
+
+/// A question beside its arguments.
+#[derive(Clone, Copy, Debug)]
+pub enum QuestionForm {
+    /// ZSCORE: the member is at 2.
+    Score,
+    /// ZCARD.
+    Card,
+    /// ZCOUNT.
+    Count {
+        range: Range,
+    },
+    /// ZRANGEBYSCORE.
+    ListRange {
+        range: Range,
+        with_scores: bool,
+        limit: Option<Limit>,
+    },
+}
+
+/// A change beside its arguments.
+#[derive(Drop)]
+#[derive_where(Debug)]
+pub enum ChangeForm<A: Allocator> {
     /// ZADD: pair `i` has `scores[i]`, and its member is at `first + 2 i + 1`.
     Add {
         flags: Flags,
@@ -31,19 +60,5 @@ pub enum Form<A: Allocator> {
     /// ZREMRANGEBYSCORE.
     RemoveRange {
         range: Range,
-    },
-    /// ZSCORE: the member is at 2.
-    Score,
-    /// ZCARD.
-    Card,
-    /// ZCOUNT.
-    Count {
-        range: Range,
-    },
-    /// ZRANGEBYSCORE.
-    ListRange {
-        range: Range,
-        with_scores: bool,
-        limit: Option<Limit>,
     },
 }

@@ -8,7 +8,7 @@ ghost use Rattle.zset_core.specs.declared.command.name.CommandName.TheVariants a
 use crate::command::dispatch::{argument, behind};
 use crate::command::limit::Limit;
 use crate::command::name::is_named;
-use crate::command::parsed_arguments::Form;
+use crate::command::parsed_arguments::{ChangeForm, Form, QuestionForm};
 use crate::refusal::Refusal;
 use resp_wire::Bytes;
 use score_bounds::Range;
@@ -30,7 +30,7 @@ pub fn read_remove_range<A: Allocator>(words: &[Bytes<A>]) -> Result<Form<A>, Re
         (command_meaning names.RemoveRange words.now) result }
 {
     let range = read_range(words).ok_or(Refusal::BadBound)?;
-    Ok(Form::RemoveRange { range })
+    Ok(Form::Changes(ChangeForm::RemoveRange { range }))
 }
 
 /// Reads ZCOUNT.
@@ -40,7 +40,7 @@ pub fn read_count<A: Allocator>(words: &[Bytes<A>]) -> Result<Form<A>, Refusal>
         (command_meaning names.Count words.now) result }
 {
     let range = read_range(words).ok_or(Refusal::BadBound)?;
-    Ok(Form::Count { range })
+    Ok(Form::Asks(QuestionForm::Count { range }))
 }
 
 /// Reads ZRANGEBYSCORE.
@@ -54,11 +54,11 @@ pub fn read_list_range<A: Allocator>(words: &[Bytes<A>]) -> Result<Form<A>, Refu
     if choice.has_bad_limit {
         return Err(Refusal::BadInteger);
     }
-    Ok(Form::ListRange {
+    Ok(Form::Asks(QuestionForm::ListRange {
         range,
         with_scores: choice.with_scores,
         limit: choice.limit,
-    })
+    }))
 }
 
 fn read_range<A: Allocator>(words: &[Bytes<A>]) -> Option<Range>

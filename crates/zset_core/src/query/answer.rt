@@ -1,56 +1,54 @@
-//! Commands that read a set.
+//! Answers to questions of a set.
 ghost use Rattle.std.specs.Prelude.{◌≡◌, ◌≤◌, ◌⊎◌, ℤ, pos, Bool, Some, None, false, length, filter, slice_get, slice_range, IfOk, IfNone, IfSome, IsSome, OnErr, OnOk};
 ghost use Rattle.crack_kernel.specs.RowBag.{SameBag};
 ghost use Rattle.resp_wire.specs.Response.{Array, Integer, response_of};
 ghost use Rattle.ripple_column.specs.Content.{Holds, IsUnchanged, SameContent};
-ghost use Rattle.zset_core.specs.AbstractCommand.{is_writing, key_of};
 ghost use Rattle.zset_core.specs.CommandEffectsOnColumn.{Reads};
-ghost use Rattle.zset_core.specs.AnswerableAsItStands.{IsReadyFor, ListsWindow};
+ghost use Rattle.zset_core.specs.AnswerableAsItStands.{IsReady, ListsAWindow};
+ghost use Rattle.zset_core.specs.ParsedArguments.{question_of, IsWholeQuestion};
 ghost use Rattle.zset_core.specs.SortedSet.{Members, listing, pairs};
-ghost use Rattle.zset_core.specs.Semantics.{elements, apply_limit, step};
+ghost use Rattle.zset_core.specs.Semantics.{answer, elements, apply_limit};
 ghost use Rattle.zset_core.specs.MembersWithStagedScores.{current_score, members_by, IsSettled, same_bytes};
 
-use crate::command::Command;
 use crate::command::limit::Limit;
-use crate::command::parsed_arguments::Form;
+use crate::command::parsed_arguments::QuestionForm;
 use crate::query::listing::elements_of;
 use crate::query::window::{
     is_wide, least_rows, piece_end, piece_start, ranks_of, select_listed, window_of,
 };
 use crate::score_and_count_replies::{count_reply, score_reply};
 use crate::set::members_with_staged_scores::{MemberMap, card_of, score_of};
-use resp_wire::Reply;
+use resp_wire::{Bytes, Reply};
 use ripple_column::Column;
 use std::alloc::{AllocError, Allocator};
 use std::hash::BuildHasher;
 
-/// The reply to a command that reads the set of its key.
+/// The reply to a question that stands beside its command's words.
 pub fn answer_from<H: BuildHasher, A: Allocator + Copy>(
     alloc: A,
     members: &MemberMap<H, A>,
     column: &mut Column<A>,
-    command: &Command<A>,
+    words: &[Bytes<A>],
+    question: &QuestionForm,
 ) -> Result<Reply<A>, AllocError>
-    requires reading { is_writing command.now.meaning ≡ false }
-    requires keyed { IsSome (key_of command.now.meaning) }
+    requires whole { IsWholeQuestion words.now question.now }
     requires content { Holds column.old (pairs (members_by current_score members.now.entries)) }
     ensures content { SameContent column.old column.new }
-    ensures ready { OnOk result (IsReadyFor column.new command.now.meaning) }
-    ensures column { OnOk result (Reads command.now.meaning column.old column.new) }
+    ensures ready { OnOk result (IsReady column.new (question_of words.now question.now)) }
+    ensures column { OnOk result (Reads (question_of words.now question.now) column.old column.new) }
     ensures refused { OnErr result (IsUnchanged column.old column.new
-        ⊎ Reads command.now.meaning column.old column.new) }
-    ensures reply { IfOk result (λ reply. step (members_by current_score members.now.entries)
-        command.now.meaning ≡ Some (members_by current_score members.now.entries, response_of reply)) }
+        ⊎ Reads (question_of words.now question.now) column.old column.new) }
+    ensures reply { IfOk result (λ reply. response_of reply
+        ≡ answer (members_by current_score members.now.entries) (question_of words.now question.now)) }
 {
-    let words = command.request().words();
-    match command.form() {
-        Form::Score => score_reply(alloc, score_of(members, words[2].as_slice())),
-        Form::Card => Ok(count_reply(card_of(members))),
-        Form::Count { range } => {
+    match question {
+        QuestionForm::Score => score_reply(alloc, score_of(members, words[2].as_slice())),
+        QuestionForm::Card => Ok(count_reply(card_of(members))),
+        QuestionForm::Count { range } => {
             let rows = column.select(range)?;
             Ok(count_rows(column, rows))
         }
-        Form::ListRange {
+        QuestionForm::ListRange {
             range,
             with_scores,
             limit,
@@ -58,36 +56,35 @@ pub fn answer_from<H: BuildHasher, A: Allocator + Copy>(
             let rows = select_listed(column, range, limit)?;
             list_rows(alloc, column, rows, limit, *with_scores)
         }
-        _ => unreachable!(),
     }
 }
 
-/// The reply to a command that reads the set of its key, where the column need not change for it. Where many rows may
-/// not be read, it is none too for a window that `answer_from` would let be listed by few.
+/// The reply to a question, where the column need not change for it. Where many rows may not be read, it is none too
+/// for a window that `answer_from` would let be listed by few.
 pub fn ready_from<H: BuildHasher, A: Allocator + Copy>(
     alloc: A,
     members: &MemberMap<H, A>,
     column: &Column<A>,
-    command: &Command<A>,
+    words: &[Bytes<A>],
+    question: &QuestionForm,
     may_read_many: bool,
 ) -> Option<Result<Reply<A>, AllocError>>
+    requires whole { IsWholeQuestion words.now question.now }
     requires content { Holds column.now (pairs (members_by current_score members.now.entries)) }
-    ensures reply { IfSome result
-        (λ answer. IfOk answer (λ reply. step (members_by current_score members.now.entries)
-        command.now.meaning ≡ Some (members_by current_score members.now.entries, response_of reply))) }
-    ensures ready { IsSome result → IsReadyFor column.now command.now.meaning }
-    ensures none { IfNone result (IsReadyFor column.now command.now.meaning
-        → (may_read_many ≡ false) × ListsWindow column.now command.now.meaning) }
+    ensures reply { IfSome result (λ answered. IfOk answered (λ reply. response_of reply
+        ≡ answer (members_by current_score members.now.entries) (question_of words.now question.now))) }
+    ensures ready { IsSome result → IsReady column.now (question_of words.now question.now) }
+    ensures none { IfNone result (IsReady column.now (question_of words.now question.now)
+        → (may_read_many ≡ false) × ListsAWindow column.now (question_of words.now question.now)) }
 {
-    let words = command.request().words();
-    match command.form() {
-        Form::Score => Some(score_reply(alloc, score_of(members, words[2].as_slice()))),
-        Form::Card => Some(Ok(count_reply(card_of(members)))),
-        Form::Count { range } => {
+    match question {
+        QuestionForm::Score => Some(score_reply(alloc, score_of(members, words[2].as_slice()))),
+        QuestionForm::Card => Some(Ok(count_reply(card_of(members)))),
+        QuestionForm::Count { range } => {
             let rows = column.ready(range)?;
             Some(Ok(count_rows(column, rows)))
         }
-        Form::ListRange {
+        QuestionForm::ListRange {
             range,
             with_scores,
             limit,
@@ -98,7 +95,6 @@ pub fn ready_from<H: BuildHasher, A: Allocator + Copy>(
             }
             Some(list_rows(alloc, column, rows, limit, *with_scores))
         }
-        _ => None,
     }
 }
 

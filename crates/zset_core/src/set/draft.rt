@@ -11,11 +11,11 @@ ghost use Rattle.zset_core.specs.MembersWithStagedScores.{Entry, current_score, 
 ghost use Rattle.resp_wire.specs.Response.{response_of};
 
 use crate::command::given_pairs::GivenPairs;
+use crate::command::pair_outcome::{Flags, Outcome};
 use crate::score_and_count_replies::increase_reply;
 use crate::set::members_with_staged_scores::{
     MemberMap, ScoreSlot, discard_staged, find_slot, share_name,
 };
-use crate::set::pair_outcome::{Flags, Outcome};
 use crate::set::row_edits::Edits;
 use resp_wire::Reply;
 use short_bytes::ShortBytes;

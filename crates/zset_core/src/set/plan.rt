@@ -3,32 +3,32 @@ ghost use Rattle.std.specs.Prelude.{◌≡◌, ◌+◌, ◌-◌, ◌<◌, ◌≤
 ghost use Rattle.std.specs.FinMap as map;
 ghost use Rattle.resp_wire.specs.Response.{Integer, response_of};
 ghost use Rattle.ripple_column.specs.RangeEffects.{Selects};
-ghost use Rattle.zset_core.specs.CommandEffectsOnColumn.{changes_named, edit_count, increase_edits};
-ghost use Rattle.zset_core.specs.Semantics.{counted, outcome_of, put_one, put_all, count_all, remove_all, increase_reply, increase, step};
-ghost use Rattle.zset_core.specs.AbstractCommand.{is_writing, range_to_remove};
-ghost use Rattle.zset_core.specs.ParsedArguments.{given_pairs};
+ghost use Rattle.zset_core.specs.CommandEffectsOnColumn.{names_members, edits_of, increase_edits};
+ghost use Rattle.zset_core.specs.Semantics.{counted, outcome_of, put_one, put_all, count_all, remove_all, increase_reply, increase, changed_by};
+ghost use Rattle.zset_core.specs.AbstractCommand.{range_of_change};
+ghost use Rattle.zset_core.specs.CommandGrammar.{most_arguments};
+ghost use Rattle.zset_core.specs.ParsedArguments.{change_of, given_pairs, IsWholeChange};
 ghost use Rattle.ripple_column.specs.Content.{Holds, IsUnchanged, SameContent, most_pending};
 ghost use Rattle.ripple_column.specs.CutPivots.{values};
 ghost use Rattle.zset_core.specs.RowEdits.{most_edits};
 ghost use Rattle.zset_core.specs.MembersWithStagedScores.{current_score, staged_score, rows_by, members_by, IsSettled, IsBack, IsWaiting, Grows};
 ghost use Rattle.zset_core.specs.SortedSet.{names_of, pairs};
-ghost use Rattle.zset_core.specs.ChangeEffect.{names_in};
+ghost use Rattle.zset_core.specs.ChangeEffect.{names_of_change};
 ghost use Rattle.zset_core.specs.Plan.{NeedsAtMost, Prepares, Plans, Moves, MovesTo, IsCounted, moved_places, range_of, rows_coming, rows_leaving};
 ghost use Rattle.zset_core.specs.SetViewAndInvariant.{HasRoom, IsReadyForPlan};
 ghost use Rattle.zset_core.specs.Refusal.{IsRefused};
 
-use crate::command::Command;
 use crate::command::given_pairs::GivenPairs;
-use crate::command::parsed_arguments::Form;
+use crate::command::pair_outcome::{Flags, sum};
+use crate::command::parsed_arguments::ChangeForm;
 use crate::refusal::Refusal;
 use crate::set::change_outline::{Outline, outline_staged};
 use crate::set::commit::discard;
 use crate::set::draft::Draft;
 use crate::set::member_removal::plan_remove;
 use crate::set::members_with_staged_scores::{MemberMap, score_of};
-use crate::set::pair_outcome::{Flags, sum};
 use crate::set::range_removal::plan_range;
-use resp_wire::Reply;
+use resp_wire::{Bytes, Reply};
 use ripple_column::{Column, MAX_PENDING};
 use score_bounds::Range;
 use std::alloc::{AllocError, Allocator};
@@ -213,27 +213,29 @@ pub fn plan_increase<H: BuildHasher, A: Allocator + Copy>(
 fn plan_for<H: BuildHasher, A: Allocator + Copy>(
     alloc: A,
     members: &mut MemberMap<H, A>,
-    command: &Command<A>,
+    words: &[Bytes<A>],
+    change: &ChangeForm<A>,
 ) -> Result<Plan<A>, Refusal>
     requires settled { IsSettled members.old.entries }
-    requires named { IsTrue (changes_named command.now.meaning) }
+    requires whole { IsWholeChange words.now change.now }
+    requires few { length words.now ≤ most_arguments }
+    requires named { IsTrue (names_members (change_of words.now change.now)) }
     ensures ok { IfOk result (λ plan. Plans members.old.entries members.new.entries plan
-        (step (members_by current_score members.old.entries) command.now.meaning)) }
+        (changed_by (members_by current_score members.old.entries) (change_of words.now change.now))) }
     ensures rows { IfOk result
-        (λ plan. NeedsAtMost (edit_count (members_by current_score members.old.entries) command.now.meaning)
+        (λ plan. NeedsAtMost (edits_of (members_by current_score members.old.entries) (change_of words.now change.now))
         plan) }
     ensures named { IfOk result (λ plan. plan.range ≡ None) }
     ensures moved { IfOk result (λ plan. Moves members.old.entries members.new.entries plan
-        (names_in command.now.meaning)
-        (step (members_by current_score members.old.entries) command.now.meaning)) }
+        (names_of_change (change_of words.now change.now))
+        (changed_by (members_by current_score members.old.entries) (change_of words.now change.now))) }
     ensures err { OnErr result (IsBack members.old.entries members.new.entries) }
     ensures refused { IfErr result
         (λ refusal. IsRefused refusal
-        (step (members_by current_score members.old.entries) command.now.meaning)) }
+        (changed_by (members_by current_score members.old.entries) (change_of words.now change.now))) }
 {
-    let words = command.request().words();
-    match command.form() {
-        Form::Add {
+    match change {
+        ChangeForm::Add {
             flags,
             changed,
             first,
@@ -245,13 +247,13 @@ fn plan_for<H: BuildHasher, A: Allocator + Copy>(
             };
             Ok(plan_add(alloc, members, *flags, *changed, &pairs)?)
         }
-        Form::Increase {
+        ChangeForm::Increase {
             flags,
             given,
             member,
         } => { plan_increase(alloc, members, *flags, *given, words[*member].as_slice()) }
-        Form::Remove => Ok(plan_remove(alloc, members, words.split_at(2).1)?),
-        _ => unreachable!(),
+        ChangeForm::Remove => Ok(plan_remove(alloc, members, words.split_at(2).1)?),
+        ChangeForm::RemoveRange { .. } => unreachable!(),
     }
 }
 
@@ -290,66 +292,71 @@ fn plan_named<H: BuildHasher, A: Allocator + Copy>(
     alloc: A,
     members: &mut MemberMap<H, A>,
     column: &mut Column<A>,
-    command: &Command<A>,
+    words: &[Bytes<A>],
+    change: &ChangeForm<A>,
 ) -> Result<Plan<A>, Refusal>
     requires settled { IsSettled members.old.entries }
-    requires named { IsTrue (changes_named command.now.meaning) }
+    requires whole { IsWholeChange words.now change.now }
+    requires few { length words.now ≤ most_arguments }
+    requires named { IsTrue (names_members (change_of words.now change.now)) }
     ensures ok { IfOk result (λ plan. Plans members.old.entries members.new.entries plan
-        (step (members_by current_score members.old.entries) command.now.meaning)) }
+        (changed_by (members_by current_score members.old.entries) (change_of words.now change.now))) }
     ensures room { IfOk result (λ plan. HasRoom column.new plan) }
     ensures named { IfOk result (λ plan. plan.range ≡ None) }
     ensures moved { IfOk result (λ plan. Moves members.old.entries members.new.entries plan
-        (names_in command.now.meaning)
-        (step (members_by current_score members.old.entries) command.now.meaning)) }
+        (names_of_change (change_of words.now change.now))
+        (changed_by (members_by current_score members.old.entries) (change_of words.now change.now))) }
     ensures content { SameContent column.old column.new }
     ensures values { values column.new.pivots ≡ values column.old.pivots }
     ensures still { most_pending column.old
-        + edit_count (members_by current_score members.old.entries) command.now.meaning ≤ MAX_PENDING
+        + edits_of (members_by current_score members.old.entries) (change_of words.now change.now) ≤ MAX_PENDING
         → IsUnchanged column.old column.new }
     ensures err { OnErr result (IsBack members.old.entries members.new.entries) }
     ensures refused { IfErr result
         (λ refusal. IsRefused refusal
-        (step (members_by current_score members.old.entries) command.now.meaning)) }
+        (changed_by (members_by current_score members.old.entries) (change_of words.now change.now))) }
 {
-    let plan = plan_for(alloc, members, command)?;
+    let plan = plan_for(alloc, members, words, change)?;
     Ok(make_room(members, column, plan)?)
 }
 
-/// The plan of a command that changes sets, and the column made ready for it. Where it is refused the
+/// The plan of a change that stands beside its command's words, and the column made ready for it. Where it is refused the
 /// entries are what they were, and the column holds what it held.
 pub fn make_plan<H: BuildHasher, A: Allocator + Copy>(
     alloc: A,
     members: &mut MemberMap<H, A>,
     column: &mut Column<A>,
-    command: &Command<A>,
+    words: &[Bytes<A>],
+    change: &ChangeForm<A>,
 ) -> Result<Plan<A>, Refusal>
     requires settled { IsSettled members.old.entries }
-    requires writing { IsTrue (is_writing command.now.meaning) }
+    requires whole { IsWholeChange words.now change.now }
+    requires few { length words.now ≤ most_arguments }
     requires content { Holds column.old (pairs (members_by current_score members.old.entries)) }
     ensures ok { IfOk result (λ plan. Plans members.old.entries members.new.entries plan
-        (step (members_by current_score members.old.entries) command.now.meaning)) }
+        (changed_by (members_by current_score members.old.entries) (change_of words.now change.now))) }
     ensures ready { IfOk result (λ plan. IsReadyForPlan column.new plan) }
-    ensures range { IfOk result (λ plan. range_of plan ≡ range_to_remove command.now.meaning) }
+    ensures range { IfOk result (λ plan. range_of plan ≡ range_of_change (change_of words.now change.now)) }
     ensures moved { IfOk result (λ plan. Moves members.old.entries members.new.entries plan
-        (names_in command.now.meaning)
-        (step (members_by current_score members.old.entries) command.now.meaning)) }
+        (names_of_change (change_of words.now change.now))
+        (changed_by (members_by current_score members.old.entries) (change_of words.now change.now))) }
     ensures content { SameContent column.old column.new }
-    ensures values { changes_named command.now.meaning ≡ true
+    ensures values { names_members (change_of words.now change.now) ≡ true
         → values column.new.pivots ≡ values column.old.pivots }
-    ensures still { changes_named command.now.meaning ≡ true → most_pending column.old
-        + edit_count (members_by current_score members.old.entries) command.now.meaning ≤ MAX_PENDING
+    ensures still { names_members (change_of words.now change.now) ≡ true → most_pending column.old
+        + edits_of (members_by current_score members.old.entries) (change_of words.now change.now) ≤ MAX_PENDING
         → IsUnchanged column.old column.new }
-    ensures selected { OnOk result (IfSome (range_to_remove command.now.meaning)
+    ensures selected { OnOk result (IfSome (range_of_change (change_of words.now change.now))
         (λ range. Selects range column.old column.new)) }
-    ensures unselected { OnErr result (IfSome (range_to_remove command.now.meaning)
+    ensures unselected { OnErr result (IfSome (range_of_change (change_of words.now change.now))
         (λ range. IsUnchanged column.old column.new)) }
     ensures err { OnErr result (IsBack members.old.entries members.new.entries) }
     ensures refused { IfErr result
         (λ refusal. IsRefused refusal
-        (step (members_by current_score members.old.entries) command.now.meaning)) }
+        (changed_by (members_by current_score members.old.entries) (change_of words.now change.now))) }
 {
-    match command.form() {
-        Form::RemoveRange { range } => Ok(plan_range(alloc, members, column, range)?),
-        _ => plan_named(alloc, members, column, command),
+    match change {
+        ChangeForm::RemoveRange { range } => Ok(plan_range(alloc, members, column, range)?),
+        _ => plan_named(alloc, members, column, words, change),
     }
 }

@@ -1,16 +1,9 @@
-use Rattle.std.proofs.Common.{◌≡◌, ◌∙◌, ℕ, List, Option, Some, IfSome, sym, ap, subst}
-use Rattle.std.specs.Prelude.{◌≢◌, IfErr, OnOk}
-use Rattle.resp_wire.specs.RequestEncoding.{request}
+use Rattle.std.proofs.Common.{ℕ, List, Option, IfSome, sym, subst}
+use Rattle.std.specs.Prelude.{◌≢◌}
 use Rattle.zset_core.specs.SortedSet.{Members}
 use Rattle.zset_core.specs.SetAndOwnerViews.{IsPreparedAt, Next}
-use Rattle.zset_core.specs.World.{World, put_set, set_at}
-use Rattle.append_log.specs.EffectRecords.{next_record, prepared_record}
-use Rattle.append_log.specs.Log.{Appends, HasRecords, records_after}
-use Rattle.append_log.specs.Records.{Record}
-use Rattle.append_log.specs.Replay.{after}
-use Rattle.append_log.specs.declared.version.Version.TheVariants.{Effects}
-use Rattle.append_log.proofs.EntryTexts.{on_ok}
-use Rattle.append_log.proofs.PreparedRecords.{no_set_prepared, same_record, set_prepared}
+use Rattle.zset_core.specs.World.{set_at}
+use Rattle.append_log.proofs.PreparedRecords.{no_set_prepared, set_prepared}
 use Rattle.append_log.proofs.logged.append_command.Goals as goal
 
 pub append_prepared-requires-clause-prepared : goal.append_prepared-requires-clause-prepared

@@ -1,4 +1,4 @@
-use Rattle.std.proofs.Common.{◌∙◌, ◌++◌, [], List, ℕ, sym, ap, rules}
+use Rattle.std.proofs.Common.{◌∙◌, ◌++◌, List, ℕ, sym, ap}
 use Rattle.resp_wire.specs.RequestEncoding.{request}
 use Rattle.append_log.proofs.RecordedEffects.{few_prepared, prepared_as_given}
 use Rattle.append_log.proofs.record.record_text.Goals as goal

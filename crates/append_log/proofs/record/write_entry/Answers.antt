@@ -1,4 +1,4 @@
-use Rattle.std.proofs.Common.{◌≡◌, ◌∙◌, ◌++◌, ◌∷◌, [], ℕ, ℤ, List, Option, Some, None, SFits, w64, to_z, of_z, to_z-of_z, ap, sym, refl, rules, append_assoc, append-nil}
+use Rattle.std.proofs.Common.{◌∙◌, ◌++◌, ℕ, ℤ, List, Option, SFits, w64, to_z-of_z, ap, sym, rules, append-nil}
 use Rattle.std.specs.List.{flat_map}
 use Rattle.resp_wire.specs.RequestEncoding.{argument}
 use Rattle.append_log.specs.EffectRecords.{words_behind}

@@ -1,7 +1,7 @@
 use Rattle.std.proofs.Common.{ap, sym, ◌∙◌, []}
 use Rattle.std.specs.FinMap as fin
 use Rattle.std.proofs.lemmas.List.{append-nil}
-use Rattle.append_log.specs.Dump.{dump, image}
+use Rattle.append_log.specs.Dump.{image}
 use Rattle.append_log.specs.Records.{text_of}
 use Rattle.append_log.specs.Replay.{replay}
 use Rattle.append_log.proofs.DumpReplay.{image_leads}

@@ -1,4 +1,4 @@
-use Rattle.std.proofs.Common.{◌∙◌, Result, Ok, Err}
+use Rattle.std.proofs.Common.{Result, Ok, Err}
 use Rattle.std.specs.Prelude.{OnErr}
 use Rattle.resp_wire.specs.RequestEncoding.{request}
 use Rattle.append_log.specs.Dump.{dump}

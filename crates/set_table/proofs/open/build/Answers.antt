@@ -1,6 +1,4 @@
-use Rattle.std.proofs.Common.{◌≡◌, ◌∙◌, ◌<◌, ℕ, List, length, sym, ap, subst, arith}
-use Rattle.std.specs.FinMap as fin
-use Rattle.zset_core.specs.SetAndOwnerViews.{SetView}
+use Rattle.std.proofs.Common.{◌∙◌, ◌<◌, ℕ, List, length, sym, ap, subst, arith}
 use Rattle.set_table.specs.Opening.{AllHavePlaces, IsNewPass, cards_of, pass_at}
 use Rattle.set_table.proofs.OpeningLemmas.{sized, opened_table, new_passes_of}
 use Rattle.set_table.proofs.open.build.Goals as goal

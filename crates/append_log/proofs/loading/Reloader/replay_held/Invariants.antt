@@ -1,4 +1,4 @@
-use Rattle.std.proofs.Common.{◌≡◌, ℕ, ◌+◌, ◌≤◌, List, length, None}
+use Rattle.std.proofs.Common.{◌≡◌, ℕ, ◌+◌, List, length, None}
 use Rattle.zset_core.specs.World.{World}
 use Rattle.append_log.specs.Reload.{Holds}
 use Rattle.append_log.specs.ReloadSteps.{IsBetweenReads}

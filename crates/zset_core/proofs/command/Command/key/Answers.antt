@@ -5,8 +5,8 @@ use Rattle.zset_core.proofs.Bounds.{asked_bounded}
 use Rattle.zset_core.proofs.NamedArguments.{form_fits}
 use Rattle.zset_core.proofs.command.Command.key.Goals as goal
 
-pub returns-in_default-clause-bounded : goal.returns-in_default-clause-bounded
-returns-in_default-clause-bounded g c =
+pub returns-in-Asks-clause-bounded : goal.returns-in-Asks-clause-bounded
+returns-in-Asks-clause-bounded g c =
     subst (λ (v : Asked). IsBoundedMeaning v.meaning) c.self.view_is (asked_bounded c.self.inside.request _ c.words-words.ensures.within c.self.invariant.1)
 
 pub returns-in-Ping-clause-fits : goal.returns-in-Ping-clause-fits
@@ -14,7 +14,7 @@ returns-in-Ping-clause-fits g c =
     let bounded = asked_bounded c.self.inside.request _ c.words-words.ensures.within c.self.invariant.1 in
     subst (λ (v : Asked). FitsRequest v.meaning) c.self.view_is (form_fits c.self.inside.request c.self.inside.form c.words-words.ensures.within c.self.invariant.0 bounded.puts)
 
-pub returns-in_default-clause-fits : goal.returns-in_default-clause-fits
-returns-in_default-clause-fits g c =
+pub returns-in-Asks-clause-fits : goal.returns-in-Asks-clause-fits
+returns-in-Asks-clause-fits g c =
     let bounded = asked_bounded c.self.inside.request _ c.words-words.ensures.within c.self.invariant.1 in
     subst (λ (v : Asked). FitsRequest v.meaning) c.self.view_is (form_fits c.self.inside.request c.self.inside.form c.words-words.ensures.within c.self.invariant.0 bounded.puts)

@@ -1,34 +1,66 @@
-use Rattle.std.proofs.Common.{◌∙◌, sym, ap, subst}
-use Rattle.zset_core.specs.AbstractCommand.{Asked, range_to_remove}
+use Rattle.std.proofs.Common.{◌∙◌, refl, sym, ap, subst, List, ℕ}
+use Rattle.ripple_column.specs.Content.{ColumnState, IsUnchanged}
+use Rattle.zset_core.specs.AbstractCommand.{Asked, Changes, Meaning, range_to_remove}
 use Rattle.zset_core.specs.ChangeEffect.{names_in}
+use Rattle.zset_core.specs.ParsedArguments.{change_of, meaning_of, word_at}
 use Rattle.zset_core.specs.Plan.{Moves}
 use Rattle.zset_core.specs.MembersWithStagedScores.{current_score, members_by}
-use Rattle.zset_core.specs.Semantics.{step}
-use Rattle.zset_core.proofs.Planning.{IsIdle-of, IsPlanned-made, members_idle, outline_left, few_added, column_shown, still_shown}
+use Rattle.zset_core.specs.Semantics.{changed_by}
+use Rattle.zset_core.proofs.Planning.{IsIdle-of, IsPlanned-made, members_idle, outline_left, few_added, column_shown, still_asked, still_shown, IsSound-back}
 use Rattle.zset_core.proofs.set.ZSet.prepare.Goals as goal
 
 pub invariant_of-self-2 : goal.invariant_of-self-2
 invariant_of-self-2 g c =
     let old = c.self.inside.members.entries in
-    IsPlanned-made old c.make_plan.new.members.entries c.self.inside.column c.make_plan.new.column c.of-asked.result.value.meaning c.in_ok-plan.plan (step (members_by current_score old) c.args.command.now.meaning)
+    let words = c.args.command.now.words in
+    let change = change_of c.words-words.result.now c.in-Changes.change in
+    let same = c.words-words.ensures.words ∙ c.request.ensures.request in
+    let is = c.form.ensures.meaning ∙ ap (meaning_of words) c.in-Changes.is ∙ ap (λ (read : List (List ℕ)). Changes (word_at words 1) (change_of read c.in-Changes.change)) (sym same) in
+    let asked = ap (λ (asked : Asked). asked.meaning) (sym c.of-asked.ensures) in
+    IsPlanned-made old c.make_plan.new.members.entries c.self.inside.column c.make_plan.new.column c.of-asked.result.value.meaning c.in_ok-plan.plan (changed_by (members_by current_score old) change)
     (IsIdle-of old c.self.inside.column c.self.inside.prepared c.args.self.now c.self.view_is c.requires.idle c.self.invariant)
     c.in_ok-plan.ensures.ok c.in_ok-plan.ensures.content c.in_ok-plan.ensures.ready
-    (c.in_ok-plan.ensures.range ∙ ap (λ (asked : Asked). range_to_remove asked.meaning) (sym c.of-asked.ensures))
-    (subst (λ (asked : Asked). Moves old c.make_plan.new.members.entries c.in_ok-plan.plan (names_in asked.meaning) (step (members_by current_score old) c.args.command.now.meaning)) (sym c.of-asked.ensures) c.in_ok-plan.ensures.moved)
+    (c.in_ok-plan.ensures.range ∙ ap range_to_remove (sym is ∙ asked))
+    (subst (λ (meaning : Meaning). Moves old c.make_plan.new.members.entries c.in_ok-plan.plan (names_in meaning) (changed_by (members_by current_score old) change)) (sym is ∙ asked) c.in_ok-plan.ensures.moved)
 
 pub returns-clause-outline : goal.returns-clause-outline
 returns-clause-outline g c =
     let old = c.self.inside.members.entries in
-    outline_left old c.make_plan.new.members.entries c.in_ok-plan.plan (step (members_by current_score old) c.args.command.now.meaning) c.args.self.now.members
+    outline_left old c.make_plan.new.members.entries c.in_ok-plan.plan (changed_by (members_by current_score old) (change_of c.words-words.result.now c.in-Changes.change)) c.args.self.now.members
     (members_idle old c.self.inside.column c.self.inside.prepared c.args.self.now c.self.view_is c.requires.idle) c.in_ok-plan.ensures.ok
 
 pub returns-clause-few : goal.returns-clause-few
-returns-clause-few g c = few_added c.self.inside.members.entries c.make_plan.new.members.entries c.in_ok-plan.plan (step (members_by current_score c.self.inside.members.entries) c.args.command.now.meaning) c.in_ok-plan.ensures.ok
+returns-clause-few g c =
+    few_added c.self.inside.members.entries c.make_plan.new.members.entries c.in_ok-plan.plan (changed_by (members_by current_score c.self.inside.members.entries) (change_of c.words-words.result.now c.in-Changes.change)) c.in_ok-plan.ensures.ok
+
+pub invariant_of-self : goal.invariant_of-self
+invariant_of-self g c =
+    IsSound-back c.self.inside.members.entries c.make_plan.new.members.entries c.self.inside.column c.make_plan.new.column c.self.inside.prepared c.args.self.now c.self.view_is c.requires.idle c.self.invariant
+    c.in_err-plan.ensures.err c.in_err-plan.ensures.content
+
+pub returns-in_err-plan-clause-still : goal.returns-in_err-plan-clause-still
+returns-in_err-plan-clause-still g c named fits =
+    let es = c.self.inside.members.entries in
+    let column = c.self.inside.column in
+    let shown = c.args.self.now in
+    let words = c.args.command.now.words in
+    let change = change_of c.words-words.result.now c.in-Changes.change in
+    let same = c.words-words.ensures.words ∙ c.request.ensures.request in
+    let is = c.form.ensures.meaning ∙ ap (meaning_of words) c.in-Changes.is ∙ ap (λ (read : List (List ℕ)). Changes (word_at words 1) (change_of read c.in-Changes.change)) (sym same) in
+    subst (λ (new : ColumnState). IsUnchanged shown.column new) (column_shown c.make_plan.new.members.entries c.make_plan.new.column c.self.inside.prepared _ refl)
+    (still_shown column shown.column c.make_plan.new.column (members_by current_score es) shown.members c.args.command.now.meaning _
+    (column_shown es column c.self.inside.prepared shown c.self.view_is) (members_idle es column c.self.inside.prepared shown c.self.view_is c.requires.idle)
+    (still_asked column c.make_plan.new.column (members_by current_score es) c.args.command.now.meaning (word_at words 1) change _ is c.in_err-plan.ensures.still named) fits)
 
 pub returns-clause-still : goal.returns-clause-still
 returns-clause-still g c named =
     let es = c.self.inside.members.entries in
     let column = c.self.inside.column in
     let shown = c.args.self.now in
+    let words = c.args.command.now.words in
+    let change = change_of c.words-words.result.now c.in-Changes.change in
+    let same = c.words-words.ensures.words ∙ c.request.ensures.request in
+    let is = c.form.ensures.meaning ∙ ap (meaning_of words) c.in-Changes.is ∙ ap (λ (read : List (List ℕ)). Changes (word_at words 1) (change_of read c.in-Changes.change)) (sym same) in
     still_shown column shown.column c.make_plan.new.column (members_by current_score es) shown.members c.args.command.now.meaning _
-    (column_shown es column c.self.inside.prepared shown c.self.view_is) (members_idle es column c.self.inside.prepared shown c.self.view_is c.requires.idle) (c.make_plan.ensures.still named)
+    (column_shown es column c.self.inside.prepared shown c.self.view_is) (members_idle es column c.self.inside.prepared shown c.self.view_is c.requires.idle)
+    (still_asked column c.make_plan.new.column (members_by current_score es) c.args.command.now.meaning (word_at words 1) change _ is c.make_plan.ensures.still named)
