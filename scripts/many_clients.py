@@ -48,6 +48,15 @@ def is_refused(server):
     return False
 
 
+def is_refused_soon(server):
+    """Whether a new client is turned away within a second: the accepting thread may still be on its way to close."""
+    for _ in range(50):
+        if is_refused(server):
+            return True
+        time.sleep(0.02)
+    return False
+
+
 def ask_all(clients, rounds):
     """Each client has one request under way at any time, on a member of its own whose score counts them."""
     selector = selectors.DefaultSelector()
@@ -214,7 +223,7 @@ def one_worker_serves_many_at_once():
 def nobody_waits_behind_the_last_connection():
     with Server("--connections", 2, "--workers", 1) as server, connected(server, 2) as clients:
         same([client.ask("PING") for client in clients], [PONG] * 2)
-        same(is_refused(server), True)
+        same(is_refused_soon(server), True)
         same([client.ask("ZADD", "k", 1, "a") for client in clients], [b":1\r\n", b":0\r\n"])
         all_end(server, clients, totals(2, 1, 1, 1, 0, 1))
 

@@ -8,6 +8,7 @@ ghost use Rattle.connections.specs.VisitSteps.{GoesOn, WaitsForTold, new_state};
 
 use crate::buffers::Buffers;
 use crate::visit::{Next, Visit};
+use crate::watch::Watched;
 use resp_wire::{PolledDrain, PolledSource};
 use session_core::Exec;
 use std::alloc::Allocator;
@@ -32,6 +33,8 @@ pub struct Held<S: PolledSource, D: PolledDrain, A: Allocator> {
     silence: Option<Duration>,
     /// When its last bytes came or went, where that is asked for.
     moved: Option<Instant>,
+    /// In its last turn no byte came or went.
+    is_still: bool,
 }
 
 /// Seen as its visit shows itself, with what its replies wait for and what left.
@@ -66,6 +69,7 @@ impl<S: PolledSource, D: PolledDrain, A: Allocator + Copy> Held<S, D, A> {
             is_queued: false,
             silence,
             moved,
+            is_still: true,
         }
     }
 
@@ -96,6 +100,19 @@ impl<S: PolledSource, D: PolledDrain, A: Allocator + Copy> Held<S, D, A> {
         }
     }
 
+    /// Whether no byte came or went in its last turn.
+    pub fn is_still(&self) -> bool {
+        self.is_still
+    }
+
+    /// Has its reads wait for bytes or no longer, as [`Watched::set_waiting`] says.
+    pub fn set_waiting(&self, waits: bool) -> bool
+    where
+        S: Watched,
+    {
+        self.visit.set_waiting(waits)
+    }
+
     /// The number of the last record that its replies wait for, 0 for none.
     pub fn awaited(&self) -> u64
         ensures awaited { result ≡ self.now.awaited }
@@ -107,7 +124,8 @@ impl<S: PolledSource, D: PolledDrain, A: Allocator + Copy> Held<S, D, A> {
     fn note_moved(&mut self, now: Option<Instant>)
         ensures same { self.new ≡ self.old }
     {
-        if self.visit.take_moved() {
+        self.is_still = !self.visit.take_moved();
+        if !self.is_still {
             self.moved = now;
         }
     }

@@ -6,8 +6,11 @@ ghost use Rattle.connections.specs.Places.{IsGrown};
 ghost use Rattle.connections.specs.HeldConnections.{AllGoOn, AllMayLeave, AllWait, HaveLeft, IsAdded, RisesBy, no_connections};
 ghost use Rattle.connections.specs.VisitSteps.{new_state};
 
+mod waiting_reads;
+
 use crate::buffers::Buffers;
 use crate::held::{Held, Moment};
+use crate::many::waiting_reads::WaitingReads;
 use crate::queues::{begin, queue, queue_again};
 use crate::settle::{Settle, settle_to};
 use crate::slots::Slots;
@@ -44,6 +47,7 @@ pub struct Connections<S: PolledSource, D: PolledDrain, A: Allocator> {
     ends_silent: bool,
     /// When it was looked for such last.
     looked: Option<Instant>,
+    waiting_reads: WaitingReads,
 }
 
 /// Seen as the connections at their places, and how many records are known to be settled.
@@ -77,6 +81,7 @@ impl<S: PolledSource + Watched + Drop, D: PolledDrain + Drop, A: Allocator + Cop
             buffers: Buffers::new(alloc)?,
             ends_silent: false,
             looked: None,
+            waiting_reads: WaitingReads::new(),
         })
     }
 
@@ -143,6 +148,7 @@ impl<S: PolledSource + Watched + Drop, D: PolledDrain + Drop, A: Allocator + Cop
         ensures added { IsAdded (new_state (S.told source) (D.told drain)) self.old.held self.new.held }
         ensures settled { self.new.settled ≡ self.old.settled }
     {
+        self.end_waiting_reads();
         let _ = self.try_add(clock, source, drain);
     }
 
@@ -208,6 +214,7 @@ impl<S: PolledSource + Watched + Drop, D: PolledDrain + Drop, A: Allocator + Cop
         let Some(mut held) = self.slots.take(place) else {
             return;
         };
+        self.waiting_reads.last = place;
         let next = held.turn(rt, moment, &mut self.buffers, exec, self.settled);
         match queue_again(&mut self.ready, &mut self.unsettled, place, next) {
             Some(is_queued) => {
@@ -350,9 +357,9 @@ impl<S: PolledSource + Watched + Drop, D: PolledDrain + Drop, A: Allocator + Cop
         }
     }
 
-    /// Waits until a connection is ready or the bell is rung, and gives each that is ready a turn. Then the replies
-    /// that tell of records which are not settled wait no longer: the records are settled, and where that can't be, the
-    /// connections whose replies tell of them leave, and their replies don't.
+    /// Waits until a connection is ready or the bell is rung, or for a moment in a read of the only one, and gives each
+    /// that is ready a turn. Then the replies that tell of records which are not settled wait no longer: the records are
+    /// settled, and where that can't be, the connections whose replies tell of them leave, and their replies don't.
     pub fn turn<R, C: Clock, E: Exec<R, A>, T: Settle<R>>(
         &mut self,
         rt: &R,
@@ -372,9 +379,10 @@ impl<S: PolledSource + Watched + Drop, D: PolledDrain + Drop, A: Allocator + Cop
         ensures waits { AllWait self.new.settled self.old.held self.new.held }
         ensures settled_by { RisesBy (T.settles settler.now) self.old.settled self.new.settled }
     {
-        self.wait(self.patience());
+        self.wait_due();
         let now = self.now(clock);
         let moment = Moment { clock, now };
+        self.serve_by_read(rt, &moment, exec);
         self.serve_woken(rt, &moment, exec);
         self.serve_ready(rt, &moment, exec);
         self.let_go_settled(rt, now, settler);

@@ -8,6 +8,7 @@ ghost use Rattle.connections.specs.VisitSteps.{IsSound, IsTaken, GoesOn, WaitsFo
 
 use crate::buffers::Buffers;
 use crate::replies::Replies;
+use crate::watch::Watched;
 use resp_wire::{ByteDrain, ByteSource, MAX_READS, PolledDrain, PolledSource};
 use session_core::{Ended, Exec, Session, SessionFault, takes_turns};
 use std::alloc::Allocator;
@@ -108,6 +109,14 @@ impl<S: PolledSource, D: PolledDrain, A: Allocator + Copy> Visit<S, D, A> {
         self.is_drained = false;
     }
 
+    /// Has reads wait for bytes or no longer, as [`Watched::set_waiting`] says.
+    pub fn set_waiting(&self, waits: bool) -> bool
+    where
+        S: Watched,
+    {
+        self.source.set_waiting(waits)
+    }
+
     /// Whether bytes came or went since this was last asked.
     pub fn take_moved(&mut self) -> bool
         ensures same { (state self.new.stage (S.told self.new.source)
@@ -130,6 +139,9 @@ impl<S: PolledSource, D: PolledDrain, A: Allocator + Copy> Visit<S, D, A> {
             (⟦<Replies<D, A> as ByteDrain>⟧.told self.old.replies) self.old.session.decoder self.old.session.progress) }
     {
         let before = self.replies.len();
+        if before == 0 {
+            return Some(true);
+        }
         let sent = self.replies.pump();
         if self.replies.len() < before {
             self.has_moved = true;
@@ -208,6 +220,11 @@ impl<S: PolledSource, D: PolledDrain, A: Allocator + Copy> Visit<S, D, A> {
                         return;
                     }
                 }
+            }
+            // Where no byte is held, no request is: that need not be looked for, nor at the clock.
+            if self.session.decoder.rest_len() == 0 {
+                self.stage = Stage::Reads;
+                return;
             }
             let looks = count % REQUESTS_A_LOOK == 0;
             if self.replies.len() >= MOST_HELD || (looks && is_over(clock, &mut begun)) {

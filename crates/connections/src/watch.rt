@@ -17,6 +17,10 @@ pub trait Watched {
 
     /// For how long the connection may send or take nothing before it is ended; None: for any time.
     fn silence(&self) -> Option<Duration>;
+
+    /// Has reads wait a moment for bytes, some milliseconds at most, or no longer wait. False where it can't: then they
+    /// are as they were.
+    fn set_waiting(&self, waits: bool) -> bool;
 }
 
 impl<R: Read + Watched> Watched for Reading<R> {
@@ -26,6 +30,10 @@ impl<R: Read + Watched> Watched for Reading<R> {
 
     fn silence(&self) -> Option<Duration> {
         self.get_ref().silence()
+    }
+
+    fn set_waiting(&self, waits: bool) -> bool {
+        self.get_ref().set_waiting(waits)
     }
 }
 
@@ -37,6 +45,10 @@ impl<'a> Watched for MemorySource<'a> {
     fn silence(&self) -> Option<Duration> {
         None
     }
+
+    fn set_waiting(&self, _waits: bool) -> bool {
+        false
+    }
 }
 
 impl<S> Watched for FuseSource<S> {
@@ -46,6 +58,10 @@ impl<S> Watched for FuseSource<S> {
 
     fn silence(&self) -> Option<Duration> {
         None
+    }
+
+    fn set_waiting(&self, _waits: bool) -> bool {
+        false
     }
 }
 

@@ -8,7 +8,6 @@ ghost use Rattle.hand_over.specs.ChannelInvariant.{pass_view, times, once_below,
 
 use crate::arrivals::{Arrival, Arrivals};
 use crate::channel::{ChannelEnds, ChannelPass, Sender, send_connection};
-use crate::door::ring_least;
 use crate::handler::Bell;
 use std::alloc::{AllocError, Global};
 use std::sync::Wait;
@@ -86,8 +85,9 @@ impl Unsent {
         for number in 0..limit {
             match arrivals.arrive() {
                 Arrival::Came(connection) => {
+                    ends.doors.expect_least();
                     self.hand_out(rt, &ends.sender, pass, number, connection);
-                    ring_least(&ends.doors);
+                    ends.doors.ring_due();
                 }
                 Arrival::Closed => return false,
                 Arrival::Fault => return true,

@@ -6,7 +6,7 @@ ghost use Rattle.crossbeam_channel.specs.Ends.{sends_on, receives_on, ruled_capa
 ghost use Rattle.hand_over.specs.ChannelInvariant.{pass_view, times, once_below, AllBelow, numbers_of, IsNumbered, after_sending, after_taking, IsAboveTaken, TakesFew, with_taken, after_send, after_stop};
 ghost use Rattle.hand_over.specs.Finding.{IsFound};
 
-use crate::door::Door;
+use crate::door::Doors;
 use crossbeam_channel::protocol::{Join, Lesson, Outcome, Protocol, Split};
 use crossbeam_channel::{Pass, RuledReceiver, RuledSender, TryRecvError};
 use std::collections::LinkedList;
@@ -101,7 +101,7 @@ pub type ChannelPass<C> = Pass<Message<C>, ChannelPassView>;
 pub struct ChannelEnds<C: Drop, B> {
     pub sender: Sender<C>,
     pub receiver: Receiver<C>,
-    pub doors: Vec<Door<B>>,
+    pub doors: Doors<B>,
 }
 
 /// What a worker finds in the channel.

@@ -1,25 +1,59 @@
-//! How connections are shared out among workers. A count that is behind costs a worker a look at the
-//! channel, or has a connection taken by another worker; it loses none.
+//! How connections are shared out among workers. A count that is behind costs a worker a look at the channel, or has a
+//! connection taken by another worker; it loses none.
 
 use crate::handler::{Bell, Handler};
 use std::alloc::{AllocError, Global};
 use std::sync::atomic::{AtomicU64, Ordering};
 
-/// What the accepting thread and one worker share.
+/// What the accepting thread and the workers share of one worker.
 #[derive(Drop)]
 pub struct Door<B> {
-    /// For how many messages of the channel the worker is to look.
+    /// So many messages the worker is to take, which are in the channel or about to be sent.
     due: AtomicU64,
     /// How many connections the worker holds.
     live: AtomicU64,
     bell: Option<B>,
 }
 
+impl<B> Door<B> {
+    /// Whether the worker is to take a message.
+    fn is_due(&self) -> bool {
+        self.due.load(Ordering::SeqCst) > 0
+    }
+
+    /// How many connections the worker holds or is to take.
+    fn load(&self) -> u64 {
+        let live = self.live.load(Ordering::SeqCst);
+        live.saturating_add(self.due.load(Ordering::SeqCst))
+    }
+
+    /// Has the worker take one message more.
+    fn expect(&self) {
+        self.due.fetch_add(1, Ordering::SeqCst);
+    }
+
+    /// Has the worker take one message less. False where it is to take none.
+    fn settle(&self) -> bool {
+        let settled = self.due.fetch_update(
+            Ordering::SeqCst,
+            Ordering::SeqCst,
+            |due| due.checked_sub(1),
+        );
+        settled.is_ok()
+    }
+}
+
+/// The doors of all workers. As many messages are due at them as there are in the channel, or more.
+#[derive(Drop)]
+pub struct Doors<B> {
+    doors: Vec<Door<B>>,
+}
+
 /// A door for each handler.
 pub fn doors_of<C, H: Handler<C> + Drop>(
     alloc: Global,
     handlers: &Vec<H>,
-) -> Result<Vec<Door<H::Bell>>, AllocError> {
+) -> Result<Doors<H::Bell>, AllocError> {
     let mut doors = Vec::with_capacity(alloc, handlers.len())?;
     for handler in handlers.iter() {
         doors.push(Door {
@@ -28,58 +62,97 @@ pub fn doors_of<C, H: Handler<C> + Drop>(
             bell: handler.bell(),
         })?;
     }
-    Ok(doors)
+    Ok(Doors { doors })
 }
 
-impl<B: Bell> Door<B> {
-    /// Has the worker look for a message of the channel.
-    fn ring(&self) {
-        self.due.fetch_add(1, Ordering::SeqCst);
-        if let Some(bell) = &self.bell {
-            bell.ring();
+impl<B> Doors<B> {
+    /// Has the worker that holds the fewest connections take the message that is about to be sent.
+    pub fn expect_least(&self) {
+        let mut best = None;
+        let mut fewest = u64::MAX;
+        for door in self.doors.iter() {
+            let load = door.load();
+            if load < fewest {
+                fewest = load;
+                best = Some(door);
+            }
+        }
+        if let Some(door) = best {
+            door.expect();
         }
     }
 
-    /// Whether the worker is to look for a message.
-    pub fn is_due(&self) -> bool {
-        if self.due.load(Ordering::SeqCst) == 0 {
-            return false;
+    /// Has each worker take a message that is about to be sent.
+    pub fn expect_each(&self) {
+        for door in self.doors.iter() {
+            door.expect();
         }
-        self.due.fetch_sub(1, Ordering::SeqCst);
-        true
+    }
+
+    /// Has some worker take one message less.
+    fn settle_any(&self) {
+        for door in self.doors.iter() {
+            if door.settle() {
+                return;
+            }
+        }
+    }
+}
+
+impl<B: Bell> Doors<B> {
+    /// Wakes each worker that is to take a message, once one was sent. One that was woken before, looked into the channel
+    /// in vain and rests is woken too: another worker may have taken its message, and then this one is its own.
+    pub fn ring_due(&self) {
+        for door in self.doors.iter() {
+            if door.is_due() {
+                if let Some(bell) = &door.bell {
+                    bell.ring();
+                }
+            }
+        }
+    }
+}
+
+/// A worker's own door, among those of all.
+#[derive(Drop)]
+pub struct Post<'d, B> {
+    pub doors: &'d Doors<B>,
+    pub worker: usize,
+}
+
+impl<'d, B> Post<'d, B> {
+    fn door(&self) -> Option<&Door<B>> {
+        self.doors.doors.get(self.worker)
+    }
+
+    /// Whether the worker is to look into the channel.
+    pub fn is_due(&self) -> bool {
+        match self.door() {
+            Some(door) => door.is_due(),
+            None => false,
+        }
     }
 
     /// Tells how many connections the worker holds.
     pub fn tell_live(&self, live: usize) {
-        self.live.store(live as u64, Ordering::SeqCst);
-    }
-
-    /// How many connections the worker holds or is to take.
-    fn load(&self) -> u64 {
-        let live = self.live.load(Ordering::SeqCst);
-        live.saturating_add(self.due.load(Ordering::SeqCst))
-    }
-}
-
-/// Has the worker that holds the fewest connections look for a message.
-pub fn ring_least<B: Bell>(doors: &[Door<B>]) {
-    let mut best = None;
-    let mut fewest = u64::MAX;
-    for door in doors {
-        let load = door.load();
-        if load < fewest {
-            fewest = load;
-            best = Some(door);
+        if let Some(door) = self.door() {
+            let live = live as u64;
+            // Where all is as it was, no other thread has to hear of it.
+            if door.live.load(Ordering::SeqCst) != live {
+                door.live.store(live, Ordering::SeqCst);
+            }
         }
     }
-    if let Some(door) = best {
-        door.ring();
-    }
-}
 
-/// Has each worker look for a message.
-pub fn ring_all<B: Bell>(doors: &[Door<B>]) {
-    for door in doors {
-        door.ring();
+    /// Notes that the worker took a connection, and holds so many with it: it is to take one less. Where it was to take
+    /// none, another worker is.
+    pub fn note_taken(&self, live: usize) {
+        self.tell_live(live);
+        if let Some(door) = self.door() {
+            if door.settle() {
+                return;
+            }
+        }
+        self.doors.settle_any();
     }
 }

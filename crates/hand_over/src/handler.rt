@@ -34,7 +34,8 @@ pub trait Handler<C> {
         ensures keeps { keeps self.old self.new }
         ensures handled { handled self.new ≡ handled self.old + 1 };
 
-    /// Goes on with the connections that it holds, and waits for that until one of them is ready or its bell is rung.
+    /// Goes on with the connections that it holds. For that it waits until one of them is ready, its bell is rung or a
+    /// moment is over.
     fn turn<R: Wait>(&mut self, rt: &R)
         ensures keeps { keeps self.old self.new }
         ensures handled { handled self.new ≡ handled self.old };

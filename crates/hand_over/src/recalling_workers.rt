@@ -8,7 +8,6 @@ ghost use Rattle.hand_over.specs.ChannelInvariant.{pass_view, with_pass};
 ghost use Rattle.hand_over.specs.Outcome.{all_of, Served};
 
 use crate::channel::{ChannelEnds, ChannelPass, Sender, SplitPass, dismiss};
-use crate::door::ring_all;
 use crate::handler::Handler;
 use crate::starting_workers::Child;
 use crate::worker::Finished;
@@ -132,8 +131,9 @@ impl<H: Drop> Returned<H> {
             (map (λ h. h.promise.handler.value) children.items) self.new.handlers.items
             self.new.taken.items }
     {
+        ends.doors.expect_each();
         let refused = dismiss(rt, &ends.sender, pass, children.len());
-        ring_all(&ends.doors);
+        ends.doors.ring_due();
         self.gather(rt, &ends.sender, pass, children, refused);
     }
 }

@@ -6,7 +6,7 @@ ghost use Rattle.crossbeam_channel.specs.Ends.{sends_on, receives_on, ruled_capa
 ghost use Rattle.hand_over.specs.ChannelInvariant.{pass_view};
 
 use crate::channel::{ChannelEnds, ChannelPass, Receiver, SplitPass};
-use crate::door::Door;
+use crate::door::Post;
 use crate::handler::Handler;
 use crate::outcome::HandOverFault;
 use crate::worker::{Desk, Finished, Worked, work};
@@ -42,7 +42,7 @@ fn start<'s, E, C: Drop + Send + 's, H: Handler<C> + Drop + Send + 's, R: Wait +
     receiver: &'s Receiver<C>,
     pass: ChannelPass<C>,
     desk: Desk<H>,
-    door: Option<&'s Door<H::Bell>>,
+    post: Post<'s, H::Bell>,
 ) -> Option<Child<C, H>>
 where
     H::Bell: Sync,
@@ -55,7 +55,7 @@ where
         channel: Snapshot::of(receiver),
         handler: Snapshot::of(&desk.handler),
     };
-    let started = scope.spawn_with(promise, move || work(rt, receiver, pass, desk, door));
+    let started = scope.spawn_with(promise, move || work(rt, receiver, pass, desk, &post));
     started.ok()
 }
 
@@ -66,7 +66,7 @@ fn start_one<'s, E, C: Drop + Send + 's, H: Handler<C> + Drop + Send + 's, R: Wa
     ends: &'s ChannelEnds<C, H::Bell>,
     pass: &mut ChannelPass<C>,
     desk: Desk<H>,
-    door: Option<&'s Door<H::Bell>>,
+    post: Post<'s, H::Bell>,
 ) -> Result<Child<C, H>, HandOverFault>
 where
     H::Bell: Sync,
@@ -82,7 +82,7 @@ where
         × (h.promise.handler.value ≡ desk.handler)) }
 {
     let own = ends.sender.another::<SplitPass>(pass);
-    start(scope, rt, &ends.receiver, own, desk, door).ok_or(HandOverFault::Spawn)
+    start(scope, rt, &ends.receiver, own, desk, post).ok_or(HandOverFault::Spawn)
 }
 
 /// Starts one worker for each desk.
@@ -113,8 +113,11 @@ where
         ≡ map (λ d. d.handler) desks.items)) }
 {
     for desk in desks {
-        let door = ends.doors.get(children.len());
-        let child = start_one(scope, rt, ends, pass, desk, door)?;
+        let post = Post {
+            doors: &ends.doors,
+            worker: children.len(),
+        };
+        let child = start_one(scope, rt, ends, pass, desk, post)?;
         children.push_reserved(child);
     }
     Ok(())

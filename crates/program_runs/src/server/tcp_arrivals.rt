@@ -14,6 +14,7 @@ use std::io::{self, ErrorKind, Read, Write};
 use std::net::{TcpListener, TcpStream};
 use std::os::fd::{AsRawFd, RawFd};
 use std::sync::Arc;
+use std::sync::atomic::{AtomicBool, Ordering};
 use std::thread;
 use std::time::Duration;
 
@@ -23,7 +24,23 @@ struct Socket {
     stream: TcpStream,
     /// After how long in which no byte moves the connection is ended.
     silence: Option<Duration>,
+    /// A call that would wait waits a moment before it answers so.
+    waits: AtomicBool,
     _seat: Seat,
+}
+
+impl Socket {
+    /// Has calls wait a moment, or no longer wait.
+    fn set_waiting(&self, waits: bool) -> bool {
+        if self.waits.load(Ordering::SeqCst) == waits {
+            return true;
+        }
+        if self.stream.set_nonblocking(!waits).is_err() {
+            return false;
+        }
+        self.waits.store(waits, Ordering::SeqCst);
+        true
+    }
 }
 
 /// One of the two holders of a socket. A call that would wait answers so.
@@ -42,7 +59,12 @@ impl Read for SocketHolder {
 impl Write for SocketHolder {
     fn write(&mut self, bytes: &[u8]) -> io::Result<usize> {
         let mut stream = &self.socket.stream;
-        stream.write(bytes)
+        let taken = stream.write(bytes);
+        // One wait is enough for a peer that does not take its replies: from then on no call waits.
+        if !matches!(taken, Ok(n) if n == bytes.len()) {
+            self.socket.set_waiting(false);
+        }
+        taken
     }
 
     fn flush(&mut self) -> io::Result<()> {
@@ -58,6 +80,10 @@ impl Watched for SocketHolder {
 
     fn silence(&self) -> Option<Duration> {
         self.socket.silence
+    }
+
+    fn set_waiting(&self, waits: bool) -> bool {
+        self.socket.set_waiting(waits)
     }
 }
 
@@ -111,10 +137,16 @@ struct Entrance {
     timeout: Option<Duration>,
 }
 
+/// For how many milliseconds a call waits where calls wait a moment.
+const MOMENT_MILLIS: u64 = 1;
+
 /// Sets a socket's options: no call waits, replies go out at once, and the system asks a silent peer
-/// whether it is there.
+/// whether it is there. Once it is set to wait, a call waits for a moment.
 fn set_options(stream: &TcpStream) -> io::Result<()> {
     stream.set_nonblocking(true)?;
+    let moment = Some(Duration::from_millis(MOMENT_MILLIS));
+    stream.set_read_timeout(moment)?;
+    stream.set_write_timeout(moment)?;
     stream.set_nodelay(true)?;
     keep_alive(stream.as_raw_fd());
     Ok(())
@@ -129,6 +161,7 @@ impl Entrance {
         let socket = Socket {
             stream,
             silence: self.timeout,
+            waits: AtomicBool::new(false),
             _seat: self.doorway.take_seat()?,
         };
         let source = Arc::new(self.rt.alloc(), socket)?;
