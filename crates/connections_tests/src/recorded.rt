@@ -121,4 +121,8 @@ impl<'i> Watched for Sender<'i> {
     fn silence(&self) -> Option<Duration> {
         None
     }
+
+    fn set_waiting(&self, _waits: bool) -> bool {
+        false
+    }
 }
