@@ -1,34 +1,18 @@
 -- How a visit goes on from step to step.
-use Rattle.std.proofs.Common.{◌≡◌, List, [], ◌++◌, ℕ, ◌+◌, length, refl, sym, ap, subst, ◌∙◌, append-nil, Option, None, Result, Bool, true, false, Ok, Err, inl, inr}
-use Rattle.std.proofs.lemmas.List.{nil_from_length}
+use Rattle.std.proofs.Common.{◌≡◌, List, ℕ, sym, subst, Option, Result, Bool, true, false, Ok, Err, inl, inr}
 use Rattle.std.specs.Io.KnownBytes.{prepend_known}
-use Rattle.resp_wire.specs.Parser.{byte_at, head_at, item_at}
-use Rattle.resp_wire.specs.Stream.{split_items, items, requests, rest, fault}
 use Rattle.resp_wire.specs.DecoderView.{DecoderView}
 use Rattle.resp_wire.specs.Response.{Response}
 use Rattle.zset_core.specs.AbstractCommand.{Asked}
 use Rattle.zset_core.specs.declared.refusal.Refusal.{Refusal}
 use Rattle.session_core.specs.declared.fault.SessionFault.{SessionFault}
 use Rattle.session_core.specs.declared.session.Progress.{Progress}
-use Rattle.session_core.specs.Exchange.{Exchanges, texts}
-use Rattle.session_core.specs.ServeSteps.{Underway, Answered, Halfway}
+use Rattle.session_core.specs.ServeSteps.{Underway}
 use Rattle.session_core.specs.Interleaved.{PartWay, Moves, Talk, Turn, TakesTurns}
 use Rattle.session_core.proofs.Interleaving.{moves-trans, moved_by}
 use Rattle.connections.specs.declared.visit.Stage.{Stage}
 use Rattle.connections.specs.declared.visit.Stage.TheVariants.{Reads, Runs, Ended}
 use Rattle.connections.specs.VisitSteps.{IsTaken, Stands, GoesOn, VisitState, state}
-
-nothing_asked : requests [] ≡ []
-unfolding requests items split_items
-nothing_asked = refl
-
-nothing_left : rest [] ≡ []
-unfolding rest split_items
-nothing_left = refl
-
-nothing_wrong : fault [] ≡ None
-unfolding fault rest split_items item_at head_at byte_at
-nothing_wrong = refl
 
 module _ {S : Type 0} (allows : S → Asked → Result Response Refusal → S → Type 0) where
   -- a piece was read
@@ -68,24 +52,6 @@ module _ {S : Type 0} (allows : S → Asked → Result Response Refusal → S �
       follows (Ok true) turn part = law.turns start here there source₀ source drain₀ drain drain₁ wire new progress after (Ok true) part turn
       follows (Ok false) turn part = law.turns start here there source₀ source drain₀ drain drain₁ wire new progress after (Ok false) part turn
       follows (Err end) turn part = law.turns start here there source₀ source drain₀ drain drain₁ wire new progress after (Err end) part turn
-
-  -- a part of the requests that were held was answered, and behind it no byte is held
-  pub spent : (start : S) (first : DecoderView) (begun : Progress) (told : Option (List ℕ)) (here : S) (wire : DecoderView) (progress : Progress) (now : Option (List ℕ))
-      → Halfway allows start first begun told here wire progress now → length wire.held ≡ 0 → Answered allows start first begun told here wire progress now
-  spent start first begun told here wire progress now half none =
-      let none_held : wire.held ≡ [] = nil_from_length wire.held none in
-      let asked : requests first.held ≡ half.given = half.requests_are ∙ ap (λ (l : List ℕ). half.given ++ requests l) none_held ∙ ap (λ (l : List (List (List ℕ))). half.given ++ l) nothing_asked ∙ append-nil half.given in
-      record {
-        written = texts half.replies;
-        replied = record { replies = half.replies; exchanges = subst (λ (l : List (List (List ℕ))). Exchanges allows start l half.replies here) (sym asked) half.exchanges; written_is = refl };
-        told_is = half.told_is;
-        held_is = none_held ∙ sym (half.rest_is ∙ ap rest none_held ∙ nothing_left);
-        fault_is = half.fault_is ∙ ap fault none_held ∙ nothing_wrong;
-        unfaulted = half.unfaulted;
-        out_is = half.out_is;
-        count_is = half.count_is ∙ ap (λ (l : List (List (List ℕ))). begun.requests + length l) (sym asked);
-        bytes_are = half.bytes_are;
-      }
 
   pub moves_on : (begun here there : S) (drain drain₁ : Option (List ℕ)) (wire new : DecoderView) (progress after : Progress) (result : Result Bool SessionFault)
       → Moves allows begun here → Turn allows here wire progress drain result there new after drain₁ → Moves allows begun there

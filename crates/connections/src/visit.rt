@@ -221,11 +221,6 @@ impl<S: PolledSource, D: PolledDrain, A: Allocator + Copy> Visit<S, D, A> {
                     }
                 }
             }
-            // Where no byte is held, no request is: that need not be looked for, nor at the clock.
-            if self.session.decoder.rest_len() == 0 {
-                self.stage = Stage::Reads;
-                return;
-            }
             let looks = count % REQUESTS_A_LOOK == 0;
             if self.replies.len() >= MOST_HELD || (looks && is_over(clock, &mut begun)) {
                 return;

@@ -1,6 +1,6 @@
-use Rattle.std.proofs.Common.{refl, sym, ◌∙◌, Ok, Err, true, false}
+use Rattle.std.proofs.Common.{refl, Ok, Err, true, false}
 use Rattle.session_core.proofs.Interleaving.{moves-refl}
-use Rattle.connections.proofs.VisitLemmas.{runs_on, moves_on, spent}
+use Rattle.connections.proofs.VisitLemmas.{runs_on, moves_on}
 use Rattle.connections.proofs.visit.Visit.run.Goals as goal
 
 pub loop-count-init : goal.loop-count-init
@@ -22,12 +22,6 @@ returns-in-Err-clause-moves g c = moves_on g.E.Exec.allows _ _ _ _ _ c.loop-coun
 
 pub returns-in-Err-clause-goes_on : goal.returns-in-Err-clause-goes_on
 returns-in-Err-clause-goes_on g c = runs_on g.E.Exec.allows c.takes_turns.ensures.law _ _ _ _ _ _ _ _ _ _ _ c.loop-count.self.session.decoder c.turn.new.self.decoder c.loop-count.self.session.progress c.turn.new.self.progress _ _ (Err c.in-Err.end) c.loop-count.invariant.runs c.loop-count.invariant.goes_on c.in-Err.ensures.halted refl
-
-pub returns-then-rest_len-eq0-clause-moves : goal.returns-then-rest_len-eq0-clause-moves
-returns-then-rest_len-eq0-clause-moves g c = moves_on g.E.Exec.allows _ _ _ _ _ _ _ _ _ (Ok false) c.loop-count.invariant.moves (c.in-Ok.ensures.half c.if-is_all.false)
-
-pub returns-then-rest_len-eq0-clause-goes_on : goal.returns-then-rest_len-eq0-clause-goes_on
-returns-then-rest_len-eq0-clause-goes_on g c = runs_on g.E.Exec.allows c.takes_turns.ensures.law _ _ _ _ _ _ _ _ _ _ _ _ _ _ _ _ _ (Ok true) c.loop-count.invariant.runs c.loop-count.invariant.goes_on (spent g.E.Exec.allows _ _ _ _ _ _ _ _ (c.in-Ok.ensures.half c.if-is_all.false) (sym c.rest_len.ensures ∙ c.if-rest_len-eq0.true)) refl
 
 pub returns-then-len-ge-MOST_HELD-clause-moves : goal.returns-then-len-ge-MOST_HELD-clause-moves
 returns-then-len-ge-MOST_HELD-clause-moves g c = moves_on g.E.Exec.allows _ _ _ _ _ _ _ _ _ (Ok false) c.loop-count.invariant.moves (c.in-Ok.ensures.half c.if-is_all.false)
