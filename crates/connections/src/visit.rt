@@ -24,7 +24,13 @@ pub const MOST_HELD: usize = 65_536;
 pub const MOST_MILLIS: u64 = 1;
 
 /// The clock is looked at once for so many requests: it takes as long as a tenth of a short one.
-const REQUESTS_A_LOOK: u32 = 4;
+const REQUESTS_A_LOOK: u32 = 8;
+
+/// Whether the clock is looked at behind a turn's request of this number, counted from 0. It is behind the second one
+/// too, so that two that take long end their turn.
+fn is_followed_by_look(number: u32) -> bool {
+    number == 1 || number % REQUESTS_A_LOOK == 0
+}
 
 /// How far a visit is.
 #[derive(Clone, Copy, Debug, PartialEq, Eq)]
@@ -221,7 +227,7 @@ impl<S: PolledSource, D: PolledDrain, A: Allocator + Copy> Visit<S, D, A> {
                     }
                 }
             }
-            let looks = count % REQUESTS_A_LOOK == 0;
+            let looks = is_followed_by_look(count);
             if self.replies.len() >= MOST_HELD || (looks && is_over(clock, &mut begun)) {
                 return;
             }

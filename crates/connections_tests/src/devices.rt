@@ -102,6 +102,8 @@ pub enum Pace {
     Stands,
     /// Each look is a millisecond after the look before.
     Runs,
+    /// Each look is half a millisecond after the look before.
+    Walks,
     /// It can't be told.
     Fails,
 }
@@ -120,17 +122,21 @@ impl TestClock {
             looks: Cell::new(0),
         }
     }
+
+    /// The number of this look.
+    fn count_look(&self) -> u64 {
+        let looks = self.looks.get().saturating_add(1);
+        self.looks.set(looks);
+        looks
+    }
 }
 
 impl Clock for TestClock {
     fn monotonic(&self) -> IoResult<Duration> {
         match self.pace {
             Pace::Stands => Ok(Duration::ZERO),
-            Pace::Runs => {
-                let looks = self.looks.get().saturating_add(1);
-                self.looks.set(looks);
-                Ok(Duration::from_millis(looks))
-            }
+            Pace::Runs => Ok(Duration::from_millis(self.count_look())),
+            Pace::Walks => Ok(Duration::from_micros(self.count_look().saturating_mul(500))),
             Pace::Fails => Err(IoError::from(ErrorKind::Unsupported)),
         }
     }

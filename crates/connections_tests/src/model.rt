@@ -40,12 +40,13 @@ fn outcome(device: Device, number: u64, bytes: usize) -> Call {
     }
 }
 
-/// How many requests a turn may run. The time is looked at behind the first and behind each fourth after it, and is
-/// over a millisecond after the first look, or where it can't be told.
+/// How many requests a turn may run. The time is looked at behind the first two and behind each eighth after the
+/// first, and is over a millisecond after the first look, or where it can't be told.
 fn most_of(pace: Pace) -> u32 {
     match pace {
         Pace::Stands => MOST_REQUESTS,
-        Pace::Runs => 5,
+        Pace::Runs => 2,
+        Pace::Walks => 9,
         Pace::Fails => 1,
     }
 }

@@ -255,7 +255,7 @@ const FEW_ORDERS: [Order; 3] = [
 fn what_a_turn_leaves_is_answered_in_the_next(rt: HostRuntime) -> Result<(), Fail> {
     let scripts = scripts_of(rt.alloc(), MIXED, 40)?;
     for order in FEW_ORDERS {
-        for pace in [Pace::Stands, Pace::Runs, Pace::Fails] {
+        for pace in [Pace::Stands, Pace::Runs, Pace::Walks, Pace::Fails] {
             for devices in [client(16_384, 65_536, false), client(1000, 100, true)] {
                 let case = Case {
                     scripts: &scripts,

@@ -1,9 +1,11 @@
-//! What takes no memory: a change that was prepared, and a set that leaves its owner.
+//! What takes no memory: a change that was prepared, a set that leaves its owner, and a request of few words behind one
+//! that was answered.
 
-ghost use Rattle.std.specs.Prelude.{◌≡◌, None};
+ghost use Rattle.std.specs.Prelude.{◌≡◌, ◌≤◌, length, None};
 
 use crate::owners::{Owner, command, run_all};
 use fuse_alloc::Fuse;
+use resp_wire::Decoder;
 use std::alloc::{Allocator, Global};
 use std::hash::RandomState;
 use std::test::*;
@@ -95,5 +97,43 @@ fn a_set_that_leaves_takes_no_memory(rt: HostRuntime) -> Result<(), Fail> {
     let fuse = Fuse::new(rt.alloc(), 0);
     let mut owner = OneOwner::new(&fuse, RandomState::new(&rt)?);
     assert!(rt; leaves_without(&fuse, &fuse, &mut owner)?);
+    Ok(())
+}
+
+/// Two requests of two words.
+const OF_TWO_WORDS: &[u8] = b"*2\r\n$5\r\nZCARD\r\n$1\r\nk\r\n*2\r\n$5\r\nZCARD\r\n$1\r\nj\r\n";
+
+/// Two requests of nine words.
+const OF_NINE_WORDS: &[u8] =
+    b"*9\r\n$1\r\n1\r\n$1\r\n2\r\n$1\r\n3\r\n$1\r\n4\r\n$1\r\n5\r\n$1\r\n6\r\n$1\r\n7\r\n$1\r\n8\r\n$1\r\n9\r\n\
+      *9\r\n$1\r\n1\r\n$1\r\n2\r\n$1\r\n3\r\n$1\r\n4\r\n$1\r\n5\r\n$1\r\n6\r\n$1\r\n7\r\n$1\r\n8\r\n$1\r\n9\r\n";
+
+/// Whether the second of two requests is read without an allocation, where the first was answered and is reused.
+fn is_read_without<A: Allocator + Copy>(
+    alloc: A,
+    fuse: &Fuse<Global>,
+    two: &[u8],
+) -> Result<bool, Fail>
+    requires { length two.now ≤ 1000 }
+{
+    let mut decoder = Decoder::new(alloc);
+    decoder.feed(two)?;
+    let Ok(Some(answered)) = decoder.next() else {
+        return Err("no request")?;
+    };
+    decoder.reuse(answered);
+    fuse.arm(1);
+    let is_given = matches!(decoder.next(), Ok(Some(_)));
+    let is_armed = fuse.is_armed();
+    fuse.arm(0);
+    Ok(is_given && is_armed)
+}
+
+// Where memory is exhausted, requests of few words are still read. A longer list is given up.
+#[test]
+fn a_short_request_behind_another_takes_no_memory(rt: HostRuntime) -> Result<(), Fail> {
+    let fuse = Fuse::new(rt.alloc(), 0);
+    assert!(rt; is_read_without(&fuse, &fuse, OF_TWO_WORDS)?);
+    assert!(rt; !is_read_without(&fuse, &fuse, OF_NINE_WORDS)?);
     Ok(())
 }

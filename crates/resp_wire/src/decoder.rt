@@ -28,10 +28,12 @@ fn drop_read<A: Allocator>(bytes: &mut Vec<u8, A>, start: usize) -> usize
     ensures unread { drop result bytes.new.items ≡ drop start bytes.old.items }
     ensures count { length bytes.new.items - result ≡ length bytes.old.items - start }
 {
-    if start < bytes.len() - start {
+    let unread = bytes.len() - start;
+    if start < unread {
         return start;
     }
-    bytes.drain(..start);
+    bytes.copy_within(start.., 0);
+    bytes.truncate(unread);
     0
 }
 
@@ -49,6 +51,10 @@ fn append<A: Allocator>(
 {
     bytes.extend_from_slice(piece)
 }
+
+/// The list of so many arguments has its room reused at most: a longer one is given up, so that a decoder that waits
+/// keeps little.
+const REUSED_ARGUMENTS: usize = 8;
 
 /// Takes a stream of requests in whatever pieces it comes. A contract sees the bytes that it holds,
 /// the number of bytes that it gave as requests or skipped before them, and the fault that it
@@ -123,6 +129,16 @@ impl<A: Allocator + Copy> Decoder<A> {
         if self.start == self.bytes.len() {
             self.bytes = Vec::new(self.alloc);
             self.start = 0;
+        }
+    }
+
+    /// Has the list of the next request's arguments stand where that of an answered one stood. What is held, and all
+    /// that is answered, stays.
+    pub fn reuse(&mut self, answered: Request<A>)
+        ensures { self.new ≡ self.old }
+    {
+        if self.count == 0 && answered.words().len() <= REUSED_ARGUMENTS {
+            self.arguments = answered.into_room();
         }
     }
 

@@ -1,6 +1,6 @@
 //! Requests.
 
-ghost use Rattle.std.specs.Prelude.{◌≡◌, ◌↔◌, All, IsTrue, SomeIff};
+ghost use Rattle.std.specs.Prelude.{◌≡◌, ◌↔◌, [], All, IsTrue, SomeIff};
 ghost use Rattle.resp_wire.specs.RequestEncoding.{IsRequest, IsArgument};
 
 use crate::bytes::{Bytes, BytesList};
@@ -60,6 +60,15 @@ impl<A: Allocator> Request<A> {
         ensures within { IsRequest self.now }
     {
         self.arguments.as_slice()
+    }
+
+    /// Gives up the arguments, and keeps the room that their list had.
+    pub(crate) fn into_room(self) -> Vec<Bytes<A>, A>
+        ensures { result.items ≡ [] }
+    {
+        let mut room = self.arguments.into_vec();
+        room.clear();
+        room
     }
 }
 

@@ -12,6 +12,17 @@ use crate::request::Request;
 use itoa::Buffer;
 use std::alloc::{AllocError, Allocator};
 
+/// The end of a line.
+fn end_line<A: Allocator>(out: &mut Vec<u8, A>) -> Result<(), AllocError>
+    ensures ok { OnOk result (out.new.items ≡ out.old.items ++ 13 ∷ 10 ∷ []) }
+    ensures kept { take (length out.old.items) out.new.items ≡ out.old.items }
+    ensures longer { length out.old.items ≤ length out.new.items }
+{
+    out.push(b'\r')?;
+    out.push(b'\n')?;
+    Ok(())
+}
+
 /// A mark, a number, and the end of the line.
 fn put_number<A: Allocator>(out: &mut Vec<u8, A>, mark: u8, n: usize) -> Result<(), AllocError>
     ensures ok { OnOk result (out.new.items ≡ out.old.items ++ mark ∷ line n) }
@@ -21,7 +32,7 @@ fn put_number<A: Allocator>(out: &mut Vec<u8, A>, mark: u8, n: usize) -> Result<
     let mut buffer = Buffer::new();
     out.push(mark)?;
     out.extend_from_slice(buffer.format(n).as_bytes())?;
-    out.extend_from_slice(b"\r\n")
+    end_line(out)
 }
 
 /// A mark, a text, and the end of the line.
@@ -32,7 +43,7 @@ fn put_text<A: Allocator>(out: &mut Vec<u8, A>, mark: u8, text: &[u8]) -> Result
 {
     out.push(mark)?;
     out.extend_from_slice(text)?;
-    out.extend_from_slice(b"\r\n")
+    end_line(out)
 }
 
 /// A bulk string.
@@ -43,7 +54,7 @@ fn put_bulk<A: Allocator>(out: &mut Vec<u8, A>, bytes: &[u8]) -> Result<(), Allo
 {
     put_number(out, b'$', bytes.len())?;
     out.extend_from_slice(bytes)?;
-    out.extend_from_slice(b"\r\n")
+    end_line(out)
 }
 
 /// An array of bulk strings.

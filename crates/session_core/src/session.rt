@@ -77,7 +77,10 @@ impl<A: Allocator + Copy> Session<A> {
         ensures sent_on { IfErr result
             (λ end. SentOn end (D.told drain.new) (D.flushed drain.new)) }
     {
-        let reply = respond(rt, self.alloc, exec, request);
+        let (reply, answered) = respond(rt, self.alloc, exec, request);
+        if let Some(answered) = answered {
+            self.decoder.reuse(answered);
+        }
         send(drain, &mut self.text, &mut self.progress.out, &reply)?;
         self.progress.requests += 1;
         Ok(())

@@ -72,6 +72,13 @@ impl<A: Allocator> Command<A> {
         &self.request
     }
 
+    /// Gives the request back.
+    pub fn into_request(self) -> Request<A>
+        ensures { result ≡ self.words }
+    {
+        self.request
+    }
+
     /// What was kept of the request's arguments.
     pub(crate) fn form(&self) -> &Form<A>
         ensures whole { IsWhole self.now.words result.now }
