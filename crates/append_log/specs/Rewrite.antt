@@ -6,8 +6,8 @@ use Rattle.resp_wire.specs.Device.{Rose}
 use Rattle.resp_wire.specs.Stream.{rest}
 use Rattle.zset_core.specs.World.{World}
 use Rattle.append_log.specs.Reload.{AllReplayed}
-use Rattle.append_log.specs.declared.renewing.RewriteFault.{RewriteFault}
-use Rattle.append_log.specs.declared.renewing.RewriteFault.TheVariants.{NoMemory, Sink}
+use Rattle.append_log.specs.declared.rewriting.RewriteFault.{RewriteFault}
+use Rattle.append_log.specs.declared.rewriting.RewriteFault.TheVariants.{NoMemory, Sink}
 
 -- a prefix of these bytes was written, perhaps none or all of them
 pub record TakesPrefix (old new : Option (List ℕ)) (bytes : List ℕ) : Type 0 where

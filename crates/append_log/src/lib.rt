@@ -7,30 +7,30 @@
 //! that was answered.
 #![tactic(auto)]
 
-mod drafting;
 mod file;
 pub mod laws;
 mod ledger_share;
 mod loading;
 mod log;
 mod logged;
+mod new_file;
 mod opening;
 mod record;
-mod renewing;
-mod share;
+mod record_share;
+mod rewriting;
 mod sink;
 mod syncing;
 mod version;
 
-pub use drafting::{RenewFault, write_anew};
 pub use file::{FileFault, FileHandle, FileSink, LockFile};
 pub use loading::{Loaded, ReloadFault, reload};
 pub use log::Log;
 pub use logged::LoggedOwner;
+pub use new_file::{NewFileFault, write_anew};
 pub use opening::{OpenFault, open_to_append, open_to_read};
 pub use record::Record;
-pub use renewing::{RewriteFault, rewrite};
-pub use share::RecordShare;
+pub use record_share::RecordShare;
+pub use rewriting::{RewriteFault, rewrite};
 pub use sink::{FuseSink, LogSink, MemorySink, NoSink, SinkFault};
 pub use syncing::{FuseHandle, SyncHandle, Syncer};
 pub use version::Version;

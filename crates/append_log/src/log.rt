@@ -7,7 +7,7 @@ ghost use Rattle.resp_wire.specs.RequestEncoding.{request};
 ghost use Rattle.append_log.specs.Log.{Appends, HasRecords, IsLog, NotAppended, NotSettled, Readable, Settles, settled_with, share_after, records_after};
 
 use crate::record::Record;
-use crate::share::RecordShare;
+use crate::record_share::RecordShare;
 use crate::sink::LogSink;
 use resp_wire::laws;
 use std::alloc::Allocator;

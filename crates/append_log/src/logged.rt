@@ -14,7 +14,7 @@ ghost use Rattle.append_log.specs.LoggedOwner.{LoggedView, AreSame, Replays, Not
 
 use crate::log::Log;
 use crate::record::Record;
-use crate::share::RecordShare;
+use crate::record_share::RecordShare;
 use crate::sink::LogSink;
 use resp_wire::Reply;
 use std::alloc::Allocator;

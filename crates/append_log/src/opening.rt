@@ -6,9 +6,9 @@ ghost use Rattle.append_log.specs.FileOpening.{Restores, OpenFails, LeavesSets, 
 ghost use Rattle.append_log.specs.declared.opening.OpenFault.TheVariants as opens;
 ghost use Rattle.append_log.specs.declared.file.FileFault.TheVariants as files;
 
-use crate::drafting::{RenewFault, replace_old};
 use crate::file::{FileFault, FileSink, LockFile, is_named_by, sync_uninterrupted};
 use crate::loading::{Loaded, ReloadFault, reload};
+use crate::new_file::{NewFileFault, replace_old};
 use crate::sink::LogSink;
 use resp_wire::{MAX_READS, READ_BUFFER, Reading};
 use std::alloc::Allocator;
@@ -30,7 +30,7 @@ pub enum OpenFault {
     Reload(ReloadFault),
     /// It is of version 1, and can't be renewed.
     #[error("{0}")]
-    Renew(RenewFault),
+    Renew(NewFileFault),
 }
 
 impl From<FileFault> for OpenFault {
@@ -49,10 +49,10 @@ impl From<ReloadFault> for OpenFault {
     }
 }
 
-impl From<RenewFault> for OpenFault {
+impl From<NewFileFault> for OpenFault {
     ghost from_gives = { λ cause fault. fault ≡ opens.Renew cause };
 
-    fn from(cause: RenewFault) -> OpenFault {
+    fn from(cause: NewFileFault) -> OpenFault {
         OpenFault::Renew(cause)
     }
 }

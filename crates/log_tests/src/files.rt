@@ -9,7 +9,8 @@ use crate::steps::{
     taken_beside_a_reader, taken_beside_an_appender,
 };
 use append_log::{
-    FileFault, FileSink, Loaded, Log, LoggedOwner, OpenFault, ReloadFault, RenewFault, RewriteFault,
+    FileFault, FileSink, Loaded, Log, LoggedOwner, NewFileFault, OpenFault, ReloadFault,
+    RewriteFault,
 };
 use std::alloc::Global;
 use std::fs::{self, File, OpenOptions};
@@ -46,13 +47,13 @@ const MISSING: Opened = Err(OpenFault::File(FileFault::Open));
 const NOT_REGULAR: Opened = Err(OpenFault::File(FileFault::NotRegular));
 
 /// How a file is not written anew.
-const NOT_WRITTEN: Result<u64, RenewFault> = Err(RenewFault::Rewrite(RewriteFault::Sink));
+const NOT_WRITTEN: Result<u64, NewFileFault> = Err(NewFileFault::Rewrite(RewriteFault::Sink));
 
-const NOT_NAMED: Result<u64, RenewFault> = Err(RenewFault::File(FileFault::Name));
+const NOT_NAMED: Result<u64, NewFileFault> = Err(NewFileFault::File(FileFault::Name));
 
-const NEW_FOLDER_NOT_SYNCED: Result<u64, RenewFault> = Err(RenewFault::File(FileFault::Folder));
+const NEW_FOLDER_NOT_SYNCED: Result<u64, NewFileFault> = Err(NewFileFault::File(FileFault::Folder));
 
-const DRAFT_IN_USE: Result<u64, RenewFault> = Err(RenewFault::File(FileFault::Locked));
+const DRAFT_IN_USE: Result<u64, NewFileFault> = Err(NewFileFault::File(FileFault::Locked));
 
 const TALES: [Tale; 13] = [
     (
@@ -91,7 +92,7 @@ const TALES: [Tale; 13] = [
             Step::Append("signal.append", Fails::Interrupted, WITH_TORN_END),
             Step::Has("signal.append", EFFECT),
             Step::Remove("signal.append"),
-            Step::Renew("signal.append", Fails::Interrupted, Ok(1)),
+            Step::Rewrite("signal.append", Fails::Interrupted, Ok(1)),
             Step::Has("signal.append", EFFECT),
             Step::Remove("signal.append"),
         ],
@@ -111,19 +112,19 @@ const TALES: [Tale; 13] = [
     (
         "a failed rewrite leaves nothing",
         &[
-            Step::Renew("new.append", Fails::Write, NOT_WRITTEN),
+            Step::Rewrite("new.append", Fails::Write, NOT_WRITTEN),
             Step::IsMissing("new.append"),
             Step::IsMissing("new.append.new"),
-            Step::Renew("new.append", Fails::SyncData, NOT_WRITTEN),
+            Step::Rewrite("new.append", Fails::SyncData, NOT_WRITTEN),
             Step::IsMissing("new.append"),
             Step::IsMissing("new.append.new"),
-            Step::Renew("new.append", Fails::HardLink, NOT_NAMED),
+            Step::Rewrite("new.append", Fails::HardLink, NOT_NAMED),
             Step::IsMissing("new.append"),
             Step::IsMissing("new.append.new"),
-            Step::Renew("new.append", Fails::SyncAll, NEW_FOLDER_NOT_SYNCED),
+            Step::Rewrite("new.append", Fails::SyncAll, NEW_FOLDER_NOT_SYNCED),
             Step::IsMissing("new.append"),
             Step::IsMissing("new.append.new"),
-            Step::Renew("new.append", Fails::Nothing, Ok(1)),
+            Step::Rewrite("new.append", Fails::Nothing, Ok(1)),
             Step::Has("new.append", EFFECT),
             Step::Remove("new.append"),
         ],
@@ -131,7 +132,7 @@ const TALES: [Tale; 13] = [
     (
         "a new file is locked as it gets its name",
         &[
-            Step::Renew("named.append", Fails::NamesLocked, Ok(1)),
+            Step::Rewrite("named.append", Fails::NamesLocked, Ok(1)),
             Step::Remove("named.append"),
         ],
     ),
@@ -141,7 +142,7 @@ const TALES: [Tale; 13] = [
         &[
             Step::Write("both.append", TORN),
             Step::HardLink("both.append", "both.append.new"),
-            Step::Renew("both.append", Fails::Nothing, NOT_NAMED),
+            Step::Rewrite("both.append", Fails::Nothing, NOT_NAMED),
             Step::Has("both.append", TORN),
             Step::IsMissing("both.append.new"),
             Step::Remove("both.append"),
@@ -153,12 +154,12 @@ const TALES: [Tale; 13] = [
         "a draft that lost its name is another's",
         &[
             Step::Write("old.append.new", TORN),
-            Step::Renew("old.append", Fails::DraftIsReplaced, DRAFT_IN_USE),
+            Step::Rewrite("old.append", Fails::DraftIsReplaced, DRAFT_IN_USE),
             Step::Has("old.append.new", OF_ANOTHER),
             Step::Has("old.append", TORN),
             Step::Remove("old.append"),
             Step::Remove("old.append.new"),
-            Step::Renew("made.append", Fails::DraftIsReplaced, DRAFT_IN_USE),
+            Step::Rewrite("made.append", Fails::DraftIsReplaced, DRAFT_IN_USE),
             Step::Has("made.append.new", OF_ANOTHER),
             Step::Remove("made.append"),
             Step::Remove("made.append.new"),
@@ -245,7 +246,7 @@ fn readers_share_a_file(rt: HostRuntime) -> Result<(), Fail> {
 
 /// Beside a draft that another one writes, the file is not written anew.
 const BESIDE_A_DRAFT: [Step; 4] = [
-    Step::Renew("used.append", Fails::Nothing, DRAFT_IN_USE),
+    Step::Rewrite("used.append", Fails::Nothing, DRAFT_IN_USE),
     Step::IsMissing("used.append"),
     Step::Has("used.append.new", HEADER),
     Step::Remove("used.append.new"),

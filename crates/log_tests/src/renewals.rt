@@ -4,7 +4,7 @@ use crate::failing::{Fails, OF_ANOTHER};
 use crate::steps::{
     EFFECT, HEADER, Opened, RECORD, Step, TORN, Tale, taken, taken_beside_an_appender,
 };
-use append_log::{FileFault, Loaded, OpenFault, RenewFault, RewriteFault};
+use append_log::{FileFault, Loaded, NewFileFault, OpenFault, RewriteFault};
 use std::fs;
 use std::test::Fail;
 
@@ -89,16 +89,16 @@ const TWO_EFFECTS: Opened = Ok(Loaded {
 const IN_USE: Opened = Err(OpenFault::File(FileFault::Locked));
 
 /// Why a file is not renewed, whose bytes and name stay.
-const NOT_WRITTEN: Opened = Err(OpenFault::Renew(RenewFault::Rewrite(RewriteFault::Sink)));
+const NOT_WRITTEN: Opened = Err(OpenFault::Renew(NewFileFault::Rewrite(RewriteFault::Sink)));
 
-const NOT_NAMED: Opened = Err(OpenFault::Renew(RenewFault::File(FileFault::Name)));
+const NOT_NAMED: Opened = Err(OpenFault::Renew(NewFileFault::File(FileFault::Name)));
 
-const NOT_OPENED: Opened = Err(OpenFault::Renew(RenewFault::File(FileFault::Open)));
+const NOT_OPENED: Opened = Err(OpenFault::Renew(NewFileFault::File(FileFault::Open)));
 
-const DRAFT_IN_USE: Opened = Err(OpenFault::Renew(RenewFault::File(FileFault::Locked)));
+const DRAFT_IN_USE: Opened = Err(OpenFault::Renew(NewFileFault::File(FileFault::Locked)));
 
 /// The file is renewed, and its folder not synced.
-const FOLDER_NOT_SYNCED: Opened = Err(OpenFault::Renew(RenewFault::File(FileFault::Folder)));
+const FOLDER_NOT_SYNCED: Opened = Err(OpenFault::Renew(NewFileFault::File(FileFault::Folder)));
 
 const TALES: [Tale; 11] = [
     (

@@ -4,7 +4,9 @@ ghost use Rattle.std.specs.Prelude.{◌≡◌, None, IfOk};
 
 use crate::failing::{Failing, Fails};
 use crate::records::Owner;
-use append_log::{Loaded, OpenFault, RenewFault, open_to_append, open_to_read, reload, write_anew};
+use append_log::{
+    Loaded, NewFileFault, OpenFault, open_to_append, open_to_read, reload, write_anew,
+};
 use resp_wire::MemorySource;
 use std::fs::{self, Permissions};
 use std::hash::RandomState;
@@ -51,7 +53,7 @@ pub enum Step {
     /// It is opened for reading, where such calls fail.
     Read(&'static str, Fails, Opened),
     /// It is written anew for the sets of [`RECORD`], where such calls fail: how many records it has.
-    Renew(&'static str, Fails, Result<u64, RenewFault>),
+    Rewrite(&'static str, Fails, Result<u64, NewFileFault>),
     Has(&'static str, &'static [u8]),
     HasMode(&'static str, u32),
     /// Whether it is a link.
@@ -95,11 +97,11 @@ pub fn owner_of_record(rt: &HostRuntime) -> Result<Owner, Fail>
 }
 
 /// Whether this becomes of a new file for the sets of the record.
-fn renews(
+fn rewrites(
     rt: &HostRuntime,
     path: &str,
     fails: Fails,
-    wanted: Result<u64, RenewFault>,
+    wanted: Result<u64, NewFileFault>,
 ) -> Result<bool, Fail> {
     let owner = owner_of_record(rt)?;
     Ok(write_anew(&failing(rt, fails), rt.alloc(), path, &owner) == wanted)
@@ -131,7 +133,7 @@ fn goes(rt: &HostRuntime, step: Step) -> Result<bool, Fail> {
         }
         Step::Append(path, fails, wanted) => appends(rt, path, fails, wanted),
         Step::Read(path, fails, wanted) => reads(rt, path, fails, wanted),
-        Step::Renew(path, fails, wanted) => renews(rt, path, fails, wanted),
+        Step::Rewrite(path, fails, wanted) => rewrites(rt, path, fails, wanted),
         Step::Has(path, bytes) => has_bytes(rt, path, bytes),
         Step::HasMode(path, mode) => Ok(mode_of(rt, path)? == mode),
         Step::IsLink(path, wanted) => Ok(is_link(rt, path)? == wanted),

@@ -13,9 +13,9 @@ use Rattle.append_log.specs.declared.loading.ReloadFault.{ReloadFault}
 use Rattle.append_log.specs.declared.loading.ReloadFault.TheVariants as faults
 use Rattle.append_log.specs.declared.opening.OpenFault.{OpenFault}
 use Rattle.append_log.specs.declared.opening.OpenFault.TheVariants as opens
-use Rattle.append_log.specs.declared.renewing.RewriteFault.TheVariants as rewrites
-use Rattle.append_log.specs.declared.drafting.RenewFault.{RenewFault}
-use Rattle.append_log.specs.declared.drafting.RenewFault.TheVariants as renews
+use Rattle.append_log.specs.declared.rewriting.RewriteFault.TheVariants as rewrites
+use Rattle.append_log.specs.declared.new_file.NewFileFault.{NewFileFault}
+use Rattle.append_log.specs.declared.new_file.NewFileFault.TheVariants as new_file_faults
 use Rattle.resp_wire.specs.Response.{Response}
 use Rattle.session_core.specs.OwnerAnswers.{LoggedAnswers}
 use Rattle.session_core.specs.Exchange.{Exchanges}
@@ -37,10 +37,10 @@ reload_line faults.TooManyReads = lines.FileReadTooOften
 reload_line faults.UnknownVersion = lines.UnknownVersion
 
 -- the line that tells why a file of version 1 was not renewed
-abbrev pub renewal_line : RenewFault → Line
-renewal_line (renews.File fault) = lines.CannotUseFile (unusable.Renewed fault)
-renewal_line (renews.Rewrite rewrites.NoMemory) = lines.OutOfMemory
-renewal_line (renews.Rewrite rewrites.Sink) = lines.CannotUseFile (unusable.Renewed files.Write)
+abbrev pub renewal_line : NewFileFault → Line
+renewal_line (new_file_faults.File fault) = lines.CannotUseFile (unusable.Renewed fault)
+renewal_line (new_file_faults.Rewrite rewrites.NoMemory) = lines.OutOfMemory
+renewal_line (new_file_faults.Rewrite rewrites.Sink) = lines.CannotUseFile (unusable.Renewed files.Write)
 
 -- the line that tells why a file was not opened
 abbrev pub open_line : OpenFault → Line
@@ -49,10 +49,10 @@ open_line (opens.Reload fault) = reload_line fault
 open_line (opens.Renew fault) = renewal_line fault
 
 -- the line that tells why a file was not written anew
-abbrev pub renew_line : RenewFault → Line
-renew_line (renews.File fault) = lines.CannotUseFile (unusable.New fault)
-renew_line (renews.Rewrite rewrites.NoMemory) = lines.OutOfMemory
-renew_line (renews.Rewrite rewrites.Sink) = lines.WriteFault
+abbrev pub new_file_line : NewFileFault → Line
+new_file_line (new_file_faults.File fault) = lines.CannotUseFile (unusable.New fault)
+new_file_line (new_file_faults.Rewrite rewrites.NoMemory) = lines.OutOfMemory
+new_file_line (new_file_faults.Rewrite rewrites.Sink) = lines.WriteFault
 
 -- the notice of a torn end, where there is one
 abbrev pub torn_notice : Loaded → Option Line
@@ -75,21 +75,21 @@ end_of (Ok count) = record { status = 0; lines = None ∷ None ∷ [] }
 end_of (Err line) = finish_by line
 
 -- a new file was made with so many records, and their number printed; or it was not made
-abbrev pub EndsBehind : Result ℕ RenewFault → World → DrainState → DrainState → Finish → Type 0
+abbrev pub EndsBehind : Result ℕ NewFileFault → World → DrainState → DrainState → Finish → Type 0
 EndsBehind (Ok count) world drain₀ drain₁ finish =
     (printed : Result ℕ Line) × (count ≡ min (length (dump world)) (2 ^ 64 - 1)) × Prints count printed drain₀ drain₁ × (finish ≡ end_of printed)
-EndsBehind (Err fault) world drain₀ drain₁ finish = (drain₁.told ≡ drain₀.told) × (finish ≡ finish_by (renew_line fault))
+EndsBehind (Err fault) world drain₀ drain₁ finish = (drain₁.told ≡ drain₀.told) × (finish ≡ finish_by (new_file_line fault))
 
 -- what became of a new file, where the old one replays to this world
-pub record Renews (world : World) (drain₀ drain₁ : DrainState) (finish : Finish) : Type 0 where
-  pub made : Result ℕ RenewFault
+pub record MakesNewFile (world : World) (drain₀ drain₁ : DrainState) (finish : Finish) : Type 0 where
+  pub made : Result ℕ NewFileFault
   pub ended : EndsBehind made world drain₀ drain₁ finish
 
 -- the old file was replayed, and a new one was made of its sets, behind a notice of a torn end; or the old file was
 -- not opened, and nothing was printed
 abbrev pub EndsAfter : Result Loaded OpenFault → World → DrainState → DrainState → Finish → Type 0
 EndsAfter (Ok loaded) world drain₀ drain₁ finish =
-    (end : Finish) × Renews world drain₀ drain₁ end × (finish ≡ noticed (torn_notice loaded) end)
+    (end : Finish) × MakesNewFile world drain₀ drain₁ end × (finish ≡ noticed (torn_notice loaded) end)
 EndsAfter (Err fault) world drain₀ drain₁ finish = (drain₁.told ≡ drain₀.told) × (finish ≡ finish_by (open_line fault))
 
 -- a rewrite

@@ -6,15 +6,15 @@ ghost use Rattle.resp_wire.specs.Device.{Rose};
 ghost use Rattle.append_log.specs.FileOpening.{Restores};
 ghost use Rattle.program_runs.specs.ExitStatus.{IsPrinted};
 ghost use Rattle.program_runs.specs.FileExitStatus as files;
-ghost use Rattle.program_runs.specs.FileExitStatus.{FailsBy, IsOpened, IsUnopened, Prints, Renews, Rewrites, ServesFile, ServesFrom, TellsTorn};
+ghost use Rattle.program_runs.specs.FileExitStatus.{FailsBy, IsOpened, IsUnopened, Prints, MakesNewFile, Rewrites, ServesFile, ServesFrom, TellsTorn};
 ghost use Rattle.program_runs.specs.declared.finish.Line.TheVariants as lines;
 
 use crate::finish::{Finish, Line, Unusable};
 use crate::printing::print;
 use crate::stdio::stdio_run;
 use append_log::{
-    FileFault, FileSink, Loaded, LockFile, Log, LogSink, LoggedOwner, OpenFault, ReloadFault,
-    RenewFault, RewriteFault, open_to_append, open_to_read, write_anew,
+    FileFault, FileSink, Loaded, LockFile, Log, LogSink, LoggedOwner, NewFileFault, OpenFault,
+    ReloadFault, RewriteFault, open_to_append, open_to_read, write_anew,
 };
 use resp_wire::{ByteDrain, ByteSource};
 use std::alloc::{AllocGlobal, Global};
@@ -42,13 +42,13 @@ fn reload_line(fault: ReloadFault) -> Line
 }
 
 /// The line that tells why a file of version 1 was not renewed.
-fn renewal_line(fault: RenewFault) -> Line
+fn renewal_line(fault: NewFileFault) -> Line
     ensures { result ≡ files.renewal_line fault }
 {
     let cause = match fault {
-        RenewFault::File(fault) => fault,
-        RenewFault::Rewrite(RewriteFault::Sink) => FileFault::Write,
-        RenewFault::Rewrite(RewriteFault::NoMemory) => return Line::OutOfMemory,
+        NewFileFault::File(fault) => fault,
+        NewFileFault::Rewrite(RewriteFault::Sink) => FileFault::Write,
+        NewFileFault::Rewrite(RewriteFault::NoMemory) => return Line::OutOfMemory,
     };
     Line::CannotUseFile(Unusable::Renewed(cause))
 }
@@ -65,13 +65,13 @@ fn open_line(fault: OpenFault) -> Line
 }
 
 /// The line that tells why a file was not written anew.
-fn renew_line(fault: RenewFault) -> Line
-    ensures { result ≡ files.renew_line fault }
+fn new_file_line(fault: NewFileFault) -> Line
+    ensures { result ≡ files.new_file_line fault }
 {
     match fault {
-        RenewFault::File(fault) => Line::CannotUseFile(Unusable::New(fault)),
-        RenewFault::Rewrite(RewriteFault::NoMemory) => Line::OutOfMemory,
-        RenewFault::Rewrite(RewriteFault::Sink) => Line::WriteFault,
+        NewFileFault::File(fault) => Line::CannotUseFile(Unusable::New(fault)),
+        NewFileFault::Rewrite(RewriteFault::NoMemory) => Line::OutOfMemory,
+        NewFileFault::Rewrite(RewriteFault::Sink) => Line::WriteFault,
     }
 }
 
@@ -253,7 +253,7 @@ fn renew<R: Files, D: ByteDrain>(
 where
     R::File: LockFile,
     requires { owner.now.next ≡ None }
-    ensures { Renews owner.now.world
+    ensures { MakesNewFile owner.now.world
         (record { told = D.told drain.old; flushed = D.flushed drain.old; failures = D.failures drain.old })
         (record { told = D.told drain.new; flushed = D.flushed drain.new; failures = D.failures drain.new })
         result }
@@ -263,7 +263,7 @@ where
             Ok(_) => Finish::quiet(0),
             Err(line) => Finish::by(line),
         },
-        Err(fault) => Finish::by(renew_line(fault)),
+        Err(fault) => Finish::by(new_file_line(fault)),
     }
 }
 

@@ -19,7 +19,7 @@ use Rattle.std.specs.declared.hash.Hasher as hasher
 use Rattle.std.specs.declared.sync.ledger.Ledger as ledger
 use Rattle.append_log.specs.declared.sink.LogSink as sink
 use Rattle.append_log.proofs.log.Log.TheSendSync as log
-use Rattle.append_log.proofs.share.RecordShare.TheSendSync as share
+use Rattle.append_log.proofs.record_share.RecordShare.TheSendSync as share
 use Rattle.zset_core.proofs.CallerLemmas.{set_send, set_sync}
 use Rattle.set_table.specs.contracts.cell.Cell as Cell
 use Rattle.set_table.specs.contracts.cell.Cell.TheInside as CellFields

@@ -6,7 +6,7 @@ use Rattle.append_log.specs.Dump.{set_records, records_at}
 use Rattle.append_log.proofs.RecordPieces.{on_err}
 use Rattle.append_log.proofs.DumpPrefix.{front_of_image, front_in_set, cut_behind, told_set, records_more, all_keys}
 use Rattle.append_log.proofs.KeyWalk.{left_from, left_is, next_key, there_is, headed, ended, shorter}
-use Rattle.append_log.proofs.renewing.put_sets.Goals as goal
+use Rattle.append_log.proofs.rewriting.put_sets.Goals as goal
 
 pub keys-init : goal.keys-init
 keys-init g c = record { done = []; rest = fin.keys c.args.owner.now.world; cut = refl; next_is = c.key_after-next.ensures; count_is = refl; told = search rules; good = refl }

@@ -8,7 +8,7 @@ ghost use Rattle.append_log.specs.Dump.{add_record, pieces, piece_records, set_r
 ghost use Rattle.append_log.specs.Replay.{header};
 ghost use Rattle.append_log.specs.Records.{text_of as text_of_records};
 ghost use Rattle.append_log.specs.Rewrite.{ReplaysTo, TakesPrefix, SinkFailed};
-ghost use Rattle.append_log.specs.declared.renewing.RewriteFault.TheVariants as faults;
+ghost use Rattle.append_log.specs.declared.rewriting.RewriteFault.TheVariants as faults;
 ghost use Rattle.score_bounds.specs.Scores.{score_text};
 
 use crate::log::write_out;

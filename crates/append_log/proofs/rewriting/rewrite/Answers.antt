@@ -5,7 +5,7 @@ use Rattle.append_log.specs.Dump.{dump}
 use Rattle.append_log.specs.Records.{text_of}
 use Rattle.append_log.specs.Replay.{header}
 use Rattle.append_log.proofs.RecordPieces.{front_first, front_behind, on_err}
-use Rattle.append_log.proofs.renewing.rewrite.Goals as goal
+use Rattle.append_log.proofs.rewriting.rewrite.Goals as goal
 
 err_map : {T E P Q : Type 0} (result : Result T E) → (P → Q) → OnErr result P → OnErr result Q
 err_map (Ok value) f p = tt

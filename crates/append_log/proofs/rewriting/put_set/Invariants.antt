@@ -3,7 +3,7 @@ use Rattle.std.specs.Io.KnownBytes.{append_known}
 use Rattle.zset_core.specs.SortedSet.{Pair}
 use Rattle.append_log.specs.Dump.{add_record, pieces}
 use Rattle.append_log.specs.Records.{text_of}
-use Rattle.append_log.proofs.renewing.put_set.Given as goal
+use Rattle.append_log.proofs.rewriting.put_set.Given as goal
 
 abbrev pub invariant-pieces : goal.invariant-pieces
 invariant-pieces g l = record {

@@ -5,7 +5,7 @@ use Rattle.std.specs.Io.KnownBytes.{append_known}
 use Rattle.append_log.specs.Dump.{records_at}
 use Rattle.append_log.specs.Records.{text_of}
 use Rattle.append_log.proofs.KeyWalk.{left_from}
-use Rattle.append_log.proofs.renewing.put_sets.Given as goal
+use Rattle.append_log.proofs.rewriting.put_sets.Given as goal
 
 abbrev pub invariant-keys : goal.invariant-keys
 invariant-keys g l = record {

@@ -7,7 +7,7 @@ use Rattle.append_log.specs.Replay.{replay}
 use Rattle.append_log.proofs.DumpReplay.{image_leads}
 use Rattle.append_log.proofs.DumpRequests.{header_is, image_requests}
 use Rattle.append_log.proofs.RecordTexts.{reads_text, nothing_short}
-use Rattle.append_log.proofs.renewing.replays_back.Goals as goal
+use Rattle.append_log.proofs.rewriting.replays_back.Goals as goal
 
 pub returns : goal.returns
 returns g c =

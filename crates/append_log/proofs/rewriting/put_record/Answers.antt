@@ -1,6 +1,6 @@
 use Rattle.std.proofs.Common.{◌∙◌}
 use Rattle.append_log.proofs.RecordPieces.{front_none, front_taken, on_err}
-use Rattle.append_log.proofs.renewing.put_record.Goals as goal
+use Rattle.append_log.proofs.rewriting.put_record.Goals as goal
 
 pub returns-in_err-text-clause-err : goal.returns-in_err-text-clause-err
 returns-in_err-text-clause-err g c = on_err c.from_residual.result (front_none _ _)

@@ -2,7 +2,7 @@ use Rattle.append_log.proofs.DumpRequests.{header_text}
 use Rattle.resp_wire.specs.RequestEncoding.{request}
 use Rattle.append_log.specs.Replay.{header}
 use Rattle.append_log.proofs.RecordPieces.{front_taken, taken_whole}
-use Rattle.append_log.proofs.renewing.put_header.Goals as goal
+use Rattle.append_log.proofs.rewriting.put_header.Goals as goal
 
 pub returns-then-write_out-clause-ok : goal.returns-then-write_out-clause-ok
 returns-then-write_out-clause-ok g c =

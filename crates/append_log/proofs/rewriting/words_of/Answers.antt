@@ -1,7 +1,7 @@
 use Rattle.std.proofs.Common.{rules, [], ◌∷◌}
 use Rattle.std.specs.Prelude.{codes}
 use Rattle.append_log.proofs.RecordPieces.{words_more}
-use Rattle.append_log.proofs.renewing.words_of.Goals as goal
+use Rattle.append_log.proofs.rewriting.words_of.Goals as goal
 
 pub loop-row-preserved : goal.loop-row-preserved
 loop-row-preserved g c =

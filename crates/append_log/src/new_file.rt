@@ -2,11 +2,11 @@
 
 ghost use Rattle.std.specs.Prelude.{◌≡◌, ◌^◌, ◌-◌, None, length, min, IfOk};
 ghost use Rattle.append_log.specs.Dump.{dump};
-ghost use Rattle.append_log.specs.declared.drafting.RenewFault.TheVariants as renews;
+ghost use Rattle.append_log.specs.declared.new_file.NewFileFault.TheVariants as new_file_faults;
 
 use crate::file::{FileFault, FileSink, LockFile, is_named_by};
 use crate::opening::sync_folder;
-use crate::renewing::{RewriteFault, rewrite};
+use crate::rewriting::{RewriteFault, rewrite};
 use std::alloc::Allocator;
 use std::fs::{self, Files, OpenFile, OpenOptions};
 use std::hash::BuildHasher;
@@ -15,7 +15,7 @@ use zset_core::OneOwner;
 
 /// Why there is no new append file, or none in an old one's place.
 #[derive(Clone, Copy, Debug, PartialEq, Eq, Error)]
-pub enum RenewFault {
+pub enum NewFileFault {
     /// The new file or its draft can't be used.
     #[error("{0}")]
     File(FileFault),
@@ -24,11 +24,11 @@ pub enum RenewFault {
     Rewrite(RewriteFault),
 }
 
-impl From<FileFault> for RenewFault {
-    ghost from_gives = { λ cause fault. fault ≡ renews.File cause };
+impl From<FileFault> for NewFileFault {
+    ghost from_gives = { λ cause fault. fault ≡ new_file_faults.File cause };
 
-    fn from(cause: FileFault) -> RenewFault {
-        RenewFault::File(cause)
+    fn from(cause: FileFault) -> NewFileFault {
+        NewFileFault::File(cause)
     }
 }
 
@@ -101,16 +101,16 @@ fn take_permissions<R: Files>(
     Err(FileFault::Open)
 }
 
-/// The names of a new append file: that of its draft, and its own.
+/// The paths of a new append file: that of its draft, and its own.
 #[derive(Clone, Copy)]
-struct Names<'a> {
+struct DraftPaths<'a> {
     draft: &'a str,
     path: &'a str,
 }
 
 /// Gives a whole draft its name, which must be free, and takes its old name away, in either case. A
 /// new file that a crash could take away is taken away.
-fn name_draft<R: Files>(rt: &R, names: Names<'_>) -> Result<(), FileFault> {
+fn name_draft<R: Files>(rt: &R, names: DraftPaths<'_>) -> Result<(), FileFault> {
     let named = fs::hard_link(rt, names.draft, names.path);
     let gone = fs::remove_file(rt, names.draft);
     if named.is_err() {
@@ -125,7 +125,7 @@ fn name_draft<R: Files>(rt: &R, names: Names<'_>) -> Result<(), FileFault> {
 
 /// Gives a whole draft the name of an old file. Where it can't take the name the old file keeps it,
 /// and the draft is taken away; where only the folder can't be synced, the new file has the name.
-fn replace_by_draft<R: Files>(rt: &R, names: Names<'_>) -> Result<(), FileFault> {
+fn replace_by_draft<R: Files>(rt: &R, names: DraftPaths<'_>) -> Result<(), FileFault> {
     if fs::rename(rt, names.draft, names.path).is_err() {
         let _gone = fs::remove_file(rt, names.draft);
         return Err(FileFault::Name);
@@ -141,7 +141,7 @@ fn fill_draft<R: Files, H: BuildHasher + Clone + Drop, A: Allocator + Copy>(
     draft: &str,
     owner: &OneOwner<H, A>,
     sink: &mut FileSink<R::File>,
-) -> Result<u64, RenewFault>
+) -> Result<u64, NewFileFault>
     requires { owner.now.next ≡ None }
     ensures { IfOk result (λ n. n ≡ min (length (dump owner.now.world)) (2 ^ 64 - 1)) }
 {
@@ -149,16 +149,16 @@ fn fill_draft<R: Files, H: BuildHasher + Clone + Drop, A: Allocator + Copy>(
         Ok(records) => Ok(records),
         Err(fault) => {
             let _gone = fs::remove_file(rt, draft);
-            Err(RenewFault::Rewrite(fault))
+            Err(NewFileFault::Rewrite(fault))
         }
     }
 }
 
 /// The name of a file's draft.
-fn draft_of<A: Allocator>(alloc: A, path: &str) -> Result<String<A>, RenewFault> {
+fn draft_of<A: Allocator>(alloc: A, path: &str) -> Result<String<A>, NewFileFault> {
     match format!(in alloc; "{path}.new") {
         Ok(draft) => Ok(draft),
-        Err(_) => Err(RenewFault::Rewrite(RewriteFault::NoMemory)),
+        Err(_) => Err(NewFileFault::Rewrite(RewriteFault::NoMemory)),
     }
 }
 
@@ -178,14 +178,14 @@ pub fn write_anew<R: Files, H: BuildHasher + Clone + Drop, A: Allocator + Copy>(
     alloc: A,
     path: &str,
     owner: &OneOwner<H, A>,
-) -> Result<u64, RenewFault>
+) -> Result<u64, NewFileFault>
 where
     R::File: LockFile,
     requires { owner.now.next ≡ None }
     ensures { IfOk result (λ n. n ≡ min (length (dump owner.now.world)) (2 ^ 64 - 1)) }
 {
     let draft = draft_of(alloc, path)?;
-    let names = Names {
+    let names = DraftPaths {
         draft: draft.as_str(),
         path,
     };
@@ -214,13 +214,13 @@ pub(crate) fn replace_old<R: Files, H: BuildHasher + Clone + Drop, A: Allocator 
     path: &str,
     old: &R::File,
     owner: &OneOwner<H, A>,
-) -> Result<R::File, RenewFault>
+) -> Result<R::File, NewFileFault>
 where
     R::File: LockFile,
     requires { owner.now.next ≡ None }
 {
     let draft = draft_of(alloc, path)?;
-    let names = Names {
+    let names = DraftPaths {
         draft: draft.as_str(),
         path,
     };

@@ -1,7 +1,7 @@
 use Rattle.std.proofs.Common.{refl, ◌≡◌, ◌<◌, ◌∷◌, [], ◌++◌, rules, arith, ◌∙◌, ap, length, take, drop, min, length-drop}
 use Rattle.std.proofs.lemmas.List.{length_push}
 use Rattle.append_log.proofs.RecordPieces.{cut_more, told_more, front_of_set, take_at_most, drop_at_most, on_err}
-use Rattle.append_log.proofs.renewing.put_set.Goals as goal
+use Rattle.append_log.proofs.rewriting.put_set.Goals as goal
 
 pub returns-in_err-put_record-clause-err : goal.returns-in_err-put_record-clause-err
 returns-in_err-put_record-clause-err g c =
