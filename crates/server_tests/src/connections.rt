@@ -10,7 +10,7 @@ use resp_wire::{
     FuseDrain, FuseSource, MAX_READ_BUFFER, MAX_READS, MemoryDrain, MemorySource, READ_BUFFER,
 };
 use session_core::{Ended, SessionFault, Worker, serve};
-use set_table::{Gate, Pass, Table, Totals};
+use set_table::{Pass, Table, TestGate, Totals};
 use std::alloc::{AllocError, Global};
 use std::hash::RandomState;
 use std::sync::Wait;
@@ -105,7 +105,7 @@ pub struct Served {
 }
 
 /// Serves a connection to its end.
-pub fn serve_connection<S: LogSink, L: Ledger, G: Gate + Drop, R: Wait>(
+pub fn serve_connection<S: LogSink, L: Ledger, G: TestGate + Drop, R: Wait>(
     rt: &R,
     alloc: Global,
     worker: &mut Worker<'_, RandomState, S, L, Global, G>,
@@ -142,7 +142,7 @@ pub fn serve_connection<S: LogSink, L: Ledger, G: Gate + Drop, R: Wait>(
 }
 
 /// What a connection whose devices are whole is told, or None where its session ended in a fault.
-pub fn replies_to<S: LogSink, L: Ledger, G: Gate + Drop, R: Wait>(
+pub fn replies_to<S: LogSink, L: Ledger, G: TestGate + Drop, R: Wait>(
     rt: &R,
     alloc: Global,
     worker: &mut Worker<'_, RandomState, S, L, Global, G>,

@@ -7,7 +7,7 @@ use crate::connections::{Sets, closed, opened, replies_to};
 use crate::requests::{Owner, bytes_of, new_owner, text_of};
 use append_log::{LogSink, MemorySink};
 use session_core::Worker;
-use set_table::{Gate, NoGate, Pass, Totals};
+use set_table::{NoGate, Pass, TestGate, Totals};
 use std::alloc::Global;
 use std::marker::Brand;
 use std::sync::Wait;
@@ -42,7 +42,7 @@ struct Hold<'f> {
     flags: &'f Flags,
 }
 
-impl<'f> Gate for Hold<'f> {
+impl<'f> TestGate for Hold<'f> {
     fn inside(&self, _place: usize) {
         self.flags.entered.store(true, Ordering::SeqCst);
         if !wait_for(&self.flags.may_go_on) {

@@ -2,7 +2,7 @@ mod StepLemmas
 mod TallyLemmas
 mod NameLemmas
 mod PlaceLemmas
-mod MemoryLemmas
+mod KeyCacheLemmas
 mod OpeningLemmas
 pub mod ThreadCrossing
 mod PassOrder

@@ -4,7 +4,7 @@ use Rattle.std.proofs.Math.ListN.{get_or}
 use Rattle.std.specs.declared.option.Option.{Option}
 use Rattle.std.specs.declared.option.Option.TheVariants.{None, Some}
 use Rattle.set_table.specs.Naming.{Naming, IsPlace, hash_from, name_at}
-use Rattle.set_table.specs.declared.naming.memory.MetKey.{MetKey}
+use Rattle.set_table.specs.declared.naming.key_cache.MetKey.{MetKey}
 
 -- a slot says this place
 pub record Says (slots : List (Option MetKey)) (place : ℕ) : Type 0 where

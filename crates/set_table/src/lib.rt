@@ -11,20 +11,20 @@
 mod answer;
 mod cell;
 mod counts;
-mod gate;
 mod limits;
 mod naming;
 mod open;
 mod pass;
 mod shares;
 mod table;
+mod test_gate;
 
 pub use answer::Answer;
 pub use cell::Cell;
 pub use counts::{Counts, OwnCounts};
-pub use gate::{Gate, NoGate};
 pub use limits::{MAX_PASSES, MAX_PLACES, MAX_RUNS};
 pub use open::OpenFault;
 pub use pass::Pass;
 pub use shares::Shares;
 pub use table::{Answered, CloseFault, Table, Totals};
+pub use test_gate::{NoGate, TestGate};

@@ -10,9 +10,9 @@ mod close;
 
 use crate::answer::Answer;
 use crate::cell::Cell;
-use crate::gate::Gate;
 use crate::naming::names::{ClaimFault, Names};
 use crate::pass::Pass;
+use crate::test_gate::TestGate;
 use append_log::{Log, LogSink, SyncHandle, Syncer};
 pub use close::{CloseFault, Totals};
 use resp_wire::Reply;
@@ -121,7 +121,7 @@ impl<H: BuildHasher, S: LogSink, L: Ledger, A: Allocator + Copy> Table<H, S, L, 
     /// and those of the log to commands that change sets; [`Refusal::NoMemory`]. What the cell tells is behind
     /// its lock, so the clauses say of these only which may come to which command: [`crate::Cell::run`] says
     /// exactly when.
-    pub fn run<'c, R: Wait, G: Gate>(
+    pub fn run<'c, R: Wait, G: TestGate>(
         &self,
         rt: &R,
         pass: &mut Pass<A>,
@@ -186,7 +186,7 @@ impl<H: BuildHasher, S: LogSink, L: Ledger, A: Allocator + Copy> Table<H, S, L, 
 
     /// Answers at a place: under the shared lock where the set can as it stands and reads few rows for
     /// it, else under the exclusive one.
-    fn answer_at<'c, R: Wait, G: Gate>(
+    fn answer_at<'c, R: Wait, G: TestGate>(
         &self,
         rt: &R,
         pass: &mut Pass<A>,
@@ -224,7 +224,7 @@ impl<H: BuildHasher, S: LogSink, L: Ledger, A: Allocator + Copy> Table<H, S, L, 
 
     /// Runs a command that changes sets. An addition keeps memory back, which a removal that finds none lets go and is
     /// tried again.
-    fn change_at<'c, R: Wait, G: Gate>(
+    fn change_at<'c, R: Wait, G: TestGate>(
         &self,
         rt: &R,
         pass: &mut Pass<A>,
@@ -256,7 +256,7 @@ impl<H: BuildHasher, S: LogSink, L: Ledger, A: Allocator + Copy> Table<H, S, L, 
     }
 
     /// Asks a place's cell under its shared lock, unless it had better be run.
-    fn read_few_at<'c, R: Wait, G: Gate>(
+    fn read_few_at<'c, R: Wait, G: TestGate>(
         &self,
         rt: &R,
         pass: &Pass<A>,
@@ -281,7 +281,7 @@ impl<H: BuildHasher, S: LogSink, L: Ledger, A: Allocator + Copy> Table<H, S, L, 
     }
 
     /// Asks a place's cell under its shared lock.
-    fn read_at<'c, R: Wait, G: Gate>(
+    fn read_at<'c, R: Wait, G: TestGate>(
         &self,
         rt: &R,
         pass: &Pass<A>,
@@ -306,7 +306,7 @@ impl<H: BuildHasher, S: LogSink, L: Ledger, A: Allocator + Copy> Table<H, S, L, 
     }
 
     /// Runs a command at a place's cell under its exclusive lock.
-    fn run_at<'c, R: Wait, G: Gate>(
+    fn run_at<'c, R: Wait, G: TestGate>(
         &self,
         rt: &R,
         pass: &mut Pass<A>,

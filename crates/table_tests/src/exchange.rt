@@ -5,7 +5,7 @@ ghost use Rattle.set_table.specs.WorkerPasses.{IsPassOf};
 
 use append_log::LogSink;
 use resp_wire::{Bytes, BytesList, Reply, Request, write_reply};
-use set_table::{Answer, Answered, Gate, Pass, Table};
+use set_table::{Answer, Answered, Pass, Table, TestGate};
 use std::alloc::Global;
 use std::hash::RandomState;
 use std::sync::Wait;
@@ -67,7 +67,7 @@ fn answer_text(
 }
 
 /// What a table answers to a command's text.
-fn answer<S: LogSink, L: Ledger, R: Wait, G: Gate>(
+fn answer<S: LogSink, L: Ledger, R: Wait, G: TestGate>(
     rt: &R,
     alloc: Global,
     table: &SetsOver<S, L>,
@@ -109,7 +109,7 @@ fn counts_text(
 }
 
 /// What a table answers to a command's text, with the counts that the answer tells.
-fn counted<S: LogSink, L: Ledger, R: Wait, G: Gate>(
+fn counted<S: LogSink, L: Ledger, R: Wait, G: TestGate>(
     rt: &R,
     alloc: Global,
     table: &SetsOver<S, L>,
@@ -125,7 +125,7 @@ fn counted<S: LogSink, L: Ledger, R: Wait, G: Gate>(
 }
 
 /// What a table answers to a command's text, and the last record that the answer may tell of.
-fn recorded<S: LogSink, L: Ledger, R: Wait, G: Gate>(
+fn recorded<S: LogSink, L: Ledger, R: Wait, G: TestGate>(
     rt: &R,
     alloc: Global,
     table: &SetsOver<S, L>,
@@ -158,7 +158,7 @@ fn place_text(alloc: Global, found: Option<usize>) -> Result<String, Fail> {
 
 /// What a table tells a worker, who asks for a key's place by `claim KEY` or `find KEY`, for what an answer tells beside
 /// its reply by `counts COMMAND` or `record COMMAND`, and for the reply alone by a command.
-fn told<S: LogSink, L: Ledger, R: Wait, G: Gate>(
+fn told<S: LogSink, L: Ledger, R: Wait, G: TestGate>(
     rt: &R,
     alloc: Global,
     table: &SetsOver<S, L>,
@@ -179,7 +179,7 @@ fn told<S: LogSink, L: Ledger, R: Wait, G: Gate>(
 }
 
 /// What a worker is told, a space behind each answer.
-pub fn answers<S: LogSink, L: Ledger, R: Wait, G: Gate>(
+pub fn answers<S: LogSink, L: Ledger, R: Wait, G: TestGate>(
     rt: &R,
     alloc: Global,
     table: &SetsOver<S, L>,

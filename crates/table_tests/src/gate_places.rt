@@ -1,7 +1,7 @@
 //! Where a table calls the gate.
 
 use crate::tables::{SILENCE, Talk, gated_day};
-use set_table::Gate;
+use set_table::TestGate;
 use std::sync::atomic::{AtomicU64, Ordering};
 use std::test::*;
 
@@ -11,7 +11,7 @@ struct Recorder {
     places: AtomicU64,
 }
 
-impl Gate for Recorder {
+impl TestGate for Recorder {
     fn inside(&self, place: usize) {
         let earlier = self.places.load(Ordering::SeqCst);
         let places = earlier.wrapping_mul(10).wrapping_add(place as u64);

@@ -6,7 +6,7 @@ ghost use Rattle.set_table.specs.WorkerPasses.{IsPassOf};
 
 use crate::exchange::{Owner, SetsOver, answers, owner_of};
 use append_log::{FuseSink, Log, MemorySink};
-use set_table::{Gate, NoGate, Pass, Table, Totals};
+use set_table::{NoGate, Pass, Table, TestGate, Totals};
 use std::alloc::Global;
 use std::marker::Brand;
 use std::process::Abort;
@@ -170,7 +170,7 @@ pub struct Day {
 }
 
 /// What two workers are told, one after the other.
-pub fn told_to_both<L: Ledger, R: Wait, G: Gate>(
+pub fn told_to_both<L: Ledger, R: Wait, G: TestGate>(
     rt: &R,
     alloc: Global,
     table: &Sets<L>,
@@ -191,7 +191,7 @@ pub fn told_to_both<L: Ledger, R: Wait, G: Gate>(
 }
 
 /// A day of a table of an owner's sets.
-pub fn day_with<L: Ledger, R: Wait + AllocGlobal, G: Gate>(
+pub fn day_with<L: Ledger, R: Wait + AllocGlobal, G: TestGate>(
     rt: &R,
     blank: Blank,
     owner: Owner,
@@ -222,7 +222,7 @@ pub fn day_with<L: Ledger, R: Wait + AllocGlobal, G: Gate>(
 }
 
 /// A day of a table whose runs call a gate. `locks` waits for the table's locks.
-pub fn gated_day<R: Wait + AllocGlobal, G: Gate>(
+pub fn gated_day<R: Wait + AllocGlobal, G: TestGate>(
     rt: &HostRuntime,
     locks: &R,
     talk: &Talk<'_>,

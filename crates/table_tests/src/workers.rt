@@ -7,7 +7,7 @@ use crate::exchange::{Owner, SetsOver, command, owner_of, text_of};
 use crate::tables::{Day, SILENCE, Sets, Talk, close, opened, told_to_both};
 use append_log::LogSink;
 use resp_wire::write_reply;
-use set_table::{Answered, Gate, NoGate, Pass};
+use set_table::{Answered, NoGate, Pass, TestGate};
 use std::alloc::Global;
 use std::marker::Brand;
 use std::sync::Wait;
@@ -95,7 +95,7 @@ impl Post<'_> {
     }
 }
 
-impl Gate for Post<'_> {
+impl TestGate for Post<'_> {
     fn inside(&self, _place: usize) {
         self.signals.inside.fetch_add(1, Ordering::SeqCst);
         match self.signals.manner {
@@ -125,7 +125,7 @@ fn note_claim<S: LogSink, L: Ledger>(
 }
 
 /// Runs a command, and appends its reply.
-fn note_reply<S: LogSink, L: Ledger, R: Wait, G: Gate>(
+fn note_reply<S: LogSink, L: Ledger, R: Wait, G: TestGate>(
     rt: &R,
     table: &SetsOver<S, L>,
     pass: &mut Pass<Global>,
@@ -151,7 +151,7 @@ struct Shift<'s> {
 }
 
 /// What a worker is told of its keys and commands, or None where one was refused.
-fn told_on<S: LogSink, L: Ledger, R: Wait, G: Gate>(
+fn told_on<S: LogSink, L: Ledger, R: Wait, G: TestGate>(
     rt: &R,
     alloc: Global,
     table: &SetsOver<S, L>,

@@ -2,8 +2,8 @@
 
 ghost use Rattle.std.specs.Prelude.{◌≡◌, IfOk};
 
+use crate::naming::key_cache::KeyCache;
 use crate::naming::knowledge::Knowledge;
-use crate::naming::memory::Memory;
 use crate::naming::name_hashes::NameHashes;
 use crate::naming::notes::{Notes, PlaceNote};
 use std::alloc::{AllocError, Global};
@@ -14,11 +14,11 @@ impl Knowledge {
         ensures same { self.new ≡ self.old }
         ensures copy { IfOk result (λ copy. copy ≡ self.old) }
     {
-        let slots = Vec::from_slice(alloc, &self.memory.slots)?;
+        let slots = Vec::from_slice(alloc, &self.key_cache.slots)?;
         let hashes = Vec::from_slice(alloc, &self.hashes.hashes)?;
         Ok(Knowledge {
             notes: self.notes.again(alloc)?,
-            memory: Memory { slots },
+            key_cache: KeyCache { slots },
             hashes: NameHashes { hashes },
             compared: 0,
         })

@@ -3,19 +3,19 @@
 ghost use Rattle.std.specs.Prelude.{◌≡◌, ◌↔◌, List, ℕ, IsTrue};
 ghost use Rattle.set_table.specs.Naming.{BearsOther, hash_from};
 
-use crate::naming::memory::Memory;
+use crate::naming::key_cache::KeyCache;
 use crate::naming::name::Name;
 use crate::naming::name_hashes::NameHashes;
 use crate::naming::notes::Notes;
 use std::marker::Model;
 
-/// What a pass knows of the places' names: its notes of them; a memory of the keys whose places it
+/// What a pass knows of the places' names: its notes of them; a cache of the keys whose places it
 /// met, and the hashes of the names that it met, which make nothing known that the notes don't tell;
 /// and how often it compared a name with a key. A contract sees the notes.
 #[derive(Drop)]
 pub(crate) struct Knowledge {
     pub(crate) notes: Notes,
-    pub(crate) memory: Memory,
+    pub(crate) key_cache: KeyCache,
     pub(crate) hashes: NameHashes,
     pub(crate) compared: u64,
 }
@@ -28,7 +28,7 @@ impl Model for Knowledge {
 
     ghost view = { λ k. k.notes };
 
-    ghost invariant = { λ k. AllMet k.notes.known k.memory.slots.items × AllHashed k.notes.known k.hashes.hashes.items };
+    ghost invariant = { λ k. AllMet k.notes.known k.key_cache.slots.items × AllHashed k.notes.known k.hashes.hashes.items };
 }
 
 impl Knowledge {

@@ -8,8 +8,8 @@ ghost use Rattle.set_table.specs.Naming.{AreNotesOf, Grows, IsPlace, IsUnclaimed
 mod agreement;
 
 use crate::limits::MAX_PLACES;
+use crate::naming::key_cache::{KeyCache, mixed_hash};
 use crate::naming::knowledge::Knowledge;
-use crate::naming::memory::{Memory, mixed_hash};
 use crate::naming::name::{Name, hash};
 use crate::naming::name_hashes::NameHashes;
 use crate::naming::notes::{Notes, PlaceNote};
@@ -80,14 +80,14 @@ impl Names {
     {
         Ok(Knowledge {
             notes: self.notes(alloc)?,
-            memory: Memory::new(alloc, self.places())?,
+            key_cache: KeyCache::new(alloc, self.places())?,
             hashes: NameHashes::new(alloc, self.places())?,
             compared: 0,
         })
     }
 
     /// The key's place, where the pass or the table knows it. One that the pass met before is found
-    /// by its memory; another by the key's walk.
+    /// by its cache of keys; another by the key's walk.
     pub(crate) fn find(&self, known: &mut Knowledge, key: &[u8]) -> Option<usize>
         requires own { AreNotesOf self.now known.old }
         requires places { (0 < length self.now) × (length self.now ≤ MAX_PLACES) }
@@ -101,7 +101,7 @@ impl Names {
             return Some(place);
         }
         let place = self.find_by_walk(known, key)?;
-        known.memory.remember(hash, place);
+        known.key_cache.remember(hash, place);
         Some(place)
     }
 
@@ -119,19 +119,19 @@ impl Names {
             return Ok(place);
         }
         let place = self.claim_by_walk(known, key)?;
-        known.memory.remember(hash, place);
+        known.key_cache.remember(hash, place);
         Ok(place)
     }
 
-    /// The key's place, where the pass's memory has it: the place that was met with the key's hash,
-    /// if it bears the key.
+    /// The key's place, where the pass's cache of keys has it: the place that was met with the key's
+    /// hash, if it bears the key.
     fn recall(&self, known: &mut Knowledge, hash: u32, key: &[u8]) -> Option<usize>
         requires own { AreNotesOf self.now known.old }
         ensures own { AreNotesOf self.now known.new }
         ensures grows { Grows known.old.known known.new.known }
         ensures found { IfSome result (λ place. IsPlace known.new.known key.now place) }
     {
-        let place = known.memory.place_of(hash)?;
+        let place = known.key_cache.place_of(hash)?;
         let name = self.name_of(&mut known.notes, place)?;
         if !known.bears(name, key) {
             return None;

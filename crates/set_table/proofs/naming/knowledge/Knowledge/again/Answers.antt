@@ -2,12 +2,12 @@ use Rattle.std.proofs.Common.{List, ◌∙◌, sym, subst}
 use Rattle.std.proofs.Common.{ℕ}
 use Rattle.std.specs.declared.option.Option.{Option}
 use Rattle.set_table.specs.KeyCache.{AllMet, AllHashed}
-use Rattle.set_table.specs.declared.naming.memory.MetKey.{MetKey}
-use Rattle.set_table.proofs.MemoryLemmas.{both_same}
+use Rattle.set_table.specs.declared.naming.key_cache.MetKey.{MetKey}
+use Rattle.set_table.proofs.KeyCacheLemmas.{both_same}
 use Rattle.set_table.proofs.naming.knowledge.Knowledge.again.Goals as goal
 
 pub invariant_of-self : goal.invariant_of-self
-invariant_of-self c = both_same c.self.inside.notes c.again.new.self c.self.inside.memory.slots.items c.self.inside.hashes.hashes.items c.again.ensures.same c.self.invariant
+invariant_of-self c = both_same c.self.inside.notes c.again.new.self c.self.inside.key_cache.slots.items c.self.inside.hashes.hashes.items c.again.ensures.same c.self.invariant
 
 pub invariant_of-result : goal.invariant_of-result
 invariant_of-result c =
@@ -17,4 +17,4 @@ invariant_of-result c =
     )
 
 pub invariant_of-self-2 : goal.invariant_of-self-2
-invariant_of-self-2 c = both_same c.self.inside.notes c.again.new.self c.self.inside.memory.slots.items c.self.inside.hashes.hashes.items c.again.ensures.same c.self.invariant
+invariant_of-self-2 c = both_same c.self.inside.notes c.again.new.self c.self.inside.key_cache.slots.items c.self.inside.hashes.hashes.items c.again.ensures.same c.self.invariant

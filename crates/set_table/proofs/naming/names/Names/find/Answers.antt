@@ -2,7 +2,7 @@ use Rattle.std.proofs.Common.{sym, subst}
 use Rattle.set_table.specs.Naming.{NotesView, Grows, IsPlace}
 use Rattle.set_table.proofs.NameLemmas.{grows_on}
 use Rattle.set_table.proofs.PlaceLemmas.{place_grows}
-use Rattle.set_table.proofs.MemoryLemmas.{met_more}
+use Rattle.set_table.proofs.KeyCacheLemmas.{met_more}
 use Rattle.set_table.proofs.naming.names.Names.find.Goals as goal
 
 pub returns-in_err-place-clause-none : goal.returns-in_err-place-clause-none
@@ -12,7 +12,7 @@ returns-in_err-place-clause-none c =
 pub invariant_of-known : goal.invariant_of-known
 invariant_of-known c =
     let place = subst (λ (v : NotesView). IsPlace v.known c.args.key.now c.in_ok-place.place) (sym c.known.view_is) c.in_ok-place.ensures.found in
-    (met_more c.known.inside.notes.known c.known.inside.memory.slots.items c.remember.new.self.slots.items c.in_ok-place.place (c.args.key.now, place) c.remember.ensures c.known.invariant.0, c.known.invariant.1)
+    (met_more c.known.inside.notes.known c.known.inside.key_cache.slots.items c.remember.new.self.slots.items c.in_ok-place.place (c.args.key.now, place) c.remember.ensures c.known.invariant.0, c.known.invariant.1)
 
 pub returns-clause-grows : goal.returns-clause-grows
 returns-clause-grows c =

@@ -1,9 +1,9 @@
 use Rattle.std.proofs.Common.{rules}
-use Rattle.set_table.proofs.MemoryLemmas.{both_grow, recalled}
+use Rattle.set_table.proofs.KeyCacheLemmas.{both_grow, recalled}
 use Rattle.set_table.proofs.naming.names.Names.recall.Goals as goal
 
 pub invariant_of-known-2 : goal.invariant_of-known-2
-invariant_of-known-2 c = both_grow c.known.inside.notes.known c.name_of.new.notes.known c.known.inside.memory.slots.items c.known.inside.hashes.hashes.items c.in_ok-name.ensures.seen.grows c.known.invariant
+invariant_of-known-2 c = both_grow c.known.inside.notes.known c.name_of.new.notes.known c.known.inside.key_cache.slots.items c.known.inside.hashes.hashes.items c.in_ok-name.ensures.seen.grows c.known.invariant
 
 pub returns-clause-found : goal.returns-clause-found
 returns-clause-found c = rw c.bears.ensures.same

@@ -2,7 +2,7 @@
 
 /// Called while a place's lock is held, before its cell is asked. A test can hold a run there until
 /// one of another place is answered.
-pub trait Gate {
+pub trait TestGate {
     fn inside(&self, place: usize);
 }
 
@@ -10,6 +10,6 @@ pub trait Gate {
 #[derive(Drop)]
 pub struct NoGate;
 
-impl Gate for NoGate {
+impl TestGate for NoGate {
     fn inside(&self, _place: usize) {}
 }

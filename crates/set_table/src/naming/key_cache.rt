@@ -22,18 +22,18 @@ pub(crate) struct MetKey {
 /// Keys that were met, each in the first slot that was free from where its hash says. What a slot
 /// says is only a hint: a place's name has to be compared with the key.
 #[derive(Drop)]
-pub(crate) struct Memory {
+pub(crate) struct KeyCache {
     pub(crate) slots: Vec<Option<MetKey>>,
 }
 
-impl Memory {
-    /// A memory for the keys of so many places, which has met none.
+impl KeyCache {
+    /// A cache for the keys of so many places, which has met none.
     pub(crate) fn new(alloc: Global, places: usize) -> Result<Self, AllocError>
         requires { places < 2 ^ 16 }
-        ensures met { (known : NamingType) → IfOk result (λ memory. AllMet known memory.slots.items) }
-        ensures len { IfOk result (λ memory. length memory.slots.items ≡ SLOTS_A_PLACE * places) }
+        ensures met { (known : NamingType) → IfOk result (λ cache. AllMet known cache.slots.items) }
+        ensures len { IfOk result (λ cache. length cache.slots.items ≡ SLOTS_A_PLACE * places) }
     {
-        Ok(Memory {
+        Ok(KeyCache {
             slots: Vec::from_elem(alloc, None, SLOTS_A_PLACE * places)?,
         })
     }

@@ -1,7 +1,7 @@
--- What a memory says stays so while more names become known.
+-- What a cache of keys says stays so while more names become known.
 use Rattle.std.proofs.Common.{◌≡◌, ◌≢◌, ◌⊎◌, inl, inr, ℕ, List, sym, subst, ap, ◌∙◌}
 use Rattle.std.specs.declared.option.Option.{Option}
-use Rattle.set_table.specs.declared.naming.memory.MetKey.{MetKey}
+use Rattle.set_table.specs.declared.naming.key_cache.MetKey.{MetKey}
 use Rattle.set_table.specs.KeyCache.{Says, IsMet, AllMet, HasHash, AllHashed}
 use Rattle.set_table.specs.Naming.{Naming, NotesView, Grows, BearsOther, IsPlace, Learns, hash_from, name_at}
 use Rattle.set_table.proofs.PlaceLemmas.{place_grows, same_some}
@@ -25,7 +25,7 @@ hashed_grows old new hashes g hashed p some =
     let h = hashed p some in
     record { name = h.name; here = g.same p h.name h.here; hash_is = h.hash_is }
 
--- what the memory says and the hashes that are kept, of the same names
+-- what the cache of keys says and the hashes that are kept, of the same names
 pub both_grow : (old new : Naming) (slots : List (Option MetKey)) (hashes : List ℕ) → Grows old new → AllMet old slots × AllHashed old hashes → AllMet new slots × AllHashed new hashes
 both_grow old new slots hashes g both = (met_grows old new slots g both.0, hashed_grows old new hashes g both.1)
 
