@@ -6,11 +6,11 @@ use Rattle.std.proofs.lemmas.List.Elements.{length_all_zip, AllZip-get_or, All-f
 use Rattle.zset_core.specs.World.{World}
 use Rattle.hand_over.specs.declared.outcome.HandOverFault.{HandOverFault}
 use Rattle.hand_over.specs.declared.outcome.HandOverFault.TheVariants as hands
-use Rattle.set_table.specs.Opening.{AreNewPasses, IsOpenFault, no_pass, pass_at}
+use Rattle.set_table.specs.Opening.{AreNewPasses, IsTableOpenFault, no_pass, pass_at}
 use Rattle.set_table.specs.ClosingTotals.{AreNumbered}
 use Rattle.set_table.specs.WorkerPasses.{TableView, PassView, IsPassOf}
-use Rattle.set_table.specs.declared.open.OpenFault.{OpenFault}
-use Rattle.set_table.specs.declared.open.OpenFault.TheVariants as opens
+use Rattle.set_table.specs.declared.open.TableOpenFault.{TableOpenFault}
+use Rattle.set_table.specs.declared.open.TableOpenFault.TheVariants as opens
 use Rattle.set_table.specs.declared.table.close.CloseFault.{CloseFault}
 use Rattle.set_table.specs.declared.table.close.CloseFault.TheVariants.{MissingPass, OutOfStep}
 use Rattle.program_runs.specs.WorkerTurns.{Keeps, worker_on, AllKeep}
@@ -35,7 +35,7 @@ pub out_of_step : (fault : CloseFault) → (fault ≡ MissingPass → ⊥) → f
 out_of_step MissingPass none = absurd (none refl)
 out_of_step OutOfStep none = refl
 
-pub not_opened : (fault : OpenFault) (world : World) (places : ℕ) → IsOpenFault fault world places → IsStartFault (open_line fault) world places
+pub not_opened : (fault : TableOpenFault) (world : World) (places : ℕ) → IsTableOpenFault fault world places → IsStartFault (open_line fault) world places
 not_opened opens.NoMemory world places fits = fits
 not_opened opens.TooManyKeys world places many = many
 

@@ -10,8 +10,8 @@ use Rattle.hand_over.specs.declared.arrivals.ArrivalKind.{ArrivalKind}
 use Rattle.hand_over.specs.declared.arrivals.ArrivalKind.TheVariants as arrived
 use Rattle.hand_over.specs.declared.outcome.HandOverFault.{HandOverFault}
 use Rattle.hand_over.specs.declared.outcome.HandOverFault.TheVariants as hands
-use Rattle.set_table.specs.declared.open.OpenFault.{OpenFault}
-use Rattle.set_table.specs.declared.open.OpenFault.TheVariants as opens
+use Rattle.set_table.specs.declared.open.TableOpenFault.{TableOpenFault}
+use Rattle.set_table.specs.declared.open.TableOpenFault.TheVariants as opens
 use Rattle.set_table.specs.declared.table.close.totals.Totals.{Totals}
 use Rattle.set_table.specs.declared.table.close.CloseFault.{CloseFault}
 use Rattle.set_table.specs.declared.table.close.CloseFault.TheVariants.{OutOfStep}
@@ -71,7 +71,7 @@ pub record HasServed {A : Type 0} (came : A → ℕ) (last : A → Option Arriva
   pub finish_is : finish ≡ server_finish printed fault
 
 -- the line that tells why there is no table
-abbrev pub open_line : OpenFault → Line
+abbrev pub open_line : TableOpenFault → Line
 open_line opens.NoMemory = lines.OutOfMemory
 open_line opens.TooManyKeys = lines.MoreKeysThanPlaces
 

@@ -7,9 +7,9 @@ ghost use Rattle.program_runs.specs.ServerExitStatus as server;
 ghost use Rattle.program_runs.specs.ServerExitStatus.{HasNotServed, HasServed, HasTotals, IsTold};
 
 mod connection_handler;
-mod plan;
 mod seats;
 mod served;
+mod server_plan;
 mod settings;
 mod settling;
 mod startup;
@@ -27,7 +27,7 @@ use append_log::{LogSink, SyncHandle, Syncer};
 use connections::Watched;
 use hand_over::{Arrivals, HandOverFault};
 use resp_wire::{ByteDrain, PolledDrain, PolledSource};
-use set_table::{CloseFault, MAX_RUNS, OpenFault, Pass, Table, Totals};
+use set_table::{CloseFault, MAX_RUNS, Pass, Table, TableOpenFault, Totals};
 use std::alloc::{AllocGlobal, Global};
 use std::hash::RandomState;
 use std::net::Net;
@@ -38,12 +38,12 @@ use std::time::Clock;
 use zset_core::OneOwner;
 
 /// The line that tells why there is no table.
-fn open_line(fault: OpenFault) -> Line
+fn open_line(fault: TableOpenFault) -> Line
     ensures { result ≡ server.open_line fault }
 {
     match fault {
-        OpenFault::NoMemory => Line::OutOfMemory,
-        OpenFault::TooManyKeys => Line::MoreKeysThanPlaces,
+        TableOpenFault::NoMemory => Line::OutOfMemory,
+        TableOpenFault::TooManyKeys => Line::MoreKeysThanPlaces,
     }
 }
 

@@ -10,8 +10,8 @@ use Rattle.set_table.specs.CellStates.{CellView, new_cell}
 use Rattle.set_table.specs.Naming.{Naming, NotesView, IsPlace}
 use Rattle.set_table.specs.WorkerPasses.{TableView, PassView, IsPassOf, no_share}
 use Rattle.set_table.specs.Tallies.{ShareView, empty_tally}
-use Rattle.set_table.specs.declared.open.OpenFault.{OpenFault}
-use Rattle.set_table.specs.declared.open.OpenFault.TheVariants.{NoMemory, TooManyKeys}
+use Rattle.set_table.specs.declared.open.TableOpenFault.{TableOpenFault}
+use Rattle.set_table.specs.declared.open.TableOpenFault.TheVariants.{NoMemory, TooManyKeys}
 
 -- a key with its members
 abbrev pub Keyed : Type 0
@@ -71,9 +71,9 @@ pub record AreNewPasses (table : TableView) (world : World) (passes : List PassV
   pub know : (i : ℕ) → i < length passes → AllHavePlaces world (pass_at passes i).notes.known table.opened
 
 -- why a table is not opened
-abbrev pub IsOpenFault : OpenFault → World → ℕ → Type 0
-IsOpenFault NoMemory world places = fin.len world ≤ places
-IsOpenFault TooManyKeys world places = places < fin.len world
+abbrev pub IsTableOpenFault : TableOpenFault → World → ℕ → Type 0
+IsTableOpenFault NoMemory world places = fin.len world ≤ places
+IsTableOpenFault TooManyKeys world places = places < fin.len world
 
 -- the numbers of members of sets
 abbrev pub cards_of : List SetView → List ℕ

@@ -23,7 +23,7 @@ pub use answer::Answer;
 pub use cell::Cell;
 pub use counts::{Counts, OwnCounts};
 pub use limits::{MAX_PASSES, MAX_PLACES, MAX_RUNS};
-pub use open::OpenFault;
+pub use open::TableOpenFault;
 pub use pass::Pass;
 pub use shares::Shares;
 pub use table::{Answered, CloseFault, Table, Totals};

@@ -2,7 +2,7 @@
 
 ghost use Rattle.std.specs.Prelude.{◌≡◌, ◌<◌, ◌≤◌, None, IfOk, IfErr};
 ghost use Rattle.std.specs.FinMap as map;
-ghost use Rattle.set_table.specs.Opening.{AreNewPasses, IsOpened, IsOpenFault};
+ghost use Rattle.set_table.specs.Opening.{AreNewPasses, IsOpened, IsTableOpenFault};
 
 mod cells;
 mod passes;
@@ -24,7 +24,7 @@ use zset_core::OneOwner;
 
 /// Why a table was not opened.
 #[derive(Clone, Copy, Debug, PartialEq, Eq)]
-pub enum OpenFault {
+pub enum TableOpenFault {
     /// There was no memory for it.
     NoMemory,
     /// There are more sets than places.
@@ -43,8 +43,8 @@ impl<H: BuildHasher + Clone + Drop, S: LogSink + Drop, L: Ledger> Table<H, S, L,
     ///
     /// # Errors
     ///
-    /// Owner and log are dropped, and nothing was written. [`OpenFault::TooManyKeys`] exactly where
-    /// there are more sets than places; [`OpenFault::NoMemory`].
+    /// Owner and log are dropped, and nothing was written. [`TableOpenFault::TooManyKeys`] exactly where
+    /// there are more sets than places; [`TableOpenFault::NoMemory`].
     pub fn open(
         alloc: Global,
         owner: OneOwner<H, Global>,
@@ -52,7 +52,7 @@ impl<H: BuildHasher + Clone + Drop, S: LogSink + Drop, L: Ledger> Table<H, S, L,
         places: usize,
         passes: usize,
         max_runs: u64,
-    ) -> Result<(Self, Vec<Pass<Global>>), OpenFault>
+    ) -> Result<(Self, Vec<Pass<Global>>), TableOpenFault>
         requires idle { owner.next ≡ None }
         requires places { (1 ≤ places) × (places ≤ MAX_PLACES) }
         requires passes { (1 ≤ passes) × (passes ≤ MAX_PASSES) }
@@ -63,14 +63,14 @@ impl<H: BuildHasher + Clone + Drop, S: LogSink + Drop, L: Ledger> Table<H, S, L,
         ensures passes { IfOk result
             (λ opened. AreNewPasses opened.0 owner.world opened.1.items) }
         ensures fits { IfOk result (λ _. map.len owner.world ≤ places) }
-        ensures err { IfErr result (λ fault. IsOpenFault fault owner.world places) }
+        ensures err { IfErr result (λ fault. IsTableOpenFault fault owner.world places) }
     {
         if owner.key_count() > places {
-            return Err(OpenFault::TooManyKeys);
+            return Err(TableOpenFault::TooManyKeys);
         }
         match build(alloc, owner, log, places, passes, max_runs) {
             Ok(opened) => Ok(opened),
-            Err(_) => Err(OpenFault::NoMemory),
+            Err(_) => Err(TableOpenFault::NoMemory),
         }
     }
 }

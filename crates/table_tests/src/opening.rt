@@ -4,7 +4,7 @@ ghost use Rattle.std.specs.Prelude.{◌≡◌, ◌≤◌, ◌^◌};
 
 use crate::exchange::owner_of;
 use append_log::{Log, MemorySink};
-use set_table::{OpenFault, Table};
+use set_table::{Table, TableOpenFault};
 use std::marker::Brand;
 use std::sync::ledger::{Blank, Ledger};
 use std::test::*;
@@ -15,7 +15,7 @@ fn passes_of<L: Ledger>(
     blank: Blank,
     sets: &[&str],
     limits: (usize, usize, u64),
-) -> Result<Result<usize, OpenFault>, Fail>
+) -> Result<Result<usize, TableOpenFault>, Fail>
     requires name { blank.name ≡ L.name }
     requires parts { blank.parts ≡ L.parts }
     requires many { 4098 ≤ blank.parts }
@@ -36,7 +36,7 @@ fn passes_of<L: Ledger>(
 fn more_keys_than_places(rt: HostRuntime) -> Result<(), Fail> {
     let sets = ["ZADD a 1 x", "ZADD b 1 x", "ZADD c 1 x"];
     let passes = passes_of::<Brand>(&rt, Blank::new(4098), &sets, (2, 2, 1000))?;
-    assert_eq!(rt; passes, Err(OpenFault::TooManyKeys));
+    assert_eq!(rt; passes, Err(TableOpenFault::TooManyKeys));
     Ok(())
 }
 

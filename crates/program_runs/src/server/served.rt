@@ -24,7 +24,7 @@ use std::time::Clock;
 
 /// What is known once all connections were served.
 #[derive(Drop)]
-pub struct Served {
+pub struct ServedConnections {
     /// The workers' passes.
     pub passes: Vec<Pass<Global>>,
     /// How many connections came.
@@ -111,7 +111,7 @@ pub fn attend<A, S, D, K, L, Y, R>(
     syncer: Option<&Mutex<Syncer<Y>>>,
     passes: Vec<Pass<Global>>,
     limit: u64,
-) -> Result<Served, HandOverFault>
+) -> Result<ServedConnections, HandOverFault>
 where
     A: Arrivals<Conn = (S, D)>,
     S: PolledSource + Watched + Drop + Send,
@@ -137,7 +137,7 @@ where
     let handed = hand_over(rt, alloc, arrivals, handlers, limit)?;
     let connections = count_of(&handed);
     take_passes(handed.handlers, &mut gathered);
-    Ok(Served {
+    Ok(ServedConnections {
         passes: gathered,
         connections,
         fault: handed.fault,

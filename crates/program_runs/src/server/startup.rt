@@ -10,8 +10,8 @@ use crate::file::{open_file, tell_torn};
 use crate::finish::{Finish, Line, Unusable};
 use crate::logs::new_log;
 use crate::printing::print;
-use crate::server::plan::Plan;
 use crate::server::serve_run;
+use crate::server::server_plan::ServerPlan;
 use crate::server::settings::Settings;
 use crate::server::settling::Journal;
 use crate::server::tcp_arrivals::TcpArrivals;
@@ -137,7 +137,7 @@ const WORKER_DESCRIPTORS: u64 = 2;
 
 /// How many clients are served at once: as many as the plan says, and fewer where the process may
 /// not have so many descriptors. That is told to one who is told causes.
-fn clients_within(rt: &HostRuntime, plan: &Plan, telling: Telling) -> u64 {
+fn clients_within(rt: &HostRuntime, plan: &ServerPlan, telling: Telling) -> u64 {
     let Some(limit) = descriptor_limit() else {
         return plan.max_clients;
     };
@@ -159,7 +159,7 @@ fn clients_within(rt: &HostRuntime, plan: &Plan, telling: Telling) -> u64 {
 fn serve_address<K, Y, R>(
     rt: &HostRuntime,
     threads: &R,
-    plan: &Plan,
+    plan: &ServerPlan,
     stock: Stock<K, Y>,
     telling: Telling,
 ) -> Ending
@@ -218,7 +218,7 @@ fn serve_file<R: Wait + Threads + Net + Clock + AllocGlobal + Sync>(
     rt: &HostRuntime,
     threads: &R,
     hasher: RandomState,
-    plan: &Plan,
+    plan: &ServerPlan,
     files: &WatchedFiles<'_>,
     path: &str,
 ) -> Ending {
@@ -252,7 +252,7 @@ pub fn serve_tcp<R: Wait + Threads + Net + Clock + AllocGlobal + Sync>(
     task: ServeTask<'_>,
     telling: Telling,
 ) -> Ending {
-    let Some(plan) = Plan::read(&task) else {
+    let Some(plan) = ServerPlan::read(&task) else {
         return Ending::of_no_address(rt.alloc(), task.listen);
     };
     if let Some(path) = task.file {

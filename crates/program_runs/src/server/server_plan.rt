@@ -12,7 +12,7 @@ use std::net::SocketAddr;
 
 /// How a server is run.
 #[derive(Clone, Copy)]
-pub struct Plan {
+pub struct ServerPlan {
     pub address: SocketAddr,
     pub settings: Settings,
     /// When the append file's changes are brought to the device.
@@ -27,7 +27,7 @@ pub struct Plan {
     ghost records_fit: { (1 ≤ max_records) × (max_records ≤ MAX_RECORDS) },
 }
 
-impl Plan {
+impl ServerPlan {
     /// None where the address is no IP address with a port, or a number is out of its range. No name
     /// is looked up.
     pub fn read(task: &ServeTask<'_>) -> Option<Self>
@@ -53,7 +53,7 @@ impl Plan {
         if max_clients < 1 || max_clients > MAX_CLIENTS {
             return None;
         }
-        Some(Plan {
+        Some(ServerPlan {
             address,
             settings,
             sync: task.sync,
