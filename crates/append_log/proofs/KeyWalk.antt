@@ -25,8 +25,8 @@ abbrev pub left_from : List (List ℕ) → Option (List ℕ) → List (List ℕ)
 left_from names None = []
 left_from names (Some key) = from_name names key
 
-abbrev IsRising : List (List ℕ) → Type 0
-IsRising names = IsStrictlySortedBy bytes_cmp names
+abbrev NamesRise : List (List ℕ) → Type 0
+NamesRise names = IsStrictlySortedBy bytes_cmp names
 
 first : (a b : Bool) → T (a && b) → T a
 first true b h = tt
@@ -45,12 +45,12 @@ keys_below : (k : List ℕ) (es : List (List ℕ × Members)) → T (below_all b
 keys_below k [] h = tt
 keys_below k (e ∷ es) h = (less (bytes_cmp k e.0) (first (is_lt (bytes_cmp k e.0)) (below_all bytes_cmp k es) h), keys_below k es (second (is_lt (bytes_cmp k e.0)) (below_all bytes_cmp k es) h))
 
-entries_rise : (es : List (List ℕ × Members)) → T (is_sorted bytes_cmp es) → IsRising (map (λ e. e.0) es)
+entries_rise : (es : List (List ℕ × Members)) → T (is_sorted bytes_cmp es) → NamesRise (map (λ e. e.0) es)
 unfolding IsStrictlySortedBy
 entries_rise [] h = tt
 entries_rise (e ∷ es) h = (keys_below e.0 es (first (below_all bytes_cmp e.0 es) (is_sorted bytes_cmp es) h), entries_rise es (second (below_all bytes_cmp e.0 es) (is_sorted bytes_cmp es) h))
 
-keys_rise : (world : World) → IsRising (fin.keys world)
+keys_rise : (world : World) → NamesRise (fin.keys world)
 keys_rise world = entries_rise (fin.entries world) (fin.entries_sorted world)
 
 inner : (P : List ℕ → Type 0) (done : List (List ℕ)) (key : List ℕ) (rest : List (List ℕ)) → AllByRecursion P (done ++ key ∷ rest) → P key
@@ -73,13 +73,13 @@ first_of : (key : List ℕ) (rest : List (List ℕ)) → AllByRecursion (λ y. b
 first_of key [] each = refl
 first_of key (r ∷ rest) each = ap (λ o. cond (is_lt o) (Some r) (find (λ name. is_lt (bytes_cmp key name)) rest)) each.0
 
-behind_in : (done : List (List ℕ)) (key : List ℕ) (rest : List (List ℕ)) → IsRising (done ++ key ∷ rest) → find (λ name. is_lt (bytes_cmp key name)) (done ++ key ∷ rest) ≡ slice_get rest 0
+behind_in : (done : List (List ℕ)) (key : List ℕ) (rest : List (List ℕ)) → NamesRise (done ++ key ∷ rest) → find (λ name. is_lt (bytes_cmp key name)) (done ++ key ∷ rest) ≡ slice_get rest 0
 unfolding IsStrictlySortedBy
 behind_in [] key rest rises = ap (λ b. cond b (Some key) (find (λ name. is_lt (bytes_cmp key name)) rest)) (not_itself key) ∙ first_of key rest rises.0
 behind_in (d ∷ done) key rest rises =
     ap (λ b. cond b (Some d) (find (λ name. is_lt (bytes_cmp key name)) (done ++ key ∷ rest))) (not_behind d key (inner (λ y. bytes_cmp d y ≡ Less) done key rest rises.0)) ∙ behind_in done key rest rises.1
 
-left_in : (done : List (List ℕ)) (key : List ℕ) (rest : List (List ℕ)) → IsRising (done ++ key ∷ rest) → from_name (done ++ key ∷ rest) key ≡ key ∷ rest
+left_in : (done : List (List ℕ)) (key : List ℕ) (rest : List (List ℕ)) → NamesRise (done ++ key ∷ rest) → from_name (done ++ key ∷ rest) key ≡ key ∷ rest
 unfolding IsStrictlySortedBy
 left_in [] key rest rises = ap (λ b. cond b (key ∷ rest) (from_name rest key)) ((eq_by_cmp_equiv total).refl key)
 left_in (d ∷ done) key rest rises =
@@ -88,11 +88,11 @@ left_in (d ∷ done) key rest rises =
 module _ (world : World) where
   pub next_key : (done : List (List ℕ)) (key : List ℕ) (rest : List (List ℕ)) → fin.keys world ≡ done ++ key ∷ rest → key_behind (fin.keys world) (Some key) ≡ slice_get rest 0
   next_key done key rest cut =
-      ap (λ (l : List (List ℕ)). key_behind l (Some key)) cut ∙ behind_in done key rest (subst IsRising cut (keys_rise world))
+      ap (λ (l : List (List ℕ)). key_behind l (Some key)) cut ∙ behind_in done key rest (subst NamesRise cut (keys_rise world))
 
   pub left_is : (done rest : List (List ℕ)) → fin.keys world ≡ done ++ rest → left_from (fin.keys world) (slice_get rest 0) ≡ rest
   left_is done [] cut = refl
-  left_is done (key ∷ rest) cut = ap (λ (l : List (List ℕ)). from_name l key) cut ∙ left_in done key rest (subst IsRising cut (keys_rise world))
+  left_is done (key ∷ rest) cut = ap (λ (l : List (List ℕ)). from_name l key) cut ∙ left_in done key rest (subst NamesRise cut (keys_rise world))
 
   pub there_is : (done : List (List ℕ)) (key : List ℕ) (rest : List (List ℕ)) → fin.keys world ≡ done ++ key ∷ rest → IsSome (fin.get world key)
   there_is done key rest cut = fin.contains_key-keys world key ∙ ap (list_any (eq_by_cmp bytes_cmp key)) cut ∙ found done

@@ -15,7 +15,7 @@ use Rattle.std.specs.declared.vec.Vec.{Vec}
 use Rattle.zset_core.specs.SortedSet.{Members, bytes_cmp}
 use Rattle.zset_core.specs.ExpressibleWorld.{IsBoundedWorld, IsBoundedAt, IsBoundedOwner}
 use Rattle.zset_core.specs.AbstractCommand.{Asked}
-use Rattle.zset_core.specs.OwnerViewAndInvariant.{Keyed, world_of, set_in, IsAfter, IsRising, AllRest, IsOwned, owner_view}
+use Rattle.zset_core.specs.OwnerViewAndInvariant.{Keyed, world_of, set_in, IsAfter, KeysRise, AllRest, IsOwned, owner_view}
 use Rattle.zset_core.specs.FirstSetTaken.{IsFirst}
 use Rattle.zset_core.specs.SetAndOwnerViews.{SetView, OwnerView}
 use Rattle.zset_core.specs.World.{World}
@@ -43,7 +43,7 @@ module _ {A : Type 0} where
   here : (es fs : List (Keyed A)) (e : Keyed A) → es ≡ e ∷ fs → set_in es e.0.items ≡ Some e.1
   here es fs e is = ap (λ l. set_in l e.0.items) is ∙ ap (λ b. cond b (Some e.1) (set_in fs e.0.items)) (is_eq-slice_cmp e.0.items e.0.items ∙ nat_list_eq_equiv.refl e.0.items)
 
-  rising_rest : (e : Keyed A) (fs : List (Keyed A)) → IsRising (e ∷ fs) → IsRising fs
+  rising_rest : (e : Keyed A) (fs : List (Keyed A)) → KeysRise (e ∷ fs) → KeysRise fs
   unfolding IsStrictlySortedBy
   rising_rest e fs h = h.1
 
@@ -59,12 +59,12 @@ module _ {A : Type 0} where
       by q true = refl
       by q false = sym (get_world es q)
 
-  is_first : (es fs : List (Keyed A)) (e : Keyed A) → es ≡ e ∷ fs → IsAfter es e.0.items None fs → IsRising es → AllRest es → IsFirst (world_of es) e.0.items e.1 (world_of fs)
+  is_first : (es fs : List (Keyed A)) (e : Keyed A) → es ≡ e ∷ fs → IsAfter es e.0.items None fs → KeysRise es → AllRest es → IsFirst (world_of es) e.0.items e.1 (world_of fs)
   is_first es fs e is after rising rest =
       let at = here es fs e is in
       let resting = rest_at es e.0.items e.1 (sym at) rest in
       let old : fin.entries (world_of es) ≡ row_of e ∷ rows_of fs = world_rows es rising rest ∙ ap rows_of is in
-      let new : fin.entries (world_of fs) ≡ rows_of fs = world_rows fs (rising_rest e fs (subst IsRising is rising)) (all_rest es fs e.0.items rest after) in
+      let new : fin.entries (world_of fs) ≡ rows_of fs = world_rows fs (rising_rest e fs (subst KeysRise is rising)) (all_rest es fs e.0.items rest after) in
       record {
         first = ap (λ l. slice_get (map (λ (r : List ℕ × Members). r.0) l) 0) old;
         members = sym (set_at_entry es e.0.items e.1 at);
@@ -75,7 +75,7 @@ module _ {A : Type 0} where
       }
 
   -- what is taken, by what contracts see of the owner before and after
-  pub taken_of : (r : Option (Keyed A)) (es fs : List (Keyed A)) (old new : World) → world_of es ≡ old → world_of fs ≡ new → AllRest es → IsRising es
+  pub taken_of : (r : Option (Keyed A)) (es fs : List (Keyed A)) (old new : World) → world_of es ≡ old → world_of fs ≡ new → AllRest es → KeysRise es
       → MatchOption r ((es ≡ []) × (fs ≡ [])) (λ e. es ≡ e ∷ fs) → IfSome r (λ e. IsAfter es e.0.items None fs)
       → MatchOption r ((old ≡ fin.empty) × (new ≡ fin.empty)) (λ e. IsFirst old e.0.items e.1 new)
   taken_of None es fs old new is after rest rising split gone = (sym is ∙ ap world_of split.0, sym after ∙ ap world_of split.1)

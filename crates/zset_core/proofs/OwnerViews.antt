@@ -25,7 +25,7 @@ use Rattle.zset_core.specs.SortedSet.{Members, bytes_cmp}
 use Rattle.zset_core.specs.AbstractCommand.{Asked, key_of}
 use Rattle.zset_core.specs.SetAndOwnerViews.{SetView, Next, OwnerView, next_for, IsSetAt, HasNoSet}
 use Rattle.zset_core.specs.World.{World, set_at}
-use Rattle.zset_core.specs.OwnerViewAndInvariant.{Keyed, world_of, names_of, IsRising, set_in, next_at, IsResting, AllRest, IsHeld, owner_view, IsOwned}
+use Rattle.zset_core.specs.OwnerViewAndInvariant.{Keyed, world_of, names_of, KeysRise, set_in, next_at, IsResting, AllRest, IsHeld, owner_view, IsOwned}
 use Rattle.zset_core.proofs.Worlds.{keyed, key_cmp, filled_view, get_world, set_at_entry, set_at_none, next_here}
 
 pub match_of : (r : Option (Bor SetView)) (o : Option SetView) (P : Type 0) (Q : SetView → Type 0) → option_copied r ≡ o → (o ≡ None → P) → ((s : SetView) → o ≡ Some s → Q s) → MatchOption r P (λ b. Q b.now)
@@ -153,7 +153,7 @@ module _ {A : Type 0} where
   count_shown es a v is owned idle sorted =
       sym (length-map es row_of) ∙ sym (ap length (world_rows es sorted (idle_rest es a v is owned idle))) ∙ sym (fin.len-entries (world_of es)) ∙ ap fin.len (world_shown es a v is)
 
-  pub names_shown : (es : List (Keyed A)) (a : Option (Snapshot Asked)) (v : OwnerView) → owner_view es a ≡ v → IsOwned es a → v.next ≡ None → IsRising es → names_of es ≡ fin.keys v.world
+  pub names_shown : (es : List (Keyed A)) (a : Option (Snapshot Asked)) (v : OwnerView) → owner_view es a ≡ v → IsOwned es a → v.next ≡ None → KeysRise es → names_of es ≡ fin.keys v.world
   names_shown es a v is owned idle sorted =
       names es ∙ sym (ap (map (λ (e : List ℕ × Members). e.0)) (world_rows es sorted (idle_rest es a v is owned idle))) ∙ ap (λ (w : World). fin.keys w) (world_shown es a v is)
     where
@@ -161,7 +161,7 @@ module _ {A : Type 0} where
       names [] = refl
       names (e ∷ es) = ap (λ l. e.0.items ∷ l) (names es)
 
-  pub keys_shown : (es : List (Keyed A)) (a : Option (Snapshot Asked)) (v : OwnerView) (i : ℕ) → owner_view es a ≡ v → IsOwned es a → v.next ≡ None → IsRising es
+  pub keys_shown : (es : List (Keyed A)) (a : Option (Snapshot Asked)) (v : OwnerView) (i : ℕ) → owner_view es a ≡ v → IsOwned es a → v.next ≡ None → KeysRise es
       → option_map (λ (k : Vec ℕ A). k.items) (slice_get (keys_of es) i) ≡ slice_get (fin.keys v.world) i
   keys_shown es a v i is owned idle sorted =
       sym (slice_get-map (λ (k : Vec ℕ A). k.items) (keys_of es) i) ∙ ap (λ l. slice_get l i) (names es ∙ names_shown es a v is owned idle sorted)

@@ -25,8 +25,8 @@ abbrev pub names_of : {A : Type 0} → List (Keyed A) → List (List ℕ)
 names_of {A} entries = map (λ (e : Keyed A). e.0.items) entries
 
 -- the entries stand in the byte order of their keys
-abbrev pub IsRising : {A : Type 0} → List (Keyed A) → Type 0
-IsRising entries = IsStrictlySortedBy (λ x y. bytes_cmp x.items y.items) (keys_of entries)
+abbrev pub KeysRise : {A : Type 0} → List (Keyed A) → Type 0
+KeysRise entries = IsStrictlySortedBy (λ x y. bytes_cmp x.items y.items) (keys_of entries)
 
 -- what the entries have at a key
 abbrev pub set_in : {A : Type 0} → List (Keyed A) → List ℕ → Option SetView

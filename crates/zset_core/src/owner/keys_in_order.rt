@@ -2,7 +2,7 @@
 ghost use Rattle.std.specs.Prelude.{◌≡◌, None, Some, IsSome, option_map, slice_get};
 ghost use Rattle.std.specs.Map.{keys_of};
 ghost use Rattle.std.specs.Option.{option_copied};
-ghost use Rattle.zset_core.specs.OwnerViewAndInvariant.{names_of, IsRising, set_in};
+ghost use Rattle.zset_core.specs.OwnerViewAndInvariant.{names_of, KeysRise, set_in};
 ghost use Rattle.zset_core.specs.World.{key_behind};
 
 use crate::owner::set_tree::SetTree;
@@ -17,7 +17,7 @@ pub fn nth_key<H: BuildHasher, A: Allocator + Copy>(
 ) -> Option<&[u8]>
     ensures key { option_copied result
         ≡ option_map (λ key. key.items) (slice_get (keys_of sets.now.entries) index) }
-    ensures ordered { IsRising sets.now.entries }
+    ensures ordered { KeysRise sets.now.entries }
 {
     let mut keys = sets.keys();
     for _place in 0..index {
@@ -32,7 +32,7 @@ pub fn nth_key<H: BuildHasher, A: Allocator + Copy>(
 /// The first key.
 pub fn first_key<H: BuildHasher, A: Allocator + Copy>(sets: &SetTree<H, A>) -> Option<&[u8]>
     ensures key { option_copied result ≡ key_behind (names_of sets.now.entries) None }
-    ensures ordered { IsRising sets.now.entries }
+    ensures ordered { KeysRise sets.now.entries }
 {
     match sets.keys().next() {
         None => None,
@@ -47,7 +47,7 @@ pub fn next_key<'a, H: BuildHasher, A: Allocator + Copy>(
 ) -> Option<&'a [u8]>
     requires { IsSome (set_in sets.now.entries key.now) }
     ensures key { option_copied result ≡ key_behind (names_of sets.now.entries) (Some key.now) }
-    ensures ordered { IsRising sets.now.entries }
+    ensures ordered { KeysRise sets.now.entries }
 {
     match sets.get_key_value(key) {
         None => unreachable!(),

@@ -2,7 +2,7 @@
 
 ghost use Rattle.std.specs.Prelude.{◌≡◌, ◌∷◌, [], None, IfSome, MatchOption};
 ghost use Rattle.std.specs.FinMap as map;
-ghost use Rattle.zset_core.specs.OwnerViewAndInvariant.{IsAfter, IsRising};
+ghost use Rattle.zset_core.specs.OwnerViewAndInvariant.{IsAfter, KeysRise};
 ghost use Rattle.zset_core.specs.FirstSetTaken.{IsFirst};
 
 use crate::owner::OneOwner;
@@ -34,7 +34,7 @@ fn pop_first<H: BuildHasher + Drop, A: Allocator + Copy>(
         (λ taken. sets.old.entries ≡ taken ∷ sets.new.entries) }
     ensures gone { IfSome result
         (λ taken. IsAfter sets.old.entries taken.0.items None sets.new.entries) }
-    ensures ordered { IsRising sets.old.entries }
+    ensures ordered { KeysRise sets.old.entries }
 {
     let _count = sets.len();
     match sets.pop_first() {
