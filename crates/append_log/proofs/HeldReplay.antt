@@ -15,7 +15,7 @@ use Rattle.append_log.specs.Records.{Record}
 use Rattle.append_log.specs.Replay.{replay, replay_from, names_version, is_header, version_after, count_from}
 use Rattle.append_log.specs.declared.version.Version.{Version}
 use Rattle.append_log.specs.ReloadSteps.{Takes}
-use Rattle.append_log.specs.Reload.{Replayed, Holds, IsLess, AllReplayed, IsLoaded, FaultAt, version_number}
+use Rattle.append_log.specs.Reload.{Replayed, ReloadHolds, IsLess, AllReplayed, IsLoaded, FaultAt, version_number}
 use Rattle.append_log.specs.declared.loading.Loaded.{Loaded}
 use Rattle.append_log.specs.declared.loading.ReloadFault.TheVariants.{NoMemory, Damaged, NotACommand, UnknownVersion}
 use Rattle.append_log.proofs.RecordTexts.{asked-append}
@@ -71,7 +71,7 @@ items_push : (skips : List Item) (words : Record) → AllByRecursion IsItem skip
 items_push [] words each is = (is, tt)
 items_push (item ∷ skips) words each is = (each.0, items_push skips words each.1 is)
 
-pub replayed_start : (start : World) → Holds start [] (record { held = []; taken = 0; fault = None }) start 0 None
+pub replayed_start : (start : World) → ReloadHolds start [] (record { held = []; taken = 0; fault = None }) start 0 None
 replayed_start start = record {
   unfaulted = refl;
   replayed = record {
@@ -102,9 +102,9 @@ replayed_at start bytes at at' behind behind' world count count' version version
 }
 
 -- one piece more is held
-pub holds_more : (start : World) (bytes piece : List ℕ) (old new : DecoderView) (world : World) (count : ℕ) (version : Option Version) → new ≡ record { held = old.held ++ piece; taken = old.taken; fault = None } → Holds start bytes old world count version → Holds start (bytes ++ piece) new world count version
+pub holds_more : (start : World) (bytes piece : List ℕ) (old new : DecoderView) (world : World) (count : ℕ) (version : Option Version) → new ≡ record { held = old.held ++ piece; taken = old.taken; fault = None } → ReloadHolds start bytes old world count version → ReloadHolds start (bytes ++ piece) new world count version
 holds_more start bytes piece old new world count version is h =
-    subst (λ (w : DecoderView). Holds start (bytes ++ piece) w world count version) (sym is) (record {
+    subst (λ (w : DecoderView). ReloadHolds start (bytes ++ piece) w world count version) (sym is) (record {
       unfaulted = refl;
       replayed = record {
         front = h.replayed.front;
@@ -123,7 +123,7 @@ gave_taken old new words gave bytes =
     omega (arith, bytes, ap length gave.text, length-append (flat_map encoding_of gave.skips) (request words ++ new.held), length-append (request words) new.held)
 
 -- a piece found no room
-pub no_room : (start : World) (bytes piece : List ℕ) (wire : DecoderView) (world : World) (count : ℕ) (version : Option Version) → Holds start bytes wire world count version → FaultAt NoMemory start (bytes ++ piece) world
+pub no_room : (start : World) (bytes piece : List ℕ) (wire : DecoderView) (world : World) (count : ℕ) (version : Option Version) → ReloadHolds start bytes wire world count version → FaultAt NoMemory start (bytes ++ piece) world
 no_room start bytes piece wire world count version h = (
   wire.taken,
   wire.held ++ piece,
@@ -183,7 +183,7 @@ module _ (whole : (text : List ℕ) → (text ≡ flat_map encoding_of (items te
   none_tells None = refl
   none_tells (Some version) = refl
 
-  module _ (start : World) (bytes : List ℕ) (old new : DecoderView) (world : World) (count : ℕ) (version : Option Version) (h : Holds start bytes old world count version) (bytes_stay : new.taken + length new.held ≡ old.taken + length old.held) where
+  module _ (start : World) (bytes : List ℕ) (old new : DecoderView) (world : World) (count : ℕ) (version : Option Version) (h : ReloadHolds start bytes old world count version) (bytes_stay : new.taken + length new.held ≡ old.taken + length old.held) where
     -- skips alone were passed
     skipped : (others : List Item) (behind : List ℕ) → AllByRecursion IsItem others → old.held ≡ flat_map encoding_of others ++ behind → asked others ≡ []
         → Replayed start bytes (old.taken + length (flat_map encoding_of others)) behind world count version
@@ -205,7 +205,7 @@ module _ (whole : (text : List ℕ) → (text ≡ flat_map encoding_of (items te
         (skipped others (rest old.held) (whole old.held).1 text none)
 
     -- no record is whole
-    pub waits : Waits old new → fault old.held ≡ None → new.fault ≡ None → Holds start bytes new world count version × IsLess new.held
+    pub waits : Waits old new → fault old.held ≡ None → new.fault ≡ None → ReloadHolds start bytes new world count version × IsLess new.held
     waits w unfaulted good =
         let held = old.held in
         let flat : held ++ [] ≡ held = append-nil held in
@@ -241,7 +241,7 @@ module _ (whole : (text : List ℕ) → (text ≡ flat_map encoding_of (items te
       sizes = omega (arith, bytes_stay, ap length gave.text, length-append (flat_map encoding_of gave.skips) (request words ++ new.held), length-append (request words) new.held)
 
       -- a record was taken
-      pub gives : (next : World) (count' : ℕ) (version' : Option Version) → new.fault ≡ None → Takes version version' count count' world next words → Holds start bytes new next count' version'
+      pub gives : (next : World) (count' : ℕ) (version' : Option Version) → new.fault ≡ None → Takes version version' count count' world next words → ReloadHolds start bytes new next count' version'
       gives next count' version' good takes =
           let others = gave.skips ++ Ask words ∷ [] in
           let r = replayed_on start bytes old.taken old.held new.held world next count version others h.replayed (items_push gave.skips words each_skip is_request)
@@ -296,7 +296,7 @@ module _ (whole : (text : List ℕ) → (text ≡ flat_map encoding_of (items te
 module _ (cut_requests : (a b : List ℕ) → requests (a ++ b) ≡ requests a ++ requests (rest a ++ b))
     (cut_rest : (a b : List ℕ) → rest (a ++ b) ≡ rest (rest a ++ b))
     (cut_fault : (a b : List ℕ) → fault (a ++ b) ≡ fault (rest a ++ b))
-    (start : World) (bytes : List ℕ) (wire : DecoderView) (world : World) (count : ℕ) (version : Option Version) (h : Holds start bytes wire world count version) (less : IsLess wire.held) where
+    (start : World) (bytes : List ℕ) (wire : DecoderView) (world : World) (count : ℕ) (version : Option Version) (h : ReloadHolds start bytes wire world count version) (less : IsLess wire.held) where
   joined : rest h.replayed.front ++ wire.held ≡ wire.held
   joined = ap (λ (l : List ℕ). l ++ wire.held) h.replayed.ends
 

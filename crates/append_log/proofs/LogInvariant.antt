@@ -4,10 +4,10 @@ use Rattle.std.proofs.lemmas.List.{append-nil, take-append-drop, take-append-le,
 use Rattle.std.specs.Io.KnownBytes.{append_known}
 use Rattle.std.specs.Prelude.{codes}
 use Rattle.resp_wire.specs.RequestEncoding.{request}
-use Rattle.append_log.specs.Records.{Record, IsRecord, text_of}
+use Rattle.append_log.specs.Records.{Record, IsRecord, text_of_records}
 use Rattle.append_log.specs.Log.{LogView, IsLog, HasRecords, Ends, Appends, Breaks, Settles, Unsettled, settled_with}
 use Rattle.append_log.proofs.EffectArguments.{asked_remove, effect_request}
-use Rattle.append_log.proofs.RecordTexts.{text_of-push, AreRecords-push}
+use Rattle.append_log.proofs.RecordTexts.{text_of_records-push, AreRecords-push}
 
 -- a record of which nothing was written
 abbrev no_bytes : Record
@@ -20,37 +20,37 @@ no_bytes_are = record {
 }
 
 module _ (bytes : List ℕ) (records : List Record) (synced settled appended written : ℕ) (s : Ends bytes records synced settled appended written false) where
-  tail_off : text_of records ++ s.tail ≡ text_of records
-  tail_off = ap (λ (t : List ℕ). text_of records ++ t) s.rest ∙ append-nil (text_of records)
+  tail_off : text_of_records records ++ s.tail ≡ text_of_records records
+  tail_off = ap (λ (t : List ℕ). text_of_records records ++ t) s.rest ∙ append-nil (text_of_records records)
 
   -- with nothing behind the records
-  flat : bytes ≡ s.before ++ text_of records
+  flat : bytes ≡ s.before ++ text_of_records records
   flat = s.whole ∙ ap (λ (l : List ℕ). s.before ++ l) tail_off
 
-  flat_size : length (text_of records) ≡ written
+  flat_size : length (text_of_records records) ≡ written
   flat_size = ap length (sym tail_off) ∙ s.size
 
   module _ (entry : Record) (is : IsRecord entry) where
-    pushed : text_of (records ++ entry ∷ []) ≡ text_of records ++ request entry
-    pushed = text_of-push records entry
+    pushed : text_of_records (records ++ entry ∷ []) ≡ text_of_records records ++ request entry
+    pushed = text_of_records-push records entry
 
-    all : bytes ++ request entry ≡ s.before ++ text_of (records ++ entry ∷ [])
+    all : bytes ++ request entry ≡ s.before ++ text_of_records (records ++ entry ∷ [])
     all =
         ap (λ (l : List ℕ). l ++ request entry) flat
-        ∙ append_assoc s.before (text_of records) (request entry)
+        ∙ append_assoc s.before (text_of_records records) (request entry)
         ∙ ap (λ (l : List ℕ). s.before ++ l) (sym pushed)
 
-    ends_with : (synced' settled' : ℕ) → (0 < settled' → length (s.before ++ text_of (take settled' (records ++ entry ∷ []))) ≤ synced')
+    ends_with : (synced' settled' : ℕ) → (0 < settled' → length (s.before ++ text_of_records (take settled' (records ++ entry ∷ []))) ≤ synced')
         → Ends (bytes ++ request entry) (records ++ entry ∷ []) synced' settled' (appended + 1) (written + length (request entry)) false
     ends_with synced' settled' durable =
-        let text = text_of (records ++ entry ∷ []) in
+        let text = text_of_records (records ++ entry ∷ []) in
         record {
           before = s.before;
           tail = [];
           whole = all ∙ ap (λ (l : List ℕ). s.before ++ l) (sym (append-nil text));
           each = AreRecords-push records entry s.each is;
           count = length_push records entry ∙ ap (λ n. n + 1) s.count;
-          size = ap length (append-nil text) ∙ ap length pushed ∙ length-append (text_of records) (request entry) ∙ ap (λ n. n + length (request entry)) flat_size;
+          size = ap length (append-nil text) ∙ ap length pushed ∙ length-append (text_of_records records) (request entry) ∙ ap (λ n. n + length (request entry)) flat_size;
           rest = refl;
           durable = durable;
         }
@@ -60,13 +60,13 @@ module _ (bytes : List ℕ) (records : List Record) (synced settled appended wri
     ends_synced =
         let whole_list : take (appended + 1) (records ++ entry ∷ []) ≡ records ++ entry ∷ [] = take_all (appended + 1) (records ++ entry ∷ []) (omega (arith, length_push records entry, s.count)) in
         ends_with (length (bytes ++ request entry)) (appended + 1)
-        (λ _. omega (arith, ap length all, ap (λ (l : List Record). length (s.before ++ text_of l)) whole_list))
+        (λ _. omega (arith, ap length all, ap (λ (l : List Record). length (s.before ++ text_of_records l)) whole_list))
 
     -- left to a later sync
     pub ends_unsynced : settled ≤ appended → Ends (bytes ++ request entry) (records ++ entry ∷ []) synced settled (appended + 1) (written + length (request entry)) false
     ends_unsynced within =
         let front : take settled (records ++ entry ∷ []) ≡ take settled records = take-append-le settled records (entry ∷ []) (omega (arith, within, s.count)) in
-        ends_with synced settled (λ some. omega (arith, s.durable some, ap (λ (l : List Record). length (s.before ++ text_of l)) front))
+        ends_with synced settled (λ some. omega (arith, s.durable some, ap (λ (l : List Record). length (s.before ++ text_of_records l)) front))
 
   pub ends_breaks : (out : ℕ) (entry : Record) → IsRecord entry → out ≤ length (request entry)
       → Ends (bytes ++ take out (request entry)) records synced settled appended (written + out) true
@@ -75,10 +75,10 @@ module _ (bytes : List ℕ) (records : List Record) (synced settled appended wri
       record {
         before = s.before;
         tail = front;
-        whole = ap (λ (l : List ℕ). l ++ front) flat ∙ append_assoc s.before (text_of records) front;
+        whole = ap (λ (l : List ℕ). l ++ front) flat ∙ append_assoc s.before (text_of_records records) front;
         each = s.each;
         count = s.count;
-        size = length-append (text_of records) front ∙ ap (λ n. n + length front) flat_size ∙ ap (λ n. written + n) (length-take-le out (request entry) le);
+        size = length-append (text_of_records records) front ∙ ap (λ n. n + length front) flat_size ∙ ap (λ n. written + n) (length-take-le out (request entry) le);
         rest = record { record_of = entry; more = drop out (request entry); is_record = is; whole = take-append-drop out (request entry) };
         durable = s.durable;
       }
@@ -95,7 +95,7 @@ module _ (bytes : List ℕ) (records : List Record) (synced settled appended wri
         count = s.count;
         size = s.size;
         rest = s.rest;
-        durable = λ _. omega (arith, ap length flat, ap (λ (l : List Record). length (s.before ++ text_of l)) whole_list);
+        durable = λ _. omega (arith, ap length flat, ap (λ (l : List Record). length (s.before ++ text_of_records l)) whole_list);
       }
 
   -- one that failed
@@ -103,10 +103,10 @@ module _ (bytes : List ℕ) (records : List Record) (synced settled appended wri
   ends_unsettled = record {
     before = s.before;
     tail = [];
-    whole = flat ∙ ap (λ (l : List ℕ). s.before ++ l) (sym (append-nil (text_of records)));
+    whole = flat ∙ ap (λ (l : List ℕ). s.before ++ l) (sym (append-nil (text_of_records records)));
     each = s.each;
     count = s.count;
-    size = ap length (append-nil (text_of records)) ∙ flat_size;
+    size = ap length (append-nil (text_of_records records)) ∙ flat_size;
     rest = record { record_of = no_bytes; more = request no_bytes; is_record = no_bytes_are; whole = refl };
     durable = s.durable;
   }

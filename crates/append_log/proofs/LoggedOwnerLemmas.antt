@@ -16,7 +16,7 @@ use Rattle.append_log.specs.Records.{Record}
 use Rattle.append_log.specs.Replay.{after}
 use Rattle.append_log.specs.declared.version.Version.TheVariants.{Effects}
 use Rattle.append_log.specs.Log.{LogView, HasRecords, IsLog, Ends, NotAppended}
-use Rattle.append_log.specs.LoggedOwner.{LoggedView, AreSame, Changes, NotRecorded, NotRun, Replays}
+use Rattle.append_log.specs.LoggedOwner.{LoggedView, AreSame, ChangesWorld, NotRecorded, NotRun, Replays}
 use Rattle.append_log.proofs.ReplayLemmas.{replay-push}
 use Rattle.append_log.proofs.SameWorlds.{some_is, AreSame-put_back, AreSame-put_set, set_at-put_set-same}
 use Rattle.append_log.proofs.OutlineLemmas.{unchanged}
@@ -43,11 +43,11 @@ committed world end (Some k) meaning outline next reply ready o made = shown (st
 
 -- a command that is prepared and whose outline says that it changes its set does so
 pub changes-ready : (world : World) (key : Option (List ℕ)) (meaning : Meaning) (outline : Outline) (next : Option (List ℕ × Next)) → IsPreparedAt world key meaning next
-    → IfSome next (λ n. IsOutline outline (set_at world n.0) n.1.members) → outline.changed ≡ true → Changes world (act_at world key meaning)
+    → IfSome next (λ n. IsOutline outline (set_at world n.0) n.1.members) → outline.changed ≡ true → ChangesWorld world (act_at world key meaning)
 changes-ready world None meaning outline next ready o change = absurd ready
 changes-ready world (Some k) meaning outline next ready o change = shown (step (set_at world k) meaning) ready
   where
-    shown : (s : Option (Members × Response)) → ShowsAt k s meaning next → Changes world (option_map (λ done. (put_set world k done.0, done.1)) s)
+    shown : (s : Option (Members × Response)) → ShowsAt k s meaning next → ChangesWorld world (option_map (λ done. (put_set world k done.0, done.1)) s)
     shown None is = absurd is
     shown (Some done) is = (by_next world (put_set world k done.0) outline (k, record { meaning = meaning; members = done.0; reply = done.1 }) refl (subst (λ (n : Option (List ℕ × Next)). IfSome n (λ n. IsOutline outline (set_at world n.0) n.1.members)) is o)).moved change
 
@@ -57,7 +57,7 @@ changes-next world outline None o change = tt
 changes-next world outline (Some n) o change = o.changed.0 change
 
 -- a command that changes a set and whose record is not appended is not run
-pub not_run : (refusal : Refusal) (world : World) (made : Option (World × Response)) (bytes : List ℕ) (old new : LogView) → Changes world made → NotRecorded refusal old new bytes → NotRun refusal world made bytes old new
+pub not_run : (refusal : Refusal) (world : World) (made : Option (World × Response)) (bytes : List ℕ) (old new : LogView) → ChangesWorld world made → NotRecorded refusal old new bytes → NotRun refusal world made bytes old new
 not_run NoMemory world made bytes old new changes cause = cause
 not_run ScoreOverflow world made bytes old new changes cause = absurd cause
 not_run refusal world made bytes old new changes cause = (changes, cause)

@@ -8,7 +8,7 @@ use Rattle.std.specs.List.{flat_map}
 use Rattle.std.specs.Io.KnownBytes.{append_known}
 use Rattle.resp_wire.specs.RequestEncoding.{request}
 use Rattle.zset_core.specs.SortedSet.{Pair}
-use Rattle.append_log.specs.Records.{Record, text_of}
+use Rattle.append_log.specs.Records.{Record, text_of_records}
 use Rattle.append_log.specs.Dump.{cut_pieces, pieces, add_record, piece_records}
 use Rattle.append_log.specs.Rewrite.{TakesPrefix}
 use Rattle.resp_wire.proofs.CallerLemmas.{append_known-append_known, append_known-nil}
@@ -28,8 +28,8 @@ pieces_step [] some = absurd (omega (arith, some))
 pieces_step (p ∷ pairs) some =
     ap (λ (l : List (List Pair)). take 512 (p ∷ pairs) ∷ l) (enough (length pairs) (length (drop 512 (p ∷ pairs))) (drop 512 (p ∷ pairs)) (omega (arith, length-drop 512 (p ∷ pairs))) (omega arith))
 
-pub text_of-append : (a b : List Record) → text_of (a ++ b) ≡ text_of a ++ text_of b
-text_of-append a b = flat_map-append request a b
+pub text_of_records-append : (a b : List Record) → text_of_records (a ++ b) ≡ text_of_records a ++ text_of_records b
+text_of_records-append a b = flat_map-append request a b
 
 -- the front of bytes that come first
 pub front_first : (old new : Option (List ℕ)) (bytes behind : List ℕ) → TakesPrefix old new bytes → TakesPrefix old new (bytes ++ behind)
@@ -105,29 +105,29 @@ module _ (key : List ℕ) (rows rest : List Pair) (done : List (List Pair)) (cut
   pub cut_more : pieces rows ≡ (done ++ take 512 rest ∷ []) ++ pieces (drop 512 rest)
   cut_more = cut ∙ ap (λ (l : List (List Pair)). done ++ l) (pieces_step rest some) ∙ sym (append_assoc done (take 512 rest ∷ []) (pieces (drop 512 rest)))
 
-  texts : text_of (map (add_record key) (done ++ take 512 rest ∷ [])) ≡ text_of (map (add_record key) done) ++ request (add_record key (take 512 rest))
+  texts : text_of_records (map (add_record key) (done ++ take 512 rest ∷ [])) ≡ text_of_records (map (add_record key) done) ++ request (add_record key (take 512 rest))
   texts =
-      ap text_of (map-append (add_record key) done (take 512 rest ∷ []))
-      ∙ text_of-append (map (add_record key) done) (add_record key (take 512 rest) ∷ [])
-      ∙ ap (λ (l : List ℕ). text_of (map (add_record key) done) ++ l) (append-nil (request (add_record key (take 512 rest))))
+      ap text_of_records (map-append (add_record key) done (take 512 rest ∷ []))
+      ∙ text_of_records-append (map (add_record key) done) (add_record key (take 512 rest) ∷ [])
+      ∙ ap (λ (l : List ℕ). text_of_records (map (add_record key) done) ++ l) (append-nil (request (add_record key (take 512 rest))))
 
-  pub told_more : (first old new : Option (List ℕ)) → old ≡ append_known first (text_of (map (add_record key) done)) → new ≡ append_known old (request (add_record key (take 512 rest)))
-      → new ≡ append_known first (text_of (map (add_record key) (done ++ take 512 rest ∷ [])))
+  pub told_more : (first old new : Option (List ℕ)) → old ≡ append_known first (text_of_records (map (add_record key) done)) → new ≡ append_known old (request (add_record key (take 512 rest)))
+      → new ≡ append_known first (text_of_records (map (add_record key) (done ++ take 512 rest ∷ [])))
   told_more first old new was now =
       now ∙ ap (λ (k : Option (List ℕ)). append_known k (request (add_record key (take 512 rest)))) was
-      ∙ append_known-append_known first (text_of (map (add_record key) done)) (request (add_record key (take 512 rest)))
+      ∙ append_known-append_known first (text_of_records (map (add_record key) done)) (request (add_record key (take 512 rest)))
       ∙ ap (append_known first) (sym texts)
 
   -- a piece was not written whole
-  pub front_of_set : (first old new : Option (List ℕ)) → old ≡ append_known first (text_of (map (add_record key) done)) → TakesPrefix old new (request (add_record key (take 512 rest)))
-      → TakesPrefix first new (text_of (piece_records key rows))
+  pub front_of_set : (first old new : Option (List ℕ)) → old ≡ append_known first (text_of_records (map (add_record key) done)) → TakesPrefix old new (request (add_record key (take 512 rest)))
+      → TakesPrefix first new (text_of_records (piece_records key rows))
   front_of_set first old new was t =
-      let behind = text_of (map (add_record key) (pieces (drop 512 rest))) in
-      let all : text_of (piece_records key rows) ≡ text_of (map (add_record key) done) ++ (request (add_record key (take 512 rest)) ++ behind) =
-      ap (λ (l : List (List Pair)). text_of (map (add_record key) l)) cut_more
-      ∙ ap text_of (map-append (add_record key) (done ++ take 512 rest ∷ []) (pieces (drop 512 rest)))
-      ∙ text_of-append (map (add_record key) (done ++ take 512 rest ∷ [])) (map (add_record key) (pieces (drop 512 rest)))
+      let behind = text_of_records (map (add_record key) (pieces (drop 512 rest))) in
+      let all : text_of_records (piece_records key rows) ≡ text_of_records (map (add_record key) done) ++ (request (add_record key (take 512 rest)) ++ behind) =
+      ap (λ (l : List (List Pair)). text_of_records (map (add_record key) l)) cut_more
+      ∙ ap text_of_records (map-append (add_record key) (done ++ take 512 rest ∷ []) (pieces (drop 512 rest)))
+      ∙ text_of_records-append (map (add_record key) (done ++ take 512 rest ∷ [])) (map (add_record key) (pieces (drop 512 rest)))
       ∙ ap (λ (l : List ℕ). l ++ behind) texts
-      ∙ append_assoc (text_of (map (add_record key) done)) (request (add_record key (take 512 rest))) behind in
+      ∙ append_assoc (text_of_records (map (add_record key) done)) (request (add_record key (take 512 rest))) behind in
       subst (λ (l : List ℕ). TakesPrefix first new l) (sym all)
-      (front_behind first old new (text_of (map (add_record key) done)) (request (add_record key (take 512 rest)) ++ behind) was (front_first old new (request (add_record key (take 512 rest))) behind t))
+      (front_behind first old new (text_of_records (map (add_record key) done)) (request (add_record key (take 512 rest)) ++ behind) was (front_first old new (request (add_record key (take 512 rest))) behind t))

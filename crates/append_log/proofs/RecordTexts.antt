@@ -6,11 +6,11 @@ use Rattle.resp_wire.specs.declared.fault.Stop.TheVariants.{Short}
 use Rattle.resp_wire.specs.RequestEncoding.{Item, Ask, SkipZero, SkipMinus, IsItem, IsRequest, request, encoding_of}
 use Rattle.resp_wire.specs.Parser.{item_at, head_at, byte_at}
 use Rattle.resp_wire.specs.Stream.{fault_of, prepend_item, split_items, asked, items, requests, rest, fault}
-use Rattle.append_log.specs.Records.{Record, IsRecord, text_of, AreRecords}
+use Rattle.append_log.specs.Records.{Record, IsRecord, text_of_records, AreRecords}
 
-pub text_of-push : (records : List Record) (one : Record) → text_of (records ++ one ∷ []) ≡ text_of records ++ request one
-text_of-push [] one = append-nil (request one)
-text_of-push (first ∷ records) one = ap (λ (l : List ℕ). request first ++ l) (text_of-push records one) ∙ sym (append_assoc (request first) (text_of records) (request one))
+pub text_of_records-push : (records : List Record) (one : Record) → text_of_records (records ++ one ∷ []) ≡ text_of_records records ++ request one
+text_of_records-push [] one = append-nil (request one)
+text_of_records-push (first ∷ records) one = ap (λ (l : List ℕ). request first ++ l) (text_of_records-push records one) ∙ sym (append_assoc (request first) (text_of_records records) (request one))
 
 pub AreRecords-push : (records : List Record) (one : Record) → AreRecords records → IsRecord one → AreRecords (records ++ one ∷ [])
 AreRecords-push [] one each is = (is, tt)
@@ -27,10 +27,10 @@ requests_of (first ∷ records) each = (each.0.is_request, requests_of records e
 pub items_of : List Record → List Item
 items_of records = map Ask records
 
-pub text_of-items : (records : List Record) → flat_map encoding_of (items_of records) ≡ text_of records
+pub text_of_records-items : (records : List Record) → flat_map encoding_of (items_of records) ≡ text_of_records records
 unfolding items_of
-text_of-items [] = refl
-text_of-items (first ∷ records) = ap (λ (l : List ℕ). request first ++ l) (text_of-items records)
+text_of_records-items [] = refl
+text_of_records-items (first ∷ records) = ap (λ (l : List ℕ). request first ++ l) (text_of_records-items records)
 
 pub items_of-each : (records : List Record) → AreRequests records → AllByRecursion IsItem (items_of records)
 unfolding items_of
@@ -73,16 +73,16 @@ asks bytes records is = ap asked is ∙ asked-items records
 -- the text of records, and behind it what is no item yet
 pub reads_text : ((text : List ℕ) → (text ≡ flat_map encoding_of (items text) ++ rest text) × AllByRecursion IsItem (items text))
     → ((others : List Item) (more : List ℕ) → AllByRecursion IsItem others → items (flat_map encoding_of others ++ more) ≡ others ++ items more)
-    → (bytes : List ℕ) (records : List Record) (part : List ℕ) → AreRequests records → item_at part ≡ Err Short → bytes ≡ text_of records ++ part
+    → (bytes : List ℕ) (records : List Record) (part : List ℕ) → AreRequests records → item_at part ≡ Err Short → bytes ≡ text_of_records records ++ part
     → (requests bytes ≡ records) × (fault bytes ≡ None) × (rest bytes ≡ part)
 reads_text whole most bytes records part each short is =
-    let spelt : bytes ≡ flat_map encoding_of (items_of records) ++ part = is ∙ ap (λ (l : List ℕ). l ++ part) (sym (text_of-items records)) in
+    let spelt : bytes ≡ flat_map encoding_of (items_of records) ++ part = is ∙ ap (λ (l : List ℕ). l ++ part) (sym (text_of_records-items records)) in
     let all : items bytes ≡ items_of records =
     ap items spelt ∙ most (items_of records) part (items_of-each records each)
     ∙ ap (λ (l : List Item). items_of records ++ l) (items-short part short) ∙ append-nil (items_of records) in
-    let behind : text_of records ++ rest bytes ≡ text_of records ++ part =
-    ap (λ (l : List ℕ). l ++ rest bytes) (sym (text_of-items records))
+    let behind : text_of_records records ++ rest bytes ≡ text_of_records records ++ part =
+    ap (λ (l : List ℕ). l ++ rest bytes) (sym (text_of_records-items records))
     ∙ ap (λ (l : List Item). flat_map encoding_of l ++ rest bytes) (sym all)
     ∙ sym (whole bytes).0 ∙ is in
-    let left = append_cancel_left (text_of records) (rest bytes) part behind in
+    let left = append_cancel_left (text_of_records records) (rest bytes) part behind in
     (asks bytes records all, fault_at bytes part left short, left)

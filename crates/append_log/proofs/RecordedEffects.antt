@@ -21,7 +21,7 @@ use Rattle.zset_core.specs.declared.command.pair_outcome.Flags.{Flags}
 use Rattle.zset_core.proofs.Outlines.{has}
 use Rattle.zset_core.proofs.Gathering.{get-remove_all}
 use Rattle.append_log.specs.Dump.{add_record}
-use Rattle.append_log.specs.EffectRecords.{Entry, HasScore, effect_words, next_record, record_for, record_of_next, words_in}
+use Rattle.append_log.specs.EffectRecords.{EffectEntry, HasScore, effect_words, next_record, record_for, record_of_next, words_in}
 use Rattle.append_log.specs.Records.{Record, IsRecord}
 use Rattle.append_log.specs.Replay.{after, after_reading, is_effect}
 use Rattle.append_log.specs.declared.version.Version.TheVariants.{Effects}
@@ -64,7 +64,7 @@ remade_replays words key old new r world here =
     (ap (λ (m : Members). step m r.meaning) here ∙ r.made)
 
 -- ---- the scores of pairs
-pairs_score : (entries : List Entry) → AllByRecursion HasScore entries → AllByRecursion (λ p. IsScore p.0) (pairs_of entries)
+pairs_score : (entries : List EffectEntry) → AllByRecursion HasScore entries → AllByRecursion (λ p. IsScore p.0) (pairs_of entries)
 pairs_score [] h = tt
 pairs_score (entry ∷ entries) h = by entry.1 h.0 (pairs_score entries h.1)
   where

@@ -5,7 +5,7 @@ use Rattle.resp_wire.specs.Stream.{requests, rest, fault}
 use Rattle.resp_wire.specs.DecoderView.{DecoderView}
 use Rattle.resp_wire.proofs.CallerLemmas.{prepend_known-prepend_known, prepend_known-nil}
 use Rattle.zset_core.specs.World.{World}
-use Rattle.append_log.specs.Reload.{Reads}
+use Rattle.append_log.specs.Reload.{ReloadReads}
 use Rattle.append_log.specs.declared.version.Version.{Version}
 use Rattle.append_log.specs.ReloadSteps.{ReadsOn, Underway}
 use Rattle.append_log.specs.declared.loading.Loaded.{Loaded}
@@ -14,9 +14,9 @@ use Rattle.append_log.specs.declared.loading.ReloadFault.TheVariants.{NoMemory, 
 use Rattle.append_log.proofs.HeldReplay.{replayed_start, less_nothing, all_replayed}
 
 -- memory ran out before anything was read
-pub unread : (source : Option (List ℕ)) (start : World) (result : Result Loaded ReloadFault) → result ≡ Err NoMemory → Reads source source start result start
+pub unread : (source : Option (List ℕ)) (start : World) (result : Result Loaded ReloadFault) → result ≡ Err NoMemory → ReloadReads source source start result start
 unread source start result is =
-    subst (λ (r : Result Loaded ReloadFault). Reads source source start r start) (sym is) (record {
+    subst (λ (r : Result Loaded ReloadFault). ReloadReads source source start r start) (sym is) (record {
       bytes = [];
       read_is = prepend_known-nil source;
       reloaded = (0, [], 0, None, (replayed_start start).replayed);
@@ -29,7 +29,7 @@ module _ (source₀ source₁ : Option (List ℕ)) (start : World) (wire : Decod
   pub too_many : ((a b : List ℕ) → requests (a ++ b) ≡ requests a ++ requests (rest a ++ b))
       → ((a b : List ℕ) → rest (a ++ b) ≡ rest (rest a ++ b))
       → ((a b : List ℕ) → fault (a ++ b) ≡ fault (rest a ++ b))
-      → Reads source₀ source₁ start (Err TooManyReads) world
+      → ReloadReads source₀ source₁ start (Err TooManyReads) world
   too_many cut_requests cut_rest cut_fault =
       record { bytes = way.bytes; read_is = way.read_is; reloaded = all_replayed cut_requests cut_rest cut_fault start way.bytes wire world count version way.holds way.less }
 
@@ -42,10 +42,10 @@ module _ (source₀ source₁ : Option (List ℕ)) (start : World) (wire : Decod
         let on = r.rounded start way.bytes way.holds way.less in
         record { bytes = way.bytes ++ r.piece; read_is = joined r.piece r.read_is; holds = on.0; less = on.1 }
 
-    pub loads : (loaded : Loaded) → ReadsOn source₁ source₂ wire wire' world world' count count' version version' (Ok (Some loaded)) → Reads source₀ source₂ start (Ok loaded) world'
+    pub loads : (loaded : Loaded) → ReadsOn source₁ source₂ wire wire' world world' count count' version version' (Ok (Some loaded)) → ReloadReads source₀ source₂ start (Ok loaded) world'
     loads loaded r = record { bytes = way.bytes ++ r.piece; read_is = joined r.piece r.read_is; reloaded = r.rounded start way.bytes way.holds way.less }
 
-    pub fails : (end : ReloadFault) (result : Result Loaded ReloadFault) → result ≡ Err end → ReadsOn source₁ source₂ wire wire' world world' count count' version version' (Err end) → Reads source₀ source₂ start result world'
+    pub fails : (end : ReloadFault) (result : Result Loaded ReloadFault) → result ≡ Err end → ReadsOn source₁ source₂ wire wire' world world' count count' version version' (Err end) → ReloadReads source₀ source₂ start result world'
     fails end result is r =
-        subst (λ (x : Result Loaded ReloadFault). Reads source₀ source₂ start x world') (sym is)
+        subst (λ (x : Result Loaded ReloadFault). ReloadReads source₀ source₂ start x world') (sym is)
         (record { bytes = way.bytes ++ r.piece; read_is = joined r.piece r.read_is; reloaded = r.rounded start way.bytes way.holds way.less })

@@ -12,30 +12,30 @@ use Rattle.zset_core.specs.ChangeEffect.{effect}
 use Rattle.append_log.specs.Records.{Record}
 
 -- a member and the score that it has, None where it is gone
-abbrev pub Entry : Type 0
-Entry = List ℕ × Option ℤ
+abbrev pub EffectEntry : Type 0
+EffectEntry = List ℕ × Option ℤ
 
 -- the arguments that tell of one member: its name behind its score, or alone where it is gone
 abbrev pub words_behind : List ℕ → Option ℤ → List (List ℕ)
 words_behind name None = name ∷ []
 words_behind name (Some score) = score_text score ∷ name ∷ []
 
-abbrev pub entry_words : Entry → List (List ℕ)
+abbrev pub entry_words : EffectEntry → List (List ℕ)
 entry_words entry = words_behind entry.0 entry.1
 
 -- the arguments that tell of each
-abbrev pub effect_words : List Entry → List (List ℕ)
+abbrev pub effect_words : List EffectEntry → List (List ℕ)
 effect_words entries = flat_map entry_words entries
 
 -- of a change: ZADD of the members that came in or got another score; ZREM of those that left; ZREMRANGEBYSCORE as it was
 -- given
-abbrev pub change_record_for : Record → List Entry → List ℕ → Change → Record
+abbrev pub change_record_for : Record → List EffectEntry → List ℕ → Change → Record
 change_record_for words entries key (Add flags changed pairs) = codes "ZADD" ∷ (key ∷ effect_words entries)
 change_record_for words entries key (Increase flags given member) = codes "ZADD" ∷ (key ∷ effect_words entries)
 change_record_for words entries key (Remove names) = codes "ZREM" ∷ (key ∷ effect_words entries)
 change_record_for words entries key (RemoveRange range) = words
 
-abbrev pub record_for : Record → List Entry → Meaning → Record
+abbrev pub record_for : Record → List EffectEntry → Meaning → Record
 record_for words entries (Ping text) = words
 record_for words entries (Asks key question) = words
 record_for words entries (Changes key change) = change_record_for words entries key change
@@ -77,7 +77,7 @@ abbrev pub record_made : Asked → World → Option (World × Response) → Reco
 record_made command old made = record_made_at (key_of command.meaning) command old made
 
 -- a score of 64 bits, or none
-abbrev pub HasScore : Entry → Type 0
+abbrev pub HasScore : EffectEntry → Type 0
 HasScore entry = IfSome entry.1 IsScore
 
 -- the arguments that a text is the request of: the first that is read there

@@ -4,7 +4,7 @@ use Rattle.std.specs.Io.KnownBytes.{append_known}
 use Rattle.resp_wire.specs.Device.{Rose}
 use Rattle.zset_core.specs.declared.refusal.Refusal.{Refusal}
 use Rattle.zset_core.specs.declared.refusal.Refusal.TheVariants.{LogBroken, LogFull, LogRefused}
-use Rattle.append_log.specs.Records.{Record, text_of, AreRecords, IsRecordPrefix, ReadsPrefix}
+use Rattle.append_log.specs.Records.{Record, text_of_records, AreRecords, IsRecordPrefix, ReadsPrefix}
 
 -- a log, without the types of its sink and its ledger
 pub record LogView : Type 0 where
@@ -35,13 +35,13 @@ IsTail true tail = IsRecordPrefix tail
 pub record Ends (bytes : List ℕ) (records : List Record) (synced settled appended written : ℕ) (broken : Bool) : Type 0 where
   pub before : List ℕ
   pub tail : List ℕ
-  pub whole : bytes ≡ before ++ (text_of records ++ tail)
+  pub whole : bytes ≡ before ++ (text_of_records records ++ tail)
   pub each : AreRecords records
   pub count : length records ≡ appended
-  pub size : length (text_of records ++ tail) ≡ written
+  pub size : length (text_of_records records ++ tail) ≡ written
   pub rest : IsTail broken tail
   -- the last good sync came behind those that are settled
-  pub durable : 0 < settled → length (before ++ text_of (take settled records)) ≤ synced
+  pub durable : 0 < settled → length (before ++ text_of_records (take settled records)) ≤ synced
 
 -- a log's sink ends with these records, where it tells its bytes
 abbrev pub HasRecords : LogView → List Record → Type 0
@@ -165,4 +165,4 @@ pub record Readable (bytes : List ℕ) (synced settled appended written : ℕ) :
   pub each : AreRecords (records ++ one)
   pub prefixes : (n : ℕ) → n ≤ written → ReadsPrefix (take n last) (records ++ one)
   -- a prefix that reaches the last good sync has all settled records
-  pub durable : 0 < settled → (n : ℕ) → synced ≤ length before + n → length (text_of (take settled records)) ≤ n
+  pub durable : 0 < settled → (n : ℕ) → synced ≤ length before + n → length (text_of_records (take settled records)) ≤ n

@@ -31,8 +31,8 @@ pub record Replays (start : World) (state : LoggedView) : Type 0 where
   pub same : AreSame world state.world
 
 -- a command that makes this of a world changes a set of it
-abbrev pub Changes : World → Option (World × Response) → Type 0
-Changes world made = IsSomeAnd made (λ done. AreSame world done.0 → ⊥)
+abbrev pub ChangesWorld : World → Option (World × Response) → Type 0
+ChangesWorld world made = IsSomeAnd made (λ done. AreSame world done.0 → ⊥)
 
 -- why a command's record is not appended: out of memory it is not made, and the log stays
 abbrev pub NotRecorded : Refusal → LogView → LogView → List ℕ → Type 0
@@ -45,7 +45,7 @@ NotRecorded refusal old new bytes = NotAppended refusal old new bytes
 abbrev pub NotRun : Refusal → World → Option (World × Response) → List ℕ → LogView → LogView → Type 0
 NotRun NoMemory world made bytes old new = new ≡ old
 NotRun ScoreOverflow world made bytes old new = (new ≡ old) × (made ≡ None)
-NotRun refusal world made bytes old new = Changes world made × NotAppended refusal old new bytes
+NotRun refusal world made bytes old new = ChangesWorld world made × NotAppended refusal old new bytes
 
 -- a command was run: the record of its change was appended exactly where a set changed
 pub record Ran (old new : LoggedView) (command : Asked) (reply : Response) : Type 0 where

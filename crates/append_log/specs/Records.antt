@@ -11,8 +11,8 @@ abbrev pub Record : Type 0
 Record = List (List ℕ)
 
 -- the bytes of records
-abbrev pub text_of : List Record → List ℕ
-text_of records = flat_map request records
+abbrev pub text_of_records : List Record → List ℕ
+text_of_records records = flat_map request records
 
 -- a request that is read as one of the commands that change sets: ZADD, ZREM, ZREMRANGEBYSCORE
 pub record IsRecord (words : Record) : Type 0 where
@@ -35,4 +35,4 @@ pub record ReadsPrefix (bytes : List ℕ) (records : List Record) : Type 0 where
   pub unfaulted : fault bytes ≡ None
   pub count : ℕ
   pub requests_are : requests bytes ≡ take count records
-  pub reaches : (k : ℕ) → k ≤ length records → length (text_of (take k records)) ≤ length bytes → k ≤ count
+  pub reaches : (k : ℕ) → k ≤ length records → length (text_of_records (take k records)) ≤ length bytes → k ≤ count

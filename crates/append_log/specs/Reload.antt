@@ -9,7 +9,7 @@ use Rattle.resp_wire.specs.Stream.{requests, rest, fault}
 use Rattle.resp_wire.specs.DecoderView.{DecoderView}
 use Rattle.zset_core.specs.World.{World}
 use Rattle.append_log.specs.Records.{Record}
-use Rattle.append_log.specs.Replay.{replay, replay_from, names_version, is_header, version_after, counted}
+use Rattle.append_log.specs.Replay.{replay, replay_from, names_version, is_header, version_after, records_counted}
 use Rattle.append_log.specs.declared.version.Version.{Version}
 use Rattle.append_log.specs.declared.version.Version.TheVariants.{Commands, Effects}
 use Rattle.append_log.specs.declared.loading.Loaded.{Loaded}
@@ -30,7 +30,7 @@ pub record Replayed (start : World) (bytes : List ℕ) (at : ℕ) (behind : List
   pub at_is : length front ≡ at
   pub ends : rest front ≡ []
   pub replayed : replay start (requests front) ≡ Some world
-  pub count_is : count ≡ counted (requests front)
+  pub count_is : count ≡ records_counted (requests front)
   pub version_is : version ≡ version_after None (requests front)
 
 -- a request that no replay takes stands at the start of these bytes
@@ -70,7 +70,7 @@ FaultAt TooManyReads start bytes world = AllReplayed start bytes world
 -- a whole stream was replayed
 pub record IsLoaded (start : World) (bytes : List ℕ) (loaded : Loaded) (world : World) : Type 0 where
   pub all : AllReplayed start bytes world
-  pub records_are : loaded.records ≡ counted (requests bytes)
+  pub records_are : loaded.records ≡ records_counted (requests bytes)
   pub version_is : loaded.version ≡ version_number (version_after None (requests bytes))
   pub torn_is : loaded.torn ≡ length (rest bytes)
   pub whole_is : loaded.whole + loaded.torn ≡ length bytes
@@ -80,13 +80,13 @@ Reloaded (Ok loaded) start bytes world = IsLoaded start bytes loaded world
 Reloaded (Err f) start bytes world = FaultAt f start bytes world
 
 -- what a reload read, and what it leaves
-pub record Reads (source₀ source₁ : Option (List ℕ)) (start : World) (result : Result Loaded ReloadFault) (world : World) : Type 0 where
+pub record ReloadReads (source₀ source₁ : Option (List ℕ)) (start : World) (result : Result Loaded ReloadFault) (world : World) : Type 0 where
   pub bytes : List ℕ
   pub read_is : source₀ ≡ prepend_known bytes source₁
   pub reloaded : Reloaded result start bytes world
 
 -- what a decoder that answered no fault holds stands behind the records that are replayed
-pub record Holds (start : World) (bytes : List ℕ) (wire : DecoderView) (world : World) (count : ℕ) (version : Option Version) : Type 0 where
+pub record ReloadHolds (start : World) (bytes : List ℕ) (wire : DecoderView) (world : World) (count : ℕ) (version : Option Version) : Type 0 where
   pub unfaulted : wire.fault ≡ None
   pub replayed : Replayed start bytes wire.taken wire.held world count version
 

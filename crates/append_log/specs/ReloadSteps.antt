@@ -3,7 +3,7 @@ use Rattle.std.specs.Prelude.{◌≡◌, ℕ, ◌+◌, ◌≤◌, List, [], ◌�
 use Rattle.resp_wire.specs.Device.{Rose}
 use Rattle.resp_wire.specs.DecoderView.{DecoderView}
 use Rattle.zset_core.specs.World.{World}
-use Rattle.append_log.specs.Reload.{Holds, IsLess, IsLoaded, FaultAt}
+use Rattle.append_log.specs.Reload.{ReloadHolds, IsLess, IsLoaded, FaultAt}
 use Rattle.append_log.specs.Records.{Record}
 use Rattle.append_log.specs.Replay.{replay_from, names_version, is_header, version_after, count_from}
 use Rattle.append_log.specs.declared.version.Version.{Version}
@@ -38,27 +38,27 @@ pub record Takes (from to : Option Version) (before after : ℕ) (old new : Worl
   pub count : after ≡ before + count_from from (words ∷ [])
 
 -- one record more was taken; or none is whole; or the reload ends
-abbrev pub Stepped : Result Bool ReloadFault → World → List ℕ → DecoderView → World → ℕ → Option Version → Type 0
-Stepped (Ok true) start bytes new world count version = Holds start bytes new world count version
-Stepped (Ok false) start bytes new world count version = Holds start bytes new world count version × IsLess new.held
-Stepped (Err fault) start bytes new world count version = FaultAt fault start bytes world
+abbrev pub ReloadStepped : Result Bool ReloadFault → World → List ℕ → DecoderView → World → ℕ → Option Version → Type 0
+ReloadStepped (Ok true) start bytes new world count version = ReloadHolds start bytes new world count version
+ReloadStepped (Ok false) start bytes new world count version = ReloadHolds start bytes new world count version × IsLess new.held
+ReloadStepped (Err fault) start bytes new world count version = FaultAt fault start bytes world
 
 -- all that is held was replayed as far as it is whole; or the reload ends
 abbrev pub Drained : {U : Type 0} → Result U ReloadFault → World → List ℕ → DecoderView → World → ℕ → Option Version → Type 0
-Drained (Ok u) start bytes new world count version = Holds start bytes new world count version × IsLess new.held
+Drained (Ok u) start bytes new world count version = ReloadHolds start bytes new world count version × IsLess new.held
 Drained (Err fault) start bytes new world count version = FaultAt fault start bytes world
 
 -- one read, and what followed from it: the file ended; or it may go on; or the reload ends
 abbrev pub Rounded : Result (Option Loaded) ReloadFault → World → List ℕ → DecoderView → World → ℕ → Option Version → Type 0
 Rounded (Ok (Some loaded)) start bytes wire world count version = IsLoaded start bytes loaded world
-Rounded (Ok None) start bytes wire world count version = Holds start bytes wire world count version × IsLess wire.held
+Rounded (Ok None) start bytes wire world count version = ReloadHolds start bytes wire world count version × IsLess wire.held
 Rounded (Err fault) start bytes wire world count version = FaultAt fault start bytes world
 
 -- one read from where all was replayed as far as it is whole
 pub record ReadsOn (source₀ source₁ : Option (List ℕ)) (wire₀ wire₁ : DecoderView) (world₀ world₁ : World) (count₀ count₁ : ℕ) (version₀ version₁ : Option Version) (result : Result (Option Loaded) ReloadFault) : Type 0 where
   pub piece : List ℕ
   pub read_is : source₀ ≡ prepend_known piece source₁
-  pub rounded : (start : World) (bytes : List ℕ) → Holds start bytes wire₀ world₀ count₀ version₀ → IsLess wire₀.held → Rounded result start (bytes ++ piece) wire₁ world₁ count₁ version₁
+  pub rounded : (start : World) (bytes : List ℕ) → ReloadHolds start bytes wire₀ world₀ count₀ version₀ → IsLess wire₀.held → Rounded result start (bytes ++ piece) wire₁ world₁ count₁ version₁
 
 -- faults that the bytes give, or out of memory
 abbrev pub IsOfBytes : ReloadFault → Type 0
@@ -82,5 +82,5 @@ SourceFailed faults.UnknownVersion old new = new ≡ old
 pub record Underway (source₀ source₁ : Option (List ℕ)) (start : World) (wire : DecoderView) (world : World) (count : ℕ) (version : Option Version) : Type 0 where
   pub bytes : List ℕ
   pub read_is : source₀ ≡ prepend_known bytes source₁
-  pub holds : Holds start bytes wire world count version
+  pub holds : ReloadHolds start bytes wire world count version
   pub less : IsLess wire.held

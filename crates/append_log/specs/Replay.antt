@@ -73,5 +73,5 @@ count_from None [] = 0
 count_from None (words ∷ records) = if is_header words then length records else length records + 1
 
 -- how many records of a file count
-abbrev pub counted : List Record → ℕ
-counted records = count_from None records
+abbrev pub records_counted : List Record → ℕ
+records_counted records = count_from None records

@@ -6,8 +6,8 @@ ghost use Rattle.resp_wire.specs.Device.{Rose, saturating_succ};
 ghost use Rattle.resp_wire.specs.RequestEncoding.{IsArgument, argument, line, request as request_text};
 ghost use Rattle.zset_core.specs.World.{World as WorldType};
 ghost use Rattle.append_log.specs.Replay.{after, is_replayed as is_replayed_by};
-ghost use Rattle.append_log.specs.Reload.{Holds, Reads};
-ghost use Rattle.append_log.specs.ReloadSteps.{IsBetweenReads, Stepped, Drained, ReadsOn, SourceFailed, IsOfBytes, UnreplayedFor, NotTakenFor, Takes};
+ghost use Rattle.append_log.specs.Reload.{ReloadHolds, ReloadReads};
+ghost use Rattle.append_log.specs.ReloadSteps.{IsBetweenReads, ReloadStepped, Drained, ReadsOn, SourceFailed, IsOfBytes, UnreplayedFor, NotTakenFor, Takes};
 ghost use Rattle.append_log.specs.declared.loading.ReloadFault.TheVariants as faults;
 
 use crate::version::{Version, is_header, names_version, number_of};
@@ -221,8 +221,8 @@ impl<A: Allocator + Copy> Reloader<A> {
         ensures took { result ≡ Ok true → self.old.decoder.taken < self.new.decoder.taken }
         ensures cause { IfErr result IsOfBytes }
         ensures stepped { (start : WorldType) (bytes : List ℕ)
-            → Holds start bytes self.old.decoder owner.old.world self.old.records self.old.version
-            → Stepped result start bytes self.new.decoder owner.new.world self.new.records
+            → ReloadHolds start bytes self.old.decoder owner.old.world self.old.records self.old.version
+            → ReloadStepped result start bytes self.new.decoder owner.new.world self.new.records
             self.new.version }
     {
         // What a stream holds does not depend on the pieces that it comes in.
@@ -261,7 +261,7 @@ impl<A: Allocator + Copy> Reloader<A> {
         ensures ready { OnOk result (IsBetweenReads self.new.decoder self.new.records) }
         ensures cause { IfErr result IsOfBytes }
         ensures drained { (start : WorldType) (bytes : List ℕ)
-            → Holds start bytes self.old.decoder owner.old.world self.old.records self.old.version
+            → ReloadHolds start bytes self.old.decoder owner.old.world self.old.records self.old.version
             → Drained result start bytes self.new.decoder owner.new.world self.new.records
             self.new.version }
     {
@@ -285,7 +285,7 @@ impl<A: Allocator + Copy> Reloader<A> {
         ensures ready { OnOk result (IsBetweenReads self.new.decoder self.new.records) }
         ensures cause { IfErr result IsOfBytes }
         ensures drained { (start : WorldType) (bytes : List ℕ)
-            → Holds start bytes self.old.decoder owner.old.world self.old.records self.old.version
+            → ReloadHolds start bytes self.old.decoder owner.old.world self.old.records self.old.version
             → Drained result start (bytes ++ piece.now) self.new.decoder owner.new.world
             self.new.records self.new.version }
     {
@@ -368,7 +368,7 @@ pub fn reload<R: ByteSource, H: BuildHasher + Clone + Drop, A: Allocator + Copy>
     requires buffer { buffer ≤ MAX_READ_BUFFER }
     requires reads { max_reads ≤ MAX_READS }
     ensures idle { owner.new.next ≡ None }
-    ensures read { Reads (R.told source.old) (R.told source.new) owner.old.world result
+    ensures read { ReloadReads (R.told source.old) (R.told source.new) owner.old.world result
         owner.new.world }
     ensures at_end { OnOk result (IsAtEnd (R.told source.new)) }
     ensures reads { R.calls source.new ≤ R.calls source.old + max_reads }

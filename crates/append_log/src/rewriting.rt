@@ -6,7 +6,7 @@ ghost use Rattle.resp_wire.specs.Device.{Rose};
 ghost use Rattle.resp_wire.specs.RequestEncoding.{request};
 ghost use Rattle.append_log.specs.Dump.{add_record, pieces, piece_records, set_records, dump, image};
 ghost use Rattle.append_log.specs.Replay.{header};
-ghost use Rattle.append_log.specs.Records.{text_of as text_of_records};
+ghost use Rattle.append_log.specs.Records.{text_of_records};
 ghost use Rattle.append_log.specs.Rewrite.{ReplaysTo, TakesPrefix, SinkFailed};
 ghost use Rattle.append_log.specs.declared.rewriting.RewriteFault.TheVariants as faults;
 ghost use Rattle.score_bounds.specs.Scores.{score_text};

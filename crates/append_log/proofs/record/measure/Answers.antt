@@ -2,7 +2,7 @@ use Rattle.std.proofs.Common.{◌∙◌, List, length, ap, subst, arith}
 use Rattle.std.proofs.lemmas.List.{take_all}
 use Rattle.std.specs.List.{AllByRecursion}
 use Rattle.zset_core.specs.ChangeEffect.{prepared_effect}
-use Rattle.append_log.specs.EffectRecords.{Entry, HasScore, effect_words}
+use Rattle.append_log.specs.EffectRecords.{EffectEntry, HasScore, effect_words}
 use Rattle.append_log.proofs.EntryTexts.{count_more, few_front, scored_more}
 use Rattle.append_log.proofs.record.measure.Goals as goal
 
@@ -23,7 +23,7 @@ loop-index-preserved g c =
 pub returns-clause-count : goal.returns-clause-count
 returns-clause-count g c =
     let es = prepared_effect c.args.set.now in
-    c.loop-index.invariant.count ∙ ap (λ (l : List Entry). length (effect_words l)) (take_all c.loop-index.index es (omega (arith, c.loop-index-test.false, c.effect_len-index-end.ensures)))
+    c.loop-index.invariant.count ∙ ap (λ (l : List EffectEntry). length (effect_words l)) (take_all c.loop-index.index es (omega (arith, c.loop-index-test.false, c.effect_len-index-end.ensures)))
 
 pub returns-clause-scores : goal.returns-clause-scores
 returns-clause-scores g c =

@@ -3,7 +3,7 @@ use Rattle.std.proofs.lemmas.List.{take_all}
 use Rattle.std.specs.List.{flat_map}
 use Rattle.resp_wire.specs.RequestEncoding.{argument}
 use Rattle.zset_core.specs.ChangeEffect.{prepared_effect}
-use Rattle.append_log.specs.EffectRecords.{Entry, effect_words}
+use Rattle.append_log.specs.EffectRecords.{EffectEntry, effect_words}
 use Rattle.append_log.proofs.EntryTexts.{bytes_more}
 use Rattle.append_log.proofs.record.write_entries.Goals as goal
 
@@ -13,4 +13,4 @@ loop-index-preserved g c =
 
 pub returns : goal.returns
 returns g c =
-    c.loop-index.invariant ∙ ap (λ (l : List Entry). c.args.text.now.items ++ flat_map argument (effect_words l)) (take_all c.loop-index.index (prepared_effect c.args.set.now) (omega (arith, c.loop-index-test.false, c.effect_len-index-end.ensures)))
+    c.loop-index.invariant ∙ ap (λ (l : List EffectEntry). c.args.text.now.items ++ flat_map argument (effect_words l)) (take_all c.loop-index.index (prepared_effect c.args.set.now) (omega (arith, c.loop-index-test.false, c.effect_len-index-end.ensures)))

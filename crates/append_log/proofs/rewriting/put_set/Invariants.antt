@@ -2,7 +2,7 @@ use Rattle.std.proofs.Common.{◌≡◌, ◌+◌, ◌≤◌, List, ◌++◌, len
 use Rattle.std.specs.Io.KnownBytes.{append_known}
 use Rattle.zset_core.specs.SortedSet.{Pair}
 use Rattle.append_log.specs.Dump.{add_record, pieces}
-use Rattle.append_log.specs.Records.{text_of}
+use Rattle.append_log.specs.Records.{text_of_records}
 use Rattle.append_log.proofs.rewriting.put_set.Given as goal
 
 abbrev pub invariant-pieces : goal.invariant-pieces
@@ -11,7 +11,7 @@ invariant-pieces g l = record {
   cut : pieces l.rows ≡ done ++ pieces l.rest;
   count_is : l.count ≡ length done;
   few : l.count + length l.rest ≤ length l.rows;
-  told : g.S.LogSink.told l.sink ≡ append_known (g.S.LogSink.told l.fn.sink) (text_of (map (add_record l.key) done));
+  told : g.S.LogSink.told l.sink ≡ append_known (g.S.LogSink.told l.fn.sink) (text_of_records (map (add_record l.key) done));
   good : g.S.LogSink.failures l.sink ≡ g.S.LogSink.failures l.fn.sink;
 }
 

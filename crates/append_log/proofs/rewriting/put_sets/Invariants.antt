@@ -3,7 +3,7 @@ use Rattle.std.specs.Option.{option_copied}
 use Rattle.std.specs.FinMap as fin
 use Rattle.std.specs.Io.KnownBytes.{append_known}
 use Rattle.append_log.specs.Dump.{records_at}
-use Rattle.append_log.specs.Records.{text_of}
+use Rattle.append_log.specs.Records.{text_of_records}
 use Rattle.append_log.proofs.KeyWalk.{left_from}
 use Rattle.append_log.proofs.rewriting.put_sets.Given as goal
 
@@ -14,7 +14,7 @@ invariant-keys g l = record {
   cut : fin.keys l.owner.world ≡ done ++ rest;
   next_is : option_copied l.next ≡ slice_get rest 0;
   count_is : l.count ≡ min (length (records_at l.owner.world done)) (2 ^ 64 - 1);
-  told : g.S.LogSink.told l.sink ≡ append_known (g.S.LogSink.told l.fn.sink) (text_of (records_at l.owner.world done));
+  told : g.S.LogSink.told l.sink ≡ append_known (g.S.LogSink.told l.fn.sink) (text_of_records (records_at l.owner.world done));
   good : g.S.LogSink.failures l.sink ≡ g.S.LogSink.failures l.fn.sink;
 }
 

@@ -2,7 +2,7 @@ use Rattle.std.proofs.Common.{ap, sym, ◌∙◌, []}
 use Rattle.std.specs.FinMap as fin
 use Rattle.std.proofs.lemmas.List.{append-nil}
 use Rattle.append_log.specs.Dump.{image}
-use Rattle.append_log.specs.Records.{text_of}
+use Rattle.append_log.specs.Records.{text_of_records}
 use Rattle.append_log.specs.Replay.{replay}
 use Rattle.append_log.proofs.DumpReplay.{image_leads}
 use Rattle.append_log.proofs.DumpRequests.{header_is, image_requests}
@@ -13,7 +13,7 @@ pub returns : goal.returns
 returns g c =
     let world = c.args.owner.now.world in
     let records = image world in
-    let read = reads_text c.longest.ensures.whole c.longest.ensures.most (text_of records) records [] (header_is, image_requests world (fin.keys world) c.bounds.ensures) nothing_short (sym (append-nil (text_of records))) in
+    let read = reads_text c.longest.ensures.whole c.longest.ensures.most (text_of_records records) records [] (header_is, image_requests world (fin.keys world) c.bounds.ensures) nothing_short (sym (append-nil (text_of_records records))) in
     record {
       all = record { unfaulted = read.1; replayed = ap (replay fin.empty) read.0 ∙ image_leads c.printed_scores.ensures.read_back c.printed_scores.ensures.plain world c.bounds.ensures };
       whole = read.2;

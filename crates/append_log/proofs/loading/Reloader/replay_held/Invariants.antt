@@ -1,6 +1,6 @@
 use Rattle.std.proofs.Common.{◌≡◌, ℕ, ◌+◌, List, length, None}
 use Rattle.zset_core.specs.World.{World}
-use Rattle.append_log.specs.Reload.{Holds}
+use Rattle.append_log.specs.Reload.{ReloadHolds}
 use Rattle.append_log.specs.ReloadSteps.{IsBetweenReads}
 use Rattle.append_log.proofs.loading.Reloader.replay_held.Given as goal
 
@@ -9,7 +9,7 @@ invariant-records g l = record {
   idle : l.owner.next ≡ None;
   bytes_stay : l.self.decoder.taken + length l.self.decoder.held ≡ l.fn.self.decoder.taken + length l.fn.self.decoder.held;
   ready : IsBetweenReads l.self.decoder l.self.records;
-  holds : (start : World) (bytes : List ℕ) → Holds start bytes l.fn.self.decoder l.fn.owner.world l.fn.self.records l.fn.self.version → Holds start bytes l.self.decoder l.owner.world l.self.records l.self.version;
+  holds : (start : World) (bytes : List ℕ) → ReloadHolds start bytes l.fn.self.decoder l.fn.owner.world l.fn.self.records l.fn.self.version → ReloadHolds start bytes l.self.decoder l.owner.world l.self.records l.self.version;
 }
 
 abbrev pub decreases-records : goal.decreases-records
