@@ -11,7 +11,7 @@ use Rattle.set_table.specs.declared.table.close.totals.Totals.{Totals}
 use Rattle.set_table.specs.CellStates.{CellView, InStep}
 use Rattle.set_table.specs.WorkerPasses.{PassView}
 use Rattle.set_table.specs.Tallies.{empty_tally, added_of, removed_of}
-use Rattle.set_table.specs.ClosingTotals.{AddsUp, Agrees, AreOfCells, HasOtherCell, HasOtherRecords, IsOutOfStep, added_at, removed_at, members_at, sum_below, sum_of, pass_at, share_at, no_pass}
+use Rattle.set_table.specs.ClosingTotals.{AddsUp, Agrees, AreOfCells, HasOtherCell, HasOtherRecords, IsOutOfStep, added_at, removed_at, members_at, sum_below, sum_of_numbers, pass_at, share_at, no_pass}
 use Rattle.set_table.specs.ClosingSteps.{HaveShares, AddsCell, AddsPlace, AddsUpTo}
 use Rattle.set_table.proofs.PassOrder.{stands_in}
 
@@ -75,7 +75,7 @@ pub adds_up : (ps : List PassView) (opened : List ℕ) (n : ℕ) (t : Totals) �
 adds_up ps opened n t all h =
     let g = subst (λ (m : ℕ). AddsUpTo ps opened m t) all h in
     record {
-      opened_is = g.opened_is ∙ ap sum_of (take-length opened);
+      opened_is = g.opened_is ∙ ap sum_of_numbers (take-length opened);
       added = g.added;
       removed = g.removed;
       members = g.members;

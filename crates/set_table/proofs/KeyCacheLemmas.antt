@@ -3,10 +3,10 @@ use Rattle.std.proofs.Common.{◌≡◌, ◌≢◌, ◌⊎◌, inl, inr, ℕ, Li
 use Rattle.std.specs.declared.option.Option.{Option}
 use Rattle.set_table.specs.declared.naming.key_cache.MetKey.{MetKey}
 use Rattle.set_table.specs.KeyCache.{Says, IsMet, AllMet, HasHash, AllHashed}
-use Rattle.set_table.specs.Naming.{Naming, NotesView, Grows, BearsOther, IsPlace, Learns, hash_from, name_at}
+use Rattle.set_table.specs.Naming.{Naming, NotesView, NamingGrows, BearsOther, IsPlace, Learns, hash_from, name_at_place}
 use Rattle.set_table.proofs.PlaceLemmas.{place_grows, same_some}
 
-pub met_grows : (old new : Naming) (slots : List (Option MetKey)) → Grows old new → AllMet old slots → AllMet new slots
+pub met_grows : (old new : Naming) (slots : List (Option MetKey)) → NamingGrows old new → AllMet old slots → AllMet new slots
 met_grows old new slots g met p says = let m = met p says in (m.0, place_grows old new m.0 p g m.1)
 
 -- one slot more
@@ -17,16 +17,16 @@ met_more known old new p here more met other says = elim (more other says) [ inl
 pub recalled : (old new : Naming) (p : ℕ) (name key : List ℕ) → IsMet old p → Learns old new p name → name ≡ key → IsPlace new key p
 recalled old new p name key met learns is =
     let place = place_grows old new met.0 p learns.grows met.1 in
-    subst (λ (k : List ℕ). IsPlace new k p) (same_some met.0 name (name_at new p) place.own learns.here ∙ is) place
+    subst (λ (k : List ℕ). IsPlace new k p) (same_some met.0 name (name_at_place new p) place.own learns.here ∙ is) place
 
 -- the hashes that are kept stay right
-pub hashed_grows : (old new : Naming) (hashes : List ℕ) → Grows old new → AllHashed old hashes → AllHashed new hashes
+pub hashed_grows : (old new : Naming) (hashes : List ℕ) → NamingGrows old new → AllHashed old hashes → AllHashed new hashes
 hashed_grows old new hashes g hashed p some =
     let h = hashed p some in
     record { name = h.name; here = g.same p h.name h.here; hash_is = h.hash_is }
 
 -- what the cache of keys says and the hashes that are kept, of the same names
-pub both_grow : (old new : Naming) (slots : List (Option MetKey)) (hashes : List ℕ) → Grows old new → AllMet old slots × AllHashed old hashes → AllMet new slots × AllHashed new hashes
+pub both_grow : (old new : Naming) (slots : List (Option MetKey)) (hashes : List ℕ) → NamingGrows old new → AllMet old slots × AllHashed old hashes → AllMet new slots × AllHashed new hashes
 both_grow old new slots hashes g both = (met_grows old new slots g both.0, hashed_grows old new hashes g both.1)
 
 -- a name that was learned has its hash

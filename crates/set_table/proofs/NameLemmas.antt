@@ -9,7 +9,7 @@ use Rattle.std.proofs.lemmas.Bool.{cases_eq, cases_order, cases_lt}
 use Rattle.std.specs.declared.option.Option.{Option}
 use Rattle.std.specs.declared.option.Option.TheVariants.{None, Some}
 use Rattle.once_cell.specs.Once.{Agrees}
-use Rattle.set_table.specs.Naming.{Naming, name_at, Grows, Learns, BearsOther, IsPlace, AreNotesOf, IsFull, walk, hash_from}
+use Rattle.set_table.specs.Naming.{Naming, name_at_place, NamingGrows, Learns, BearsOther, IsPlace, AreNotesOf, IsFull, walk, hash_from}
 
 agreed : (k : Option (List ℕ)) (x y : List ℕ) → Agrees k x → k ≡ Some y → y ≡ x
 agreed None x y h e = cc
@@ -25,11 +25,11 @@ none_some : (x : List ℕ) (a : Known) → a ≡ Some x → a ≡ None → ⊥
 none_some x a p q = cc
 
 -- a name put where none or the same was known
-pub learns-set : (old : Naming) (p : ℕ) (x : List ℕ) → p < length old → Agrees (name_at old p) x → Learns old (set old p (Some x)) p x
+pub learns-set : (old : Naming) (p : ℕ) (x : List ℕ) → p < length old → Agrees (name_at_place old p) x → Learns old (set old p (Some x)) p x
 learns-set old p x within same =
-    let keeps : (q : ℕ) (y : List ℕ) → name_at old q ≡ Some y → (q ≡ p) ⊎ (q ≡ p → ⊥) → name_at (set old p (Some x)) q ≡ Some y =
+    let keeps : (q : ℕ) (y : List ℕ) → name_at_place old q ≡ Some y → (q ≡ p) ⊎ (q ≡ p → ⊥) → name_at_place (set old p (Some x)) q ≡ Some y =
     λ q y h c. elim c [
-      | inl e ↦ subst (λ (r : ℕ). name_at (set old p (Some x)) r ≡ Some y) (sym e) (get_or-set_same old p (Some x) None within ∙ ap Some (sym (agreed (name_at old p) x y same (ap (name_at old) (sym e) ∙ h))))
+      | inl e ↦ subst (λ (r : ℕ). name_at_place (set old p (Some x)) r ≡ Some y) (sym e) (get_or-set_same old p (Some x) None within ∙ ap Some (sym (agreed (name_at_place old p) x y same (ap (name_at_place old) (sym e) ∙ h))))
       | inr n ↦ get_or-set_other old p q (Some x) None n ∙ h
     ] in
     record {
@@ -44,7 +44,7 @@ pub seat_learns : {S : Type 0} (f : S → Option (List ℕ)) (xs : List S) (p : 
 seat_learns f xs p s t x within at is same =
     let within' : p < length (map f xs) = subst (λ (n : ℕ). p < n) (sym (length-map xs f)) within in
     let e : map f (set xs p t) ≡ set (map f xs) p (Some x) = map-set f xs p t ∙ ap (set (map f xs) p) is in
-    let old : name_at (map f xs) p ≡ f s = get_or-map f xs p s None within ∙ ap f (sym at) in
+    let old : name_at_place (map f xs) p ≡ f s = get_or-map f xs p s None within ∙ ap f (sym at) in
     subst (λ (ys : Naming). Learns (map f xs) ys p x) (sym e) (learns-set (map f xs) p x within' (subst (λ (k : Option (List ℕ)). Agrees k x) (sym old) same))
 
 -- the two cells of a note and of its place are one
@@ -57,7 +57,7 @@ same_cell f g xs ys p s t e within at at' =
 pub peeked : {S : Type 0} (f : S → Option (List ℕ)) (xs : List S) (p : ℕ) (s t : S) (r : Option (denote.Bor.Bor (List ℕ)))
     → p < length xs → s ≡ get_or xs p s
     → MatchOption r ((f s ≡ None) × (f t ≡ None)) (λ r. (f t ≡ Some r.now) × Agrees (f s) r.now)
-    → MatchOption r ((name_at (map f xs) p ≡ None) × (map f (set xs p t) ≡ map f xs)) (λ r. Learns (map f xs) (map f (set xs p t)) p r.now)
+    → MatchOption r ((name_at_place (map f xs) p ≡ None) × (map f (set xs p t) ≡ map f xs)) (λ r. Learns (map f xs) (map f (set xs p t)) p r.now)
 peeked f xs p s t None within at h = (get_or-map f xs p s None within ∙ ap f (sym at) ∙ h.0, map-set_same f xs p t s (h.1 ∙ sym h.0 ∙ ap f at))
 peeked f xs p s t (Some r) within at h = seat_learns f xs p s t r.now within at h.0 h.1
 
@@ -83,7 +83,7 @@ still_own f g h xs ys p s t cells at same own =
 abbrev pub Passed : Naming → List ℕ → ℕ → Type 0
 Passed names key i = (j : ℕ) → j < i → BearsOther names key (walk (length names) key j)
 
-pub passed_grows : (old new : Naming) (key : List ℕ) (i : ℕ) → Grows old new → Passed old key i → Passed new key i
+pub passed_grows : (old new : Naming) (key : List ℕ) (i : ℕ) → NamingGrows old new → Passed old key i → Passed new key i
 passed_grows old new key i g h j less =
     let o = h j less in
     subst (λ (n : ℕ). BearsOther new key (walk n key j)) (sym g.places) (o.0, g.same _ _ o.1, o.2)
@@ -91,24 +91,24 @@ passed_grows old new key i g h j less =
 pub passed_more : (names : Naming) (key : List ℕ) (i : ℕ) → Passed names key i → BearsOther names key (walk (length names) key i) → Passed names key (i + 1)
 passed_more names key i h o j less = elim (cases_eq j i) [ inl e ↦ subst (λ (k : ℕ). BearsOther names key (walk (length names) key k)) (sym e) o | inr n ↦ h j (omega arith) ]
 
-pub grows_on : (a b c : Naming) → Grows a b → Grows b c → Grows a c
+pub grows_on : (a b c : Naming) → NamingGrows a b → NamingGrows b c → NamingGrows a c
 grows_on a b c g h = record { places = h.places ∙ g.places; same = λ p x e. h.same p x (g.same p x e) }
 
 -- no place of the key was known that the walk has passed
-pub none_passed : (old new : Naming) (key : List ℕ) (i p : ℕ) → Grows old new → Passed new key i → (place : IsPlace old key p) → place.step < i → ⊥
+pub none_passed : (old new : Naming) (key : List ℕ) (i p : ℕ) → NamingGrows old new → Passed new key i → (place : IsPlace old key p) → place.step < i → ⊥
 none_passed old new key i p g h place less =
     let o = h place.step less in
-    let e : name_at new (walk (length old) key place.step) ≡ Some key = g.same _ _ (ap (name_at old) place.is ∙ place.own) in
-    let e' : name_at new (walk (length new) key place.step) ≡ Some key = subst (λ (n : ℕ). name_at new (walk n key place.step) ≡ Some key) (sym g.places) e in
+    let e : name_at_place new (walk (length old) key place.step) ≡ Some key = g.same _ _ (ap (name_at_place old) place.is ∙ place.own) in
+    let e' : name_at_place new (walk (length new) key place.step) ≡ Some key = subst (λ (n : ℕ). name_at_place new (walk n key place.step) ≡ Some key) (sym g.places) e in
     o.2 (some_same o.0 key _ _ o.1 e' refl)
 
 -- nor one where the walk has met a place with no name
-pub none_here : (old new : Naming) (key : List ℕ) (i p : ℕ) → Grows old new → Passed new key i → name_at new (walk (length new) key i) ≡ None → IsPlace old key p → ⊥
+pub none_here : (old new : Naming) (key : List ℕ) (i p : ℕ) → NamingGrows old new → Passed new key i → name_at_place new (walk (length new) key i) ≡ None → IsPlace old key p → ⊥
 none_here old new key i p g h none place =
-    let clash : (x : List ℕ) → name_at old (walk (length old) key i) ≡ Some x → ⊥ =
-    λ x e. none_some x _ (subst (λ (n : ℕ). name_at new (walk n key i) ≡ Some x) (sym g.places) (g.same _ x e)) none in
+    let clash : (x : List ℕ) → name_at_place old (walk (length old) key i) ≡ Some x → ⊥ =
+    λ x e. none_some x _ (subst (λ (n : ℕ). name_at_place new (walk n key i) ≡ Some x) (sym g.places) (g.same _ x e)) none in
     elim (cases_order place.step i) [
-      | inl e ↦ clash key (ap (λ j. name_at old (walk (length old) key j)) (sym e) ∙ ap (name_at old) place.is ∙ place.own)
+      | inl e ↦ clash key (ap (λ j. name_at_place old (walk (length old) key j)) (sym e) ∙ ap (name_at_place old) place.is ∙ place.own)
       | inr c ↦ elim c [ inl less ↦ none_passed old new key i p g h place less | inr more ↦ let o = place.before i more in clash o.0 o.1 ]
     ]
 
@@ -143,7 +143,7 @@ found_at old new key n i p x h l e at places less =
 pub went_on : (old new : Naming) (key : List ℕ) (n i p : ℕ) (x : List ℕ) → Passed old key i → Learns old new p x → (x ≡ key → ⊥) → p ≡ walk n key i → length new ≡ n → Passed new key (i + 1)
 went_on old new key n i p x h l ne at places =
     passed_more new key i (passed_grows old new key i l.grows h)
-    (x, ap (name_at new) (ap (λ m. walk m key i) places ∙ sym at) ∙ l.here, ne)
+    (x, ap (name_at_place new) (ap (λ m. walk m key i) places ∙ sym at) ∙ l.here, ne)
 
 -- or it passes a place by whose name is known to be another
 pub went_by : (names : Naming) (key : List ℕ) (n i p : ℕ) → Passed names key i → BearsOther names key p → p ≡ walk n key i → length names ≡ n → Passed names key (i + 1)

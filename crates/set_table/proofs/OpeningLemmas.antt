@@ -23,10 +23,10 @@ use Rattle.zset_core.specs.SortedSet.{Members, bytes_cmp}
 use Rattle.zset_core.specs.SetAndOwnerViews.{SetView}
 use Rattle.zset_core.specs.World.{World}
 use Rattle.set_table.specs.CellStates.{CellView, new_cell}
-use Rattle.set_table.specs.Naming.{Naming, NotesView, AreNotesOf, Grows, IsPlace, name_at, hash_from}
+use Rattle.set_table.specs.Naming.{Naming, NotesView, AreNotesOf, NamingGrows, IsPlace, name_at_place, hash_from}
 use Rattle.set_table.specs.WorkerPasses.{TableView, PassView, AreSharesOf}
 use Rattle.set_table.specs.Tallies.{ShareView}
-use Rattle.set_table.specs.Opening.{Keyed, keyed_at, HasItsPlace, AllHavePlaces, AreEmptySets, AreIdleSets, AreNewCells, AreNewPasses, AreNewShares, IsNewPass, IsOpened, cards_of, members_of, pass_at, sum_of}
+use Rattle.set_table.specs.Opening.{KeyedMembers, keyed_at, HasItsPlace, AllHavePlaces, AreEmptySets, AreIdleSets, AreNewCells, AreNewPasses, AreNewShares, IsNewPass, IsOpened, cards_of, members_of, pass_at, sum_of_numbers}
 use Rattle.set_table.proofs.PlaceLemmas.{place_grows, same_some}
 
 first : (a b : Bool) → T (a && b) → T a
@@ -43,12 +43,12 @@ less_of Equal h = absurd h
 less_of Greater h = absurd h
 
 -- the keys of sorted entries rise
-below_at : (k : List ℕ) (es : List Keyed) (i : ℕ) → T (below_all bytes_cmp k es) → i < length es → bytes_cmp k (keyed_at es i).0 ≡ Less
+below_at : (k : List ℕ) (es : List KeyedMembers) (i : ℕ) → T (below_all bytes_cmp k es) → i < length es → bytes_cmp k (keyed_at es i).0 ≡ Less
 below_at k [] i h less = absurd (omega arith)
 below_at k (e ∷ es) zero h less = less_of (bytes_cmp k e.0) (first (is_lt (bytes_cmp k e.0)) (below_all bytes_cmp k es) h)
 below_at k (e ∷ es) (suc i) h less = below_at k es i (second (is_lt (bytes_cmp k e.0)) (below_all bytes_cmp k es) h) (omega arith)
 
-rising_at : (es : List Keyed) (i j : ℕ) → T (is_sorted bytes_cmp es) → j < i → i < length es → bytes_cmp (keyed_at es j).0 (keyed_at es i).0 ≡ Less
+rising_at : (es : List KeyedMembers) (i j : ℕ) → T (is_sorted bytes_cmp es) → j < i → i < length es → bytes_cmp (keyed_at es j).0 (keyed_at es i).0 ≡ Less
 rising_at [] i j h before less = absurd (omega arith)
 rising_at (e ∷ es) zero j h before less = absurd (omega arith)
 rising_at (e ∷ es) (suc i) zero h before less = below_at e.0 es i (first (below_all bytes_cmp e.0 es) (is_sorted bytes_cmp es) h) (omega arith)
@@ -86,10 +86,10 @@ next_of xs n d x left rest is split =
       behind = sym (tail_is _ _ _ _ both) ∙ ap (λ k. drop k xs) (sym (add-one n));
     }
 
-abbrev pub no_entry : Keyed
+abbrev pub no_entry : KeyedMembers
 no_entry = ([], fin.empty)
 
-pub none_left : (es : List Keyed) (n : ℕ) (w : World) → n < length es → fin.entries w ≡ drop n es → w ≡ fin.empty → ⊥
+pub none_left : (es : List KeyedMembers) (n : ℕ) (w : World) → n < length es → fin.entries w ≡ drop n es → w ≡ fin.empty → ⊥
 none_left es n w less is empty =
     let none : length (fin.entries w) ≡ 0 = sym (fin.len-entries w) ∙ ap fin.len empty ∙ fin.len-empty bytes_cmp Members in
     omega (arith, less, none, ap length is, length-drop n es)
@@ -101,19 +101,19 @@ place_within names key p place =
     subst (λ (q : ℕ). q < length names) place.is (mod-lt (hash_from 7 key % length names + place.step) some)
 
 -- a place with members bears the key of one of the first n entries
-abbrev pub Filled : List Keyed → ℕ → Naming → List ℕ → Type 0
-Filled es n known opened = (p : ℕ) → (get_or opened p 0 ≡ 0) ⊎ ((j : ℕ) × (j < n) × (name_at known p ≡ Some (keyed_at es j).0))
+abbrev pub Filled : List KeyedMembers → ℕ → Naming → List ℕ → Type 0
+Filled es n known opened = (p : ℕ) → (get_or opened p 0 ≡ 0) ⊎ ((j : ℕ) × (j < n) × (name_at_place known p ≡ Some (keyed_at es j).0))
 
 -- the first n entries stand in their places, and nothing else does
-pub record Placed (es : List Keyed) (n : ℕ) (known : Naming) (opened : List ℕ) : Type 0 where
+pub record Placed (es : List KeyedMembers) (n : ℕ) (known : Naming) (opened : List ℕ) : Type 0 where
   pub each : (i : ℕ) → i < n → HasItsPlace known opened (keyed_at es i).0 (keyed_at es i).1
-  pub total : sum_of opened ≡ members_of (take n es)
+  pub total : sum_of_numbers opened ≡ members_of (take n es)
   pub filled : Filled es n known opened
 
 -- the next entry was given a place
 pub record Step (w : World) (n : ℕ) (old new : Naming) (opened : List ℕ) (p : ℕ) : Type 0 where
   pub less : n < length (fin.entries w)
-  pub grows : Grows old new
+  pub grows : NamingGrows old new
   pub places_are : length new ≡ length opened
   pub place : IsPlace new (keyed_at (fin.entries w) n).0 p
   pub placed : Placed (fin.entries w) n old opened
@@ -121,7 +121,7 @@ pub record Step (w : World) (n : ℕ) (old new : Naming) (opened : List ℕ) (p 
 free : (w : World) (n : ℕ) (old new : Naming) (opened : List ℕ) (p : ℕ) → Step w n old new opened p → get_or opened p 0 ≡ 0
 free w n old new opened p s = elim (s.placed.filled p) [
   | inl e ↦ e
-  | inr h ↦ absurd (keys_apart w n h.0 h.1 s.less (same_some _ _ (name_at new p) (s.grows.same p _ h.2) s.place.own))
+  | inr h ↦ absurd (keys_apart w n h.0 h.1 s.less (same_some _ _ (name_at_place new p) (s.grows.same p _ h.2) s.place.own))
 ]
 
 size_at : World → ℕ → ℕ
@@ -129,7 +129,7 @@ size_at w n = fin.len (keyed_at (fin.entries w) n).1
 
 filled_more : (w : World) (n : ℕ) (old new : Naming) (opened : List ℕ) (p size : ℕ) → Step w n old new opened p → Filled (fin.entries w) (n + 1) new (set opened p size)
 filled_more w n old new opened p size s q = elim (cases_eq q p) [
-  | inl e ↦ inr (n, omega arith, ap (name_at new) e ∙ s.place.own)
+  | inl e ↦ inr (n, omega arith, ap (name_at_place new) e ∙ s.place.own)
   | inr ne ↦ elim (s.placed.filled q) [
     | inl z ↦ inl (get_or-set_other opened p q size 0 ne ∙ z)
     | inr h ↦ inr (h.0, omega (arith, h.1), s.grows.same q _ h.2)
@@ -142,7 +142,7 @@ placed_more w n old new opened p s =
     let within : p < length opened = omega (arith, place_within new (keyed_at es n).0 p s.place, s.places_are) in
     let size = fin.len (keyed_at es n).1 in
     let all = sum_by-set (λ (m : ℕ). m) opened p size 0 within in
-    let more = sum_by_more (λ (e : Keyed). fin.len e.1) es n ([], fin.empty) s.less in
+    let more = sum_by_more (λ (e : KeyedMembers). fin.len e.1) es n ([], fin.empty) s.less in
     record {
       each = λ i less. elim (cases_eq i n) [
         | inl e ↦ subst (λ (k : ℕ). HasItsPlace new (set opened p size) (keyed_at es k).0 (keyed_at es k).1) (sym e) (record { place = p; is = s.place; size = get_or-set_same opened p size 0 within })
@@ -150,7 +150,7 @@ placed_more w n old new opened p s =
             let below : i < n = omega (arith, ne) in
             let h = s.placed.each i below in
             let place = place_grows old new _ h.place s.grows h.is in
-            let apart : h.place ≢ p = λ e. keys_apart w n i below s.less (same_some _ _ (name_at new p) (ap (name_at new) (sym e) ∙ place.own) s.place.own) in
+            let apart : h.place ≢ p = λ e. keys_apart w n i below s.less (same_some _ _ (name_at_place new p) (ap (name_at_place new) (sym e) ∙ place.own) s.place.own) in
             record { place = h.place; is = place; size = get_or-set_other opened p h.place size 0 apart ∙ h.size }
       ];
       total = omega (arith, all, more, free w n old new opened p s, s.placed.total);
@@ -158,7 +158,7 @@ placed_more w n old new opened p s =
     }
 
 -- the same of the sets at the places
-pub took : (w : World) (n : ℕ) (old new : Naming) (sets : List SetView) (p : ℕ) (key : List ℕ) (s : SetView) (left : List Keyed) → IsNext (fin.entries w) n no_entry (key, s.members) left → Grows old new → length new ≡ length sets → IsPlace new key p
+pub took : (w : World) (n : ℕ) (old new : Naming) (sets : List SetView) (p : ℕ) (key : List ℕ) (s : SetView) (left : List KeyedMembers) → IsNext (fin.entries w) n no_entry (key, s.members) left → NamingGrows old new → length new ≡ length sets → IsPlace new key p
     → Placed (fin.entries w) n old (cards_of sets) → Placed (fin.entries w) (n + 1) new (cards_of (set sets p s))
 took w n old new sets p key s left next grows places place placed =
     let es = fin.entries w in
@@ -166,10 +166,10 @@ took w n old new sets p key s left next grows places place placed =
       less = next.less;
       grows = grows;
       places_are = places ∙ sym (length-map sets (λ (s : SetView). fin.len s.members));
-      place = subst (λ (k : List ℕ). IsPlace new k p) (sym (ap (λ (e : Keyed). e.0) next.here)) place;
+      place = subst (λ (k : List ℕ). IsPlace new k p) (sym (ap (λ (e : KeyedMembers). e.0) next.here)) place;
       placed = placed;
     } in
-    subst (Placed es (n + 1) new) (ap (λ (e : Keyed). set (cards_of sets) p (fin.len e.1)) next.here ∙ sym (map-set (λ (s : SetView). fin.len s.members) sets p s)) (placed_more w n old new (cards_of sets) p step)
+    subst (Placed es (n + 1) new) (ap (λ (e : KeyedMembers). set (cards_of sets) p (fin.len e.1)) next.here ∙ sym (map-set (λ (s : SetView). fin.len s.members) sets p s)) (placed_more w n old new (cards_of sets) p step)
 
 -- ---- before the first set, and behind the last
 pub no_members : (sets : List SetView) → All (λ (s : SetView). s.members ≡ fin.empty) sets → (p : ℕ) → get_or (cards_of sets) p 0 ≡ 0
@@ -177,21 +177,21 @@ no_members [] h p = refl
 no_members (s ∷ sets) h zero = ap fin.len (h 0 s (omega arith)) ∙ fin.len-empty bytes_cmp ℤ
 no_members (s ∷ sets) h (suc p) = no_members sets (λ k d less. h (suc k) d (omega (arith, less))) p
 
-pub no_sum : (sets : List SetView) → All (λ (s : SetView). s.members ≡ fin.empty) sets → sum_of (cards_of sets) ≡ 0
+pub no_sum : (sets : List SetView) → All (λ (s : SetView). s.members ≡ fin.empty) sets → sum_of_numbers (cards_of sets) ≡ 0
 no_sum [] h = refl
 no_sum (s ∷ sets) h =
     let none : fin.len s.members ≡ 0 = ap fin.len (h 0 s (omega arith)) ∙ fin.len-empty bytes_cmp ℤ in
     let rest = no_sum sets (λ k d less. h (suc k) d (omega (arith, less))) in
     sum_by-cons (λ (n : ℕ). n) (fin.len s.members) (cards_of sets) ∙ omega (arith, none, rest)
 
-pub placed_none : (es : List Keyed) (known : Naming) (sets : List SetView) → All (λ (s : SetView). s.members ≡ fin.empty) sets → Placed es 0 known (cards_of sets)
+pub placed_none : (es : List KeyedMembers) (known : Naming) (sets : List SetView) → All (λ (s : SetView). s.members ≡ fin.empty) sets → Placed es 0 known (cards_of sets)
 placed_none es known sets h = record {
   each = λ i less. absurd (omega (arith, less));
   total = no_sum sets h;
   filled = λ p. inl (no_members sets h p);
 }
 
-found_each : (P : List ℕ → Members → Type 0) (es : List Keyed) → ((i : ℕ) → i < length es → P (keyed_at es i).0 (keyed_at es i).1) → (q : List ℕ) → IfSome (find bytes_cmp q es) (P q)
+found_each : (P : List ℕ → Members → Type 0) (es : List KeyedMembers) → ((i : ℕ) → i < length es → P (keyed_at es i).0 (keyed_at es i).1) → (q : List ℕ) → IfSome (find bytes_cmp q es) (P q)
 found_each P [] h q = tt
 found_each P (e ∷ es) h q = by (eq_by_cmp bytes_cmp q e.0) refl (found_each P es (λ i less. h (suc i) (omega (arith, less))) q)
   where
@@ -204,7 +204,7 @@ all_have w n known opened all placed key =
     subst (λ (o : Option Members). IfSome o (HasItsPlace known opened key)) (sym (fin.get-entries w key))
     (found_each (HasItsPlace known opened) (fin.entries w) (λ i less. placed.each i (omega (arith, less, all))) key)
 
-pub all_counted : (w : World) (n : ℕ) (known : Naming) (opened : List ℕ) → n ≡ length (fin.entries w) → Placed (fin.entries w) n known opened → sum_of opened ≡ members_of (fin.entries w)
+pub all_counted : (w : World) (n : ℕ) (known : Naming) (opened : List ℕ) → n ≡ length (fin.entries w) → Placed (fin.entries w) n known opened → sum_of_numbers opened ≡ members_of (fin.entries w)
 all_counted w n known opened all placed = placed.total ∙ ap (λ k. members_of (take k (fin.entries w))) all ∙ ap members_of (take-length (fin.entries w))
 
 -- ---- lists of sets
@@ -255,11 +255,11 @@ sized places cells names opened sets named placed is made =
     let all : length opened ≡ length sets = ap length is ∙ length-map sets (λ (s : SetView). fin.len s.members) in
     record { names_are = sym placed ∙ sym all; cells_are = made ∙ sym all; places_are = all ∙ placed ∙ named }
 
-pub opened_table : (w : World) (places passes max_runs records before : ℕ) (names opened cards : List ℕ) → length opened ≡ places → opened ≡ cards → before ≡ records → sum_of cards ≡ members_of (fin.entries w)
+pub opened_table : (w : World) (places passes max_runs records before : ℕ) (names opened cards : List ℕ) → length opened ≡ places → opened ≡ cards → before ≡ records → sum_of_numbers cards ≡ members_of (fin.entries w)
     → IsOpened w places passes max_runs records (record { names = names; opened = opened; passes = passes; max_runs = max_runs; records_before = before })
 opened_table w places passes max_runs records before names opened cards sizes is same sum = record {
   places_are = sizes;
-  members = ap sum_of is ∙ sum;
+  members = ap sum_of_numbers is ∙ sum;
   passes_are = refl;
   max_runs_is = refl;
   records_are = same;

@@ -3,7 +3,7 @@ use Rattle.std.proofs.Common.{◌≡◌, ℕ, ◌∙◌, List, sym, ap, subst, a
 use Rattle.std.specs.declared.option.Option.{Option}
 use Rattle.std.specs.declared.option.Option.TheVariants.{None, Some}
 use Rattle.zset_core.specs.AbstractCommand.{Meaning, Ping, Asks, Changes, key_of, is_creating}
-use Rattle.set_table.specs.Naming.{Naming, Grows, BearsOther, IsPlace, walk}
+use Rattle.set_table.specs.Naming.{Naming, NamingGrows, BearsOther, IsPlace, walk}
 
 pub joined : {X : Type 0} (o : Option X) (A : Type 0) (B : X → Type 0) → IfSome o B → IfNone o A → MatchOption o A B
 joined None A B s n = n
@@ -12,7 +12,7 @@ joined (Some x) A B s n = s
 pub same_some : (x y : List ℕ) (o : Option (List ℕ)) → o ≡ Some x → o ≡ Some y → x ≡ y
 same_some x y o p q = cc
 
-pub place_grows : (old new : Naming) (key : List ℕ) (p : ℕ) → Grows old new → IsPlace old key p → IsPlace new key p
+pub place_grows : (old new : Naming) (key : List ℕ) (p : ℕ) → NamingGrows old new → IsPlace old key p → IsPlace new key p
 place_grows old new key p g place = record {
   step = place.step;
   within = omega (arith, place.within, g.places);

@@ -17,11 +17,11 @@ use Rattle.append_log.proofs.CallerLemmas.{unchanged}
 use Rattle.set_table.specs.declared.counts.OwnCounts.{OwnCounts}
 use Rattle.set_table.specs.Tallies.{no_counts}
 use Rattle.set_table.specs.TableAnswers.{IsSetRefusal, is_increase, is_sum}
-use Rattle.set_table.specs.SetSteps.{Stepped, IsLogged, Changes, IsHindered, IsAppendRefusal}
+use Rattle.set_table.specs.SetSteps.{SetStepped, IsLogged, ChangesSet, IsHindered, IsAppendRefusal}
 
 -- a reading leaves the set
-pub read_step : (m : Members) (command : Asked) (reply : Response) (own : OwnCounts) → own ≡ no_counts → step m command.meaning ≡ Some (m, reply) → Stepped m m command reply own
-read_step m command reply own none is = subst (λ (n : OwnCounts). Stepped m m command reply n) (sym none)
+pub read_step : (m : Members) (command : Asked) (reply : Response) (own : OwnCounts) → own ≡ no_counts → step m command.meaning ≡ Some (m, reply) → SetStepped m m command reply own
+read_step m command reply own none is = subst (λ (n : OwnCounts). SetStepped m m command reply n) (sym none)
     (record {
       step_is = is;
       added = missing_none m m (λ q there. there);
@@ -30,10 +30,10 @@ read_step m command reply own none is = subst (λ (n : OwnCounts). Stepped m m c
       few = omega arith;
     })
 
-prepared : (m : Members) (command : Asked) (o : Outline) (next : Option Next) → IsTrue (is_writing command.meaning) → IsPreparedFor m command.meaning next → IfSome next (λ n. IsOutline o m n.members) → IsTrue o.changed → Changes m command
+prepared : (m : Members) (command : Asked) (o : Outline) (next : Option Next) → IsTrue (is_writing command.meaning) → IsPreparedFor m command.meaning next → IfSome next (λ n. IsOutline o m n.members) → IsTrue o.changed → ChangesSet m command
 prepared m command o next writes ready outlined changed = by (step m command.meaning) refl next ready outlined
   where
-    by : (s : Option (Members × Response)) → step m command.meaning ≡ s → (next : Option Next) → Shows s command.meaning next → IfSome next (λ n. IsOutline o m n.members) → Changes m command
+    by : (s : Option (Members × Response)) → step m command.meaning ≡ s → (next : Option Next) → Shows s command.meaning next → IfSome next (λ n. IsOutline o m n.members) → ChangesSet m command
     by None is next shows h = absurd shows
     by (Some done) is next shows h =
         let at = subst (λ (n : Option Next). IfSome n (λ n. IsOutline o m n.members)) shows h in
@@ -52,7 +52,7 @@ pub hinders : (m : Members) (command : Asked) (o : Outline) (next : Option Next)
     → IsAppendRefusal e → IsHindered e m command
 hinders m command o next e writes ready outlined changed h = by e h
   where
-    c : Changes m command
+    c : ChangesSet m command
     c = prepared m command o next writes ready outlined changed
 
     by : (e : Refusal) → IsAppendRefusal e → IsHindered e m command

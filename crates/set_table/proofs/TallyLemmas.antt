@@ -13,8 +13,8 @@ use Rattle.set_table.specs.declared.limits.TheConstants.{MAX_RUNS}
 use Rattle.set_table.specs.declared.counts.Counts.{Counts}
 use Rattle.set_table.specs.declared.counts.OwnCounts.{OwnCounts}
 use Rattle.set_table.specs.Tallies.{ShareView, empty_tally, tally_after, total_of, runs_of, added_of, removed_of, share_after_run, no_counts}
-use Rattle.set_table.specs.SetSteps.{Stepped, IsLawful, IsLogged, AnswerView}
-use Rattle.set_table.specs.CellStates.{CellView, IsWhole, InStep, HasRun, HasRead, HasNoReading, WasRun, counts_of, new_cell}
+use Rattle.set_table.specs.SetSteps.{SetStepped, IsLawful, IsLogged, AnswerView}
+use Rattle.set_table.specs.CellStates.{CellView, CellIsWhole, InStep, HasRun, HasRead, HasNoReading, WasRun, counts_of, new_cell}
 use Rattle.set_table.specs.WorkerPasses.{AreSharesOf, WasAnswered, no_share}
 
 -- what one pass was told is within the totals
@@ -56,8 +56,8 @@ sums records p t own less at =
 abbrev pub after_run : CellView → ShareView → OwnCounts → SetView → ℕ → CellView
 after_run c s own kept appended = record { place = c.place; sorted_set = kept; opened = c.opened; max_runs = c.max_runs; tallies = set c.tallies s.pass (tally_after s.tally own); appended = appended }
 
-pub whole_after : (c : CellView) (s : ShareView) (own : OwnCounts) (kept : SetView) (appended : ℕ) (command : Asked) (reply : Response) → IsWhole c → InStep c s → runs_of c.tallies < c.max_runs → kept.next ≡ None
-    → Stepped c.sorted_set.members kept.members command reply own → IsWhole (after_run c s own kept appended)
+pub whole_after : (c : CellView) (s : ShareView) (own : OwnCounts) (kept : SetView) (appended : ℕ) (command : Asked) (reply : Response) → CellIsWhole c → InStep c s → runs_of c.tallies < c.max_runs → kept.next ≡ None
+    → SetStepped c.sorted_set.members kept.members command reply own → CellIsWhole (after_run c s own kept appended)
 whole_after c s own kept appended command reply whole step room idle stepped =
     let u = sums c.tallies s.pass s.tally own step.pass step.tally in
     record {
@@ -85,7 +85,7 @@ still c s own kept appended h = record {
   tally = get_or-set_same c.tallies s.pass (tally_after s.tally own) empty_tally h.pass;
 }
 
-pub lawful : (c : CellView) (kept : SetView) (command : Asked) (reply : Response) (found : Counts) (own : OwnCounts) → IsWhole c → Stepped c.sorted_set.members kept.members command reply own → found ≡ counts_of c → IsLawful command reply found own
+pub lawful : (c : CellView) (kept : SetView) (command : Asked) (reply : Response) (found : Counts) (own : OwnCounts) → CellIsWhole c → SetStepped c.sorted_set.members kept.members command reply own → found ≡ counts_of c → IsLawful command reply found own
 lawful c kept command reply found own whole stepped is = record {
   members = c.sorted_set.members;
   after = kept.members;
@@ -94,8 +94,8 @@ lawful c kept command reply found own whole stepped is = record {
 }
 
 -- what a run leaves and answers
-pub ran : (c : CellView) (s : ShareView) (own : OwnCounts) (kept : SetView) (appended : ℕ) (command : Asked) (reply : Response) (found : Counts) → IsWhole c → InStep c s → runs_of c.tallies < c.max_runs
-    → Stepped c.sorted_set.members kept.members command reply own → IsLogged c.sorted_set.members kept.members c.appended appended → found ≡ counts_of c
+pub ran : (c : CellView) (s : ShareView) (own : OwnCounts) (kept : SetView) (appended : ℕ) (command : Asked) (reply : Response) (found : Counts) → CellIsWhole c → InStep c s → runs_of c.tallies < c.max_runs
+    → SetStepped c.sorted_set.members kept.members command reply own → IsLogged c.sorted_set.members kept.members c.appended appended → found ≡ counts_of c
     → HasRun c (after_run c s own kept appended) s (share_after_run s own) command (record { command = command; place = c.place; reply = reply; found = found; own = own })
 ran c s own kept appended command reply found whole step room stepped logged is = record {
   in_step = step;
@@ -112,8 +112,8 @@ ran c s own kept appended command reply found whole step room stepped logged is 
 }
 
 -- the same of a cell by its value, and of what was noted
-pub ran_as : (v c : CellView) (s t : ShareView) (own : OwnCounts) (kept : SetView) (records : List Tally) (appended : ℕ) (command : Asked) (reply : Response) (found : Counts) (a : AnswerView) → v ≡ c → IsWhole v → InStep c s → runs_of v.tallies < v.max_runs
-    → Stepped v.sorted_set.members kept.members command reply own → IsLogged v.sorted_set.members kept.members v.appended appended → found ≡ counts_of c
+pub ran_as : (v c : CellView) (s t : ShareView) (own : OwnCounts) (kept : SetView) (records : List Tally) (appended : ℕ) (command : Asked) (reply : Response) (found : Counts) (a : AnswerView) → v ≡ c → CellIsWhole v → InStep c s → runs_of v.tallies < v.max_runs
+    → SetStepped v.sorted_set.members kept.members command reply own → IsLogged v.sorted_set.members kept.members v.appended appended → found ≡ counts_of c
     → records ≡ set v.tallies s.pass (tally_after s.tally own) → t ≡ share_after_run s own → a ≡ record { command = command; place = v.place; reply = reply; found = found; own = own }
     → HasRun c (record { place = v.place; sorted_set = kept; opened = v.opened; max_runs = v.max_runs; tallies = records; appended = appended }) s t command a
 ran_as v c s t own kept records appended command reply found a is whole step room stepped logged at noted told answer =
@@ -123,17 +123,17 @@ ran_as v c s t own kept records appended command reply found a is whole step roo
     (subst (λ (d : CellView). HasRun d (after_run v s own kept appended) s (share_after_run s own) command (record { command = command; place = v.place; reply = reply; found = found; own = own })) is
     (ran v s own kept appended command reply found whole (subst (λ (d : CellView). InStep d s) (sym is) step) room stepped logged (at ∙ ap counts_of (sym is))))))
 
-pub kept_whole : (v c : CellView) (s : ShareView) (total left : Tally) (own : OwnCounts) (kept : SetView) (records : List Tally) (appended : ℕ) (command : Asked) (reply : Response) → v ≡ c → IsWhole v → InStep c s → runs_of v.tallies < v.max_runs → kept.next ≡ None
-    → Stepped v.sorted_set.members kept.members command reply own → total ≡ total_of v.tallies
+pub kept_whole : (v c : CellView) (s : ShareView) (total left : Tally) (own : OwnCounts) (kept : SetView) (records : List Tally) (appended : ℕ) (command : Asked) (reply : Response) → v ≡ c → CellIsWhole v → InStep c s → runs_of v.tallies < v.max_runs → kept.next ≡ None
+    → SetStepped v.sorted_set.members kept.members command reply own → total ≡ total_of v.tallies
     → records ≡ set v.tallies s.pass (tally_after s.tally own) → left ≡ tally_after total own
-    → IsWhole (record { place = v.place; sorted_set = kept; opened = v.opened; max_runs = v.max_runs; tallies = records; appended = appended }) × (left ≡ total_of records)
+    → CellIsWhole (record { place = v.place; sorted_set = kept; opened = v.opened; max_runs = v.max_runs; tallies = records; appended = appended }) × (left ≡ total_of records)
 kept_whole v c s total left own kept records appended command reply is whole step room idle stepped sum noted told =
     let here : InStep v s = subst (λ (d : CellView). InStep d s) (sym is) step in (
-      subst (λ (rs : List Tally). IsWhole (record { place = v.place; sorted_set = kept; opened = v.opened; max_runs = v.max_runs; tallies = rs; appended = appended })) (sym noted) (whole_after v s own kept appended command reply whole here room idle stepped),
+      subst (λ (rs : List Tally). CellIsWhole (record { place = v.place; sorted_set = kept; opened = v.opened; max_runs = v.max_runs; tallies = rs; appended = appended })) (sym noted) (whole_after v s own kept appended command reply whole here room idle stepped),
       told ∙ total_after v s total own here sum ∙ ap total_of (sym noted),
     )
 
-pub has_read : (v c : CellView) (s : ShareView) (command : Asked) (reply : Response) (found : Counts) (own : OwnCounts) (a : AnswerView) → v ≡ c → IsWhole v → InStep c s → Stepped v.sorted_set.members v.sorted_set.members command reply own → own ≡ no_counts → found ≡ counts_of c
+pub has_read : (v c : CellView) (s : ShareView) (command : Asked) (reply : Response) (found : Counts) (own : OwnCounts) (a : AnswerView) → v ≡ c → CellIsWhole v → InStep c s → SetStepped v.sorted_set.members v.sorted_set.members command reply own → own ≡ no_counts → found ≡ counts_of c
     → a ≡ record { command = command; place = v.place; reply = reply; found = found; own = own } → HasRead c s command a
 has_read v c s command reply found own a is whole step stepped none at answer =
     subst (λ (b : AnswerView). HasRead c s command b) (sym answer)
@@ -190,7 +190,7 @@ if_read_by opened shares own number place c s command (Some (Ok a)) are here rea
 
 -- a new cell
 pub whole_new : (place : ℕ) (kept : SetView) (opened max_runs appended passes : ℕ) (tallies : List Tally) → kept.next ≡ None → opened ≡ fin.len kept.members → opened < 2 ^ 63 → max_runs ≤ MAX_RUNS → tallies ≡ replicate passes empty_tally
-    → IsWhole (record { place = place; sorted_set = kept; opened = opened; max_runs = max_runs; tallies = tallies; appended = appended }) × (empty_tally ≡ total_of tallies)
+    → CellIsWhole (record { place = place; sorted_set = kept; opened = opened; max_runs = max_runs; tallies = tallies; appended = appended }) × (empty_tally ≡ total_of tallies)
 whole_new place kept opened max_runs appended passes tallies idle card few most is =
     let runs : runs_of tallies ≡ 0 = ap runs_of is ∙ sum_by-replicate (λ (t : Tally). t.runs) passes empty_tally ∙ none in
     let added : added_of tallies ≡ 0 = ap added_of is ∙ sum_by-replicate (λ (t : Tally). t.added) passes empty_tally ∙ none in

@@ -11,7 +11,7 @@ use Rattle.set_table.specs.declared.counts.Tally.{Tally}
 use Rattle.set_table.specs.declared.limits.TheConstants.{MAX_RUNS}
 use Rattle.set_table.specs.declared.counts.Counts.{Counts}
 use Rattle.set_table.specs.Tallies.{ShareView, runs_of, added_of, removed_of, empty_tally, tally_after, share_after_run, no_counts}
-use Rattle.set_table.specs.SetSteps.{AnswerView, Stepped, IsLawful, IsLogged, IsHindered}
+use Rattle.set_table.specs.SetSteps.{AnswerView, SetStepped, IsLawful, IsLogged, IsHindered}
 
 -- a cell: its place's number, its set, the members at opening, how many runs it may answer, for each pass what it was
 -- answered here, and how many records were appended for it
@@ -28,7 +28,7 @@ abbrev pub new_cell : ℕ → SetView → ℕ → ℕ → ℕ → CellView
 new_cell place set max_runs passes appended = record { place = place; sorted_set = set; opened = fin.len set.members; max_runs = max_runs; tallies = replicate passes empty_tally; appended = appended }
 
 -- nothing is prepared, and the members are those at opening and what the passes were told since
-pub record IsWhole (c : CellView) : Type 0 where
+pub record CellIsWhole (c : CellView) : Type 0 where
   pub idle : c.sorted_set.next ≡ None
   pub adds_up : fin.len c.sorted_set.members + removed_of c.tallies ≡ c.opened + added_of c.tallies
   pub within : runs_of c.tallies ≤ c.max_runs
@@ -51,7 +51,7 @@ pub record HasRun (c d : CellView) (s t : ShareView) (command : Asked) (a : Answ
   pub in_step : InStep c s
   pub still : InStep d t
   pub room : runs_of c.tallies < c.max_runs
-  pub stepped : Stepped c.sorted_set.members d.sorted_set.members command a.reply a.own
+  pub stepped : SetStepped c.sorted_set.members d.sorted_set.members command a.reply a.own
   pub logged : IsLogged c.sorted_set.members d.sorted_set.members c.appended d.appended
   pub cell : d ≡ record c { sorted_set = d.sorted_set; tallies = set c.tallies s.pass (tally_after s.tally a.own); appended = d.appended }
   pub share : t ≡ share_after_run s a.own
@@ -81,7 +81,7 @@ HasCause BadInteger c s command = ⊥
 HasCause TableFull c s command = ⊥
 
 -- what a run that was refused leaves; the set's column may have merged pending rows all the same
-pub record IsRefused (c d : CellView) (s t : ShareView) (command : Asked) (e : Refusal) : Type 0 where
+pub record RunIsRefused (c d : CellView) (s t : ShareView) (command : Asked) (e : Refusal) : Type 0 where
   pub cell : d ≡ record c { sorted_set = d.sorted_set }
   pub members : d.sorted_set.members ≡ c.sorted_set.members
   pub share : t ≡ s
@@ -90,7 +90,7 @@ pub record IsRefused (c d : CellView) (s t : ShareView) (command : Asked) (e : R
 -- what a reading under a shared lock answers
 pub record HasRead (c : CellView) (s : ShareView) (command : Asked) (a : AnswerView) : Type 0 where
   pub in_step : InStep c s
-  pub stepped : Stepped c.sorted_set.members c.sorted_set.members command a.reply a.own
+  pub stepped : SetStepped c.sorted_set.members c.sorted_set.members command a.reply a.own
   pub own_is : a.own ≡ no_counts
   pub command_is : a.command ≡ command
   pub place_is : a.place ≡ c.place

@@ -3,7 +3,7 @@ use Rattle.std.specs.Prelude.{◌≡◌, ℕ, ◌+◌, ◌*◌, ◌^◌, ◌≤�
 use Rattle.set_table.specs.WorkerPasses.{PassView}
 use Rattle.std.specs.FinMap as fin
 use Rattle.set_table.specs.CellStates.{CellView}
-use Rattle.set_table.specs.ClosingTotals.{Agrees, pass_at, share_at, added_at, removed_at, members_at, sum_below, sum_of}
+use Rattle.set_table.specs.ClosingTotals.{Agrees, pass_at, share_at, added_at, removed_at, members_at, sum_below, sum_of_numbers}
 use Rattle.set_table.specs.declared.table.close.totals.Totals.{Totals}
 
 -- the first n of the passes stand in the order of their numbers
@@ -32,7 +32,7 @@ pub record AddsCell (passes : List PassView) (max_runs place : ℕ) (cell : Cell
 
 -- the totals of the first n places
 pub record AddsUpTo (passes : List PassView) (opened : List ℕ) (n : ℕ) (t : Totals) : Type 0 where
-  pub opened_is : t.opened ≡ sum_of (take n opened)
+  pub opened_is : t.opened ≡ sum_of_numbers (take n opened)
   pub added : t.added ≡ sum_below n (λ place. added_at passes place)
   pub removed : t.removed ≡ sum_below n (λ place. removed_at passes place)
   pub members : t.members ≡ sum_below n (λ place. members_at passes opened place)

@@ -3,9 +3,9 @@ use Rattle.std.specs.Prelude.{◌≡◌, ℕ, ◌+◌, ◌-◌, ◌<◌, ◌⊎�
 use Rattle.std.specs.List.{sum_by}
 use Rattle.std.proofs.Math.ListN.{get_or}
 use Rattle.std.specs.FinMap as fin
-use Rattle.set_table.specs.CellStates.{CellView, IsWhole, InStep}
-use Rattle.set_table.specs.Naming.{name_at, IsPlace}
-pub use Rattle.set_table.specs.Opening.{no_pass, pass_at, sum_of}
+use Rattle.set_table.specs.CellStates.{CellView, CellIsWhole, InStep}
+use Rattle.set_table.specs.Naming.{name_at_place, IsPlace}
+pub use Rattle.set_table.specs.Opening.{no_pass, pass_at, sum_of_numbers}
 use Rattle.set_table.specs.WorkerPasses.{PassView, no_share}
 use Rattle.set_table.specs.Tallies.{ShareView}
 use Rattle.set_table.specs.declared.table.close.totals.Totals.{Totals}
@@ -37,7 +37,7 @@ sum_below (suc n) f = sum_below n f + f n
 -- the totals of a table whose places had so many members at opening: sums over its places, of which those with a member
 -- are the sets
 pub record AddsUp (passes : List PassView) (opened : List ℕ) (t : Totals) : Type 0 where
-  pub opened_is : t.opened ≡ sum_of opened
+  pub opened_is : t.opened ≡ sum_of_numbers opened
   pub added : t.added ≡ sum_below (length opened) (λ place. added_at passes place)
   pub removed : t.removed ≡ sum_below (length opened) (λ place. removed_at passes place)
   pub members : t.members ≡ sum_below (length opened) (λ place. members_at passes opened place)
@@ -47,7 +47,7 @@ pub record AddsUp (passes : List PassView) (opened : List ℕ) (t : Totals) : Ty
 -- a place's cell, as it was when the table was closed: it was whole, might answer as many runs as the table says, and told of
 -- each pass what that pass was answered there
 pub record Agrees (passes : List PassView) (max_runs place : ℕ) (cell : CellView) : Type 0 where
-  pub whole : IsWhole cell
+  pub whole : CellIsWhole cell
   pub runs : cell.max_runs ≡ max_runs
   pub as_many : length cell.tallies ≡ length passes
   pub in_step : (i : ℕ) → i < length passes → InStep cell (share_at (pass_at passes i) place)
@@ -65,7 +65,7 @@ pub record HasOtherCell (passes : List PassView) (max_runs : ℕ) (opened : List
   pub place : ℕ
   pub within : place < length opened
   pub cell : CellView
-  pub whole : IsWhole cell
+  pub whole : CellIsWhole cell
   pub differs : cell.opened ≡ get_or opened place 0 → Agrees passes max_runs place cell → ⊥
 
 -- the cells' records, with those before, are not as many as the log has
@@ -82,7 +82,7 @@ IsOutOfStep passes max_runs opened before = HasOtherCell passes max_runs opened 
 
 -- where two of the passes know a place's name, it is the same
 abbrev pub AgreeAt : List PassView → ℕ → Type 0
-AgreeAt passes place = (i j : ℕ) (x y : List ℕ) → name_at (pass_at passes i).notes.known place ≡ Some x → name_at (pass_at passes j).notes.known place ≡ Some y → x ≡ y
+AgreeAt passes place = (i j : ℕ) (x y : List ℕ) → name_at_place (pass_at passes i).notes.known place ≡ Some x → name_at_place (pass_at passes j).notes.known place ≡ Some y → x ≡ y
 
 -- no key has two places, whichever of the passes know them
 abbrev pub HaveOnePlace : List PassView → Type 0

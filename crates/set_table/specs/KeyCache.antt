@@ -3,7 +3,7 @@ use Rattle.std.specs.Prelude.{◌≡◌, ◌≢◌, ℕ, List}
 use Rattle.std.proofs.Math.ListN.{get_or}
 use Rattle.std.specs.declared.option.Option.{Option}
 use Rattle.std.specs.declared.option.Option.TheVariants.{None, Some}
-use Rattle.set_table.specs.Naming.{Naming, IsPlace, hash_from, name_at}
+use Rattle.set_table.specs.Naming.{Naming, IsPlace, hash_from, name_at_place}
 use Rattle.set_table.specs.declared.naming.key_cache.MetKey.{MetKey}
 
 -- a slot says this place
@@ -24,7 +24,7 @@ AllMet known slots = (place : ℕ) → Says slots place → IsMet known place
 -- the name that is known at the place has this hash
 pub record HasHash (known : Naming) (place hash : ℕ) : Type 0 where
   pub name : List ℕ
-  pub here : name_at known place ≡ Some name
+  pub here : name_at_place known place ≡ Some name
   pub hash_is : hash_from 7 name ≡ hash
 
 -- each hash that is kept, which is one other than 0, is that of its place's name

@@ -19,25 +19,25 @@ hash_from h (b ∷ bs) = hash_from ((31 * h + b) % 2 ^ 32) bs
 abbrev pub walk : ℕ → List ℕ → ℕ → ℕ
 walk n key step = (hash_from 7 key % n + step) % n
 
-abbrev pub name_at : Naming → ℕ → Option (List ℕ)
-name_at names place = get_or names place None
+abbrev pub name_at_place : Naming → ℕ → Option (List ℕ)
+name_at_place names place = get_or names place None
 
 -- the place is known to bear another name than the key
 abbrev pub BearsOther : Naming → List ℕ → ℕ → Type 0
-BearsOther names key place = (name : List ℕ) × (name_at names place ≡ Some name) × (name ≢ key)
+BearsOther names key place = (name : List ℕ) × (name_at_place names place ≡ Some name) × (name ≢ key)
 
 -- the place bears the key's name, and every place before it on the key's walk another
 pub record IsPlace (names : Naming) (key : List ℕ) (place : ℕ) : Type 0 where
   pub step : ℕ
   pub within : step < length names
   pub is : walk (length names) key step ≡ place
-  pub own : name_at names place ≡ Some key
+  pub own : name_at_place names place ≡ Some key
   pub before : (earlier : ℕ) → earlier < step → BearsOther names key (walk (length names) key earlier)
 
 -- all that was known is known
-pub record Grows (old new : Naming) : Type 0 where
+pub record NamingGrows (old new : Naming) : Type 0 where
   pub places : length new ≡ length old
-  pub same : (place : ℕ) (name : List ℕ) → name_at old place ≡ Some name → name_at new place ≡ Some name
+  pub same : (place : ℕ) (name : List ℕ) → name_at_place old place ≡ Some name → name_at_place new place ≡ Some name
 
 -- every place is known to bear another name
 abbrev pub IsFull : Naming → List ℕ → Type 0
@@ -45,8 +45,8 @@ IsFull names key = (place : ℕ) → place < length names → BearsOther names k
 
 -- a name was found at a place, and nothing was forgotten
 pub record Learns (old new : Naming) (place : ℕ) (name : List ℕ) : Type 0 where
-  pub grows : Grows old new
-  pub here : name_at new place ≡ Some name
+  pub grows : NamingGrows old new
+  pub here : name_at_place new place ≡ Some name
 
 -- why a claim is refused
 abbrev pub IsUnclaimed : ClaimFault → Naming → List ℕ → Type 0

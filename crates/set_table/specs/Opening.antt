@@ -14,18 +14,18 @@ use Rattle.set_table.specs.declared.open.TableOpenFault.{TableOpenFault}
 use Rattle.set_table.specs.declared.open.TableOpenFault.TheVariants.{NoMemory, TooManyKeys}
 
 -- a key with its members
-abbrev pub Keyed : Type 0
-Keyed = List ℕ × Members
+abbrev pub KeyedMembers : Type 0
+KeyedMembers = List ℕ × Members
 
-abbrev pub keyed_at : List Keyed → ℕ → Keyed
+abbrev pub keyed_at : List KeyedMembers → ℕ → KeyedMembers
 keyed_at entries i = get_or entries i ([], fin.empty)
 
 -- how many members the sets of keys have together
-abbrev pub members_of : List Keyed → ℕ
+abbrev pub members_of : List KeyedMembers → ℕ
 members_of entries = sum_by (λ e. fin.len e.1) entries
 
-abbrev pub sum_of : List ℕ → ℕ
-sum_of numbers = sum_by (λ n. n) numbers
+abbrev pub sum_of_numbers : List ℕ → ℕ
+sum_of_numbers numbers = sum_by (λ n. n) numbers
 
 -- the key's place is known, and was opened with as many members as the key's set has
 pub record HasItsPlace (known : Naming) (opened : List ℕ) (key : List ℕ) (members : Members) : Type 0 where
@@ -40,7 +40,7 @@ AllHavePlaces world known opened = (key : List ℕ) → IfSome (fin.get world ke
 -- a table of so many places and passes, that was opened with the members of a world
 pub record IsOpened (world : World) (places passes max_runs records : ℕ) (table : TableView) : Type 0 where
   pub places_are : length table.opened ≡ places
-  pub members : sum_of table.opened ≡ members_of (fin.entries world)
+  pub members : sum_of_numbers table.opened ≡ members_of (fin.entries world)
   pub passes_are : table.passes ≡ passes
   pub max_runs_is : table.max_runs ≡ max_runs
   pub records_are : table.records_before ≡ records

@@ -13,7 +13,7 @@ use Rattle.set_table.specs.declared.counts.Counts.{Counts}
 use Rattle.set_table.specs.declared.counts.OwnCounts.{OwnCounts}
 
 -- what a command made of a set, its reply, and how many members came in and left
-pub record Stepped (old new : Members) (command : Asked) (reply : Response) (own : OwnCounts) : Type 0 where
+pub record SetStepped (old new : Members) (command : Asked) (reply : Response) (own : OwnCounts) : Type 0 where
   pub step_is : step old command.meaning ≡ Some (new, reply)
   pub added : own.added ≡ missing old new
   pub removed : own.removed ≡ missing new old
@@ -25,14 +25,14 @@ pub record IsLawful (command : Asked) (reply : Response) (found : Counts) (own :
   pub members : Members
   pub after : Members
   pub size : fin.len members + found.removed ≡ found.opened + found.added
-  pub stepped : Stepped members after command reply own
+  pub stepped : SetStepped members after command reply own
 
 -- one record was appended where the set became another, and else none
 pub record IsLogged (old new : Members) (before after : ℕ) : Type 0 where
   pub which : ((new ≡ old) × (after ≡ before)) ⊎ ((new ≢ old) × (after ≡ before + 1))
 
 -- the command makes another set of this one
-pub record Changes (members : Members) (command : Asked) : Type 0 where
+pub record ChangesSet (members : Members) (command : Asked) : Type 0 where
   pub writes : IsTrue (is_writing command.meaning)
   pub next : Members
   pub reply : Response
@@ -43,9 +43,9 @@ pub record Changes (members : Members) (command : Asked) : Type 0 where
 abbrev pub IsHindered : Refusal → Members → Asked → Type 0
 IsHindered NoMemory members command = Unit {0}
 IsHindered ScoreOverflow members command = step members command.meaning ≡ None
-IsHindered LogBroken members command = Changes members command
-IsHindered LogFull members command = Changes members command
-IsHindered LogRefused members command = Changes members command
+IsHindered LogBroken members command = ChangesSet members command
+IsHindered LogFull members command = ChangesSet members command
+IsHindered LogRefused members command = ChangesSet members command
 IsHindered _ members command = ⊥
 
 -- why a record is not appended

@@ -39,7 +39,7 @@ abbrev pub share_after_run : ShareView → OwnCounts → ShareView
 share_after_run s own = record { place = s.place; pass = s.pass; opened = s.opened; tally = tally_after s.tally own }
 
 -- one run more fits into numbers of 64 bits
-pub record HasRoom (t : Tally) (own : OwnCounts) : Type 0 where
+pub record TallyHasRoom (t : Tally) (own : OwnCounts) : Type 0 where
   pub runs : t.runs + 1 < 2 ^ 64
   pub added : t.added + own.added < 2 ^ 64
   pub removed : t.removed + own.removed < 2 ^ 64

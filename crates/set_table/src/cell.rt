@@ -10,9 +10,9 @@ ghost use Rattle.resp_wire.specs.Response.{response_of};
 ghost use Rattle.zset_core.specs.Semantics.{step};
 ghost use Rattle.zset_core.specs.AnswerableAsItStands.{IsReadyFor, ListsWindow};
 ghost use Rattle.zset_core.specs.SortedSet.{pairs};
-ghost use Rattle.set_table.specs.CellStates.{HasNoReading, HasRead, HasRun, InStep, IsRefused, IsWhole, WasRun, counts_of, new_cell};
+ghost use Rattle.set_table.specs.CellStates.{HasNoReading, HasRead, HasRun, InStep, RunIsRefused, CellIsWhole, WasRun, counts_of, new_cell};
 ghost use Rattle.set_table.specs.TableAnswers.{IsSetRefusal};
-ghost use Rattle.set_table.specs.Tallies.{HasRoom, runs_of, share_after_run, tally_after};
+ghost use Rattle.set_table.specs.Tallies.{TallyHasRoom, runs_of, share_after_run, tally_after};
 
 mod numbers;
 mod step;
@@ -49,7 +49,7 @@ pub struct Cell<H: BuildHasher, L: Ledger, A: Allocator + Copy> {
 
 impl<H: BuildHasher, L: Ledger, A: Allocator + Copy> Model for Cell<H, L, A> {
     ghost use Rattle.std.specs.Prelude.{◌≡◌};
-    ghost use Rattle.set_table.specs.CellStates.{CellView, IsWhole};
+    ghost use Rattle.set_table.specs.CellStates.{CellView, CellIsWhole};
     ghost use Rattle.set_table.specs.Tallies.{total_of};
 
     ghost Value = { CellView };
@@ -61,7 +61,7 @@ impl<H: BuildHasher, L: Ledger, A: Allocator + Copy> Model for Cell<H, L, A> {
 
     ghost view = { λ c. record { place = c.place; sorted_set = c.sorted_set; opened = c.opened; max_runs = c.max_runs; tallies = c.tallies.items; appended = c.share } };
 
-    ghost invariant = { λ c. IsWhole (record { place = c.place; sorted_set = c.sorted_set; opened = c.opened; max_runs = c.max_runs; tallies = c.tallies.items; appended = c.share }) × (c.total ≡ total_of c.tallies.items) };
+    ghost invariant = { λ c. CellIsWhole (record { place = c.place; sorted_set = c.sorted_set; opened = c.opened; max_runs = c.max_runs; tallies = c.tallies.items; appended = c.share }) × (c.total ≡ total_of c.tallies.items) };
 }
 
 impl<H: BuildHasher + Drop, L: Ledger, A: Allocator + Copy> Cell<H, L, A> {
@@ -128,7 +128,7 @@ impl<H: BuildHasher, L: Ledger, A: Allocator + Copy> Cell<H, L, A> {
         ensures ok { IfOk result
             (λ answer. HasRun self.old self.new shares.old shares.new command.now answer) }
         ensures err { IfErr result
-            (λ refusal. IsRefused self.old self.new shares.old shares.new command.now refusal) }
+            (λ refusal. RunIsRefused self.old self.new shares.old shares.new command.now refusal) }
         // The same to a caller who sees the shares and not the cell.
         ensures told { IfOk result (λ answer. WasRun shares.old shares.new command.now answer) }
         ensures not_told { OnErr result (shares.new ≡ shares.old) }
@@ -235,7 +235,7 @@ impl<H: BuildHasher, L: Ledger, A: Allocator + Copy> Cell<H, L, A> {
     /// A law: what holds of every cell whose lock is free. The rows of its column are those of its members, and each
     /// pivot parts the rows with smaller scores from the others. The body changes nothing.
     pub fn whole(&self)
-        ensures whole { IsWhole self.now }
+        ensures whole { CellIsWhole self.now }
         ensures content { Holds self.now.sorted_set.column (pairs self.now.sorted_set.members) }
         ensures pivots { ObeysPivots self.now.sorted_set.column.pivots
             self.now.sorted_set.column.rows }
@@ -275,8 +275,8 @@ fn count_run<A: Allocator>(
     own: OwnCounts,
 )
     requires within { shares.old.pass < length tallies.old.items }
-    requires total { HasRoom total.old own }
-    requires shares { HasRoom shares.old.tally own }
+    requires total { TallyHasRoom total.old own }
+    requires shares { TallyHasRoom shares.old.tally own }
     ensures total { total.new ≡ tally_after total.old own }
     ensures tallies { tallies.new.items
         ≡ set tallies.old.items shares.old.pass (tally_after shares.old.tally own) }

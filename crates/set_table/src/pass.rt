@@ -3,7 +3,7 @@
 ghost use Rattle.std.specs.Prelude.{◌≡◌, ◌<◌, length, Some, IfSome};
 ghost use Rattle.std.proofs.Math.ListN.{get_or};
 ghost use Rattle.set_table.specs.ClosingTotals.{share_at};
-ghost use Rattle.set_table.specs.Naming.{AreNotesOf, name_at};
+ghost use Rattle.set_table.specs.Naming.{AreNotesOf, name_at_place};
 
 use crate::naming::knowledge::Knowledge;
 use crate::naming::name::Name;
@@ -80,7 +80,7 @@ impl<A: Allocator> Pass<A> {
         requires all { all.old.cell ≡ get_or names.now place 0 }
         ensures same { self.new ≡ self.old }
         ensures cell { all.new.cell ≡ all.old.cell }
-        ensures known { IfSome (name_at self.old.notes.known place)
+        ensures known { IfSome (name_at_place self.old.notes.known place)
             (λ name. all.new.known ≡ Some name) }
         ensures all { IfSome all.old.known (λ name. all.new.known ≡ Some name) }
     {

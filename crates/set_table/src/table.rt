@@ -2,7 +2,7 @@
 
 ghost use Rattle.std.specs.Prelude.{◌≡◌, ◌<◌, ◌≤◌, false, length, IfOk, IfErr, IfSome, OnErr, OnOk, IsSome, IsTrue, MatchOption};
 ghost use Rattle.zset_core.specs.AbstractCommand.{is_creating, is_writing, key_of};
-ghost use Rattle.set_table.specs.Naming.{Grows, IsPlace};
+ghost use Rattle.set_table.specs.Naming.{NamingGrows, IsPlace};
 ghost use Rattle.set_table.specs.WorkerPasses.{IsPassOf, WasAnswered, kept_back};
 ghost use Rattle.set_table.specs.TableAnswers.{HasNoPlace, IsAnswered, IsClaimRefusal, IsSetRefusal, IsTableRefusal};
 
@@ -69,7 +69,7 @@ impl<H: BuildHasher, S: LogSink, L: Ledger, A: Allocator + Copy> Table<H, S, L, 
         requires own { IsPassOf self.now pass.old }
         ensures own { IsPassOf self.now pass.new }
         ensures rest { (pass.new.number ≡ pass.old.number) × (pass.new.shares ≡ pass.old.shares) }
-        ensures grows { Grows pass.old.notes.known pass.new.notes.known }
+        ensures grows { NamingGrows pass.old.notes.known pass.new.notes.known }
         ensures found { MatchOption result (HasNoPlace pass.old key.now)
             (λ place. IsPlace pass.new.notes.known key.now place) }
     {
@@ -85,7 +85,7 @@ impl<H: BuildHasher, S: LogSink, L: Ledger, A: Allocator + Copy> Table<H, S, L, 
         requires own { IsPassOf self.now pass.old }
         ensures own { IsPassOf self.now pass.new }
         ensures rest { (pass.new.number ≡ pass.old.number) × (pass.new.shares ≡ pass.old.shares) }
-        ensures grows { Grows pass.old.notes.known pass.new.notes.known }
+        ensures grows { NamingGrows pass.old.notes.known pass.new.notes.known }
         ensures ok { IfOk result (λ place. IsPlace pass.new.notes.known key.now place) }
         ensures err { IfErr result (λ refusal. IsClaimRefusal pass.new key.now refusal) }
     {
@@ -131,7 +131,7 @@ impl<H: BuildHasher, S: LogSink, L: Ledger, A: Allocator + Copy> Table<H, S, L, 
         requires own { IsPassOf self.now pass.old }
         ensures own { IsPassOf self.now pass.new }
         ensures number { pass.new.number ≡ pass.old.number }
-        ensures grows { Grows pass.old.notes.known pass.new.notes.known }
+        ensures grows { NamingGrows pass.old.notes.known pass.new.notes.known }
         ensures ok { IfOk result
             (λ answered. IsAnswered self.now pass.old pass.new command.now answered) }
         ensures err { OnErr result (pass.new.shares ≡ pass.old.shares) }
@@ -172,7 +172,7 @@ impl<H: BuildHasher, S: LogSink, L: Ledger, A: Allocator + Copy> Table<H, S, L, 
         requires own { IsPassOf self.now pass.old }
         ensures own { IsPassOf self.now pass.new }
         ensures rest { (pass.new.number ≡ pass.old.number) × (pass.new.shares ≡ pass.old.shares) }
-        ensures grows { Grows pass.old.notes.known pass.new.notes.known }
+        ensures grows { NamingGrows pass.old.notes.known pass.new.notes.known }
         ensures ok { IfOk result
             (λ found. MatchOption found ((creates ≡ false) × HasNoPlace pass.old key.now)
             (λ place. IsPlace pass.new.notes.known key.now place)) }

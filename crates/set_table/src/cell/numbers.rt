@@ -2,7 +2,7 @@
 
 ghost use Rattle.std.specs.Prelude.{◌≡◌, ◌↔◌, length, IsTrue};
 ghost use Rattle.std.specs.FinMap as map;
-ghost use Rattle.set_table.specs.CellStates.{IsWhole};
+ghost use Rattle.set_table.specs.CellStates.{CellIsWhole};
 ghost use Rattle.set_table.specs.Tallies.{total_of};
 
 use crate::cell::Cell;
@@ -32,7 +32,7 @@ impl<H: BuildHasher, L: Ledger, A: Allocator + Copy> Cell<H, L, A> {
           total = total_of self.now.tallies;
           records = self.now.appended;
         } }
-        ensures whole { IsWhole self.now }
+        ensures whole { CellIsWhole self.now }
     {
         CellNumbers {
             members: self.sorted_set.card() as u64,

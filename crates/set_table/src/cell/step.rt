@@ -5,7 +5,7 @@ ghost use Rattle.resp_wire.specs.Response.{response_of};
 ghost use Rattle.zset_core.specs.AbstractCommand.{key_of, is_writing};
 ghost use Rattle.zset_core.specs.SetAndOwnerViews.{IsPreparedFor};
 ghost use Rattle.append_log.specs.Log.{share_after};
-ghost use Rattle.set_table.specs.SetSteps.{IsAppendRefusal, IsHindered, IsLogged, Stepped};
+ghost use Rattle.set_table.specs.SetSteps.{IsAppendRefusal, IsHindered, IsLogged, SetStepped};
 
 use crate::counts::OwnCounts;
 use append_log::{Log, LogSink, Record, RecordShare};
@@ -29,7 +29,7 @@ pub(crate) fn take_step<R: Wait, H: BuildHasher, S: LogSink, L: Ledger, A: Alloc
     requires idle { set.old.next ≡ None }
     requires keyed { IsSome (key_of command.now.meaning) }
     ensures idle { set.new.next ≡ None }
-    ensures ok { IfOk result (λ done. Stepped set.old.members set.new.members command.now
+    ensures ok { IfOk result (λ done. SetStepped set.old.members set.new.members command.now
         (response_of done.0) done.1) }
     ensures logged { OnOk result (IsLogged set.old.members set.new.members share.old share.new) }
     ensures err { OnErr result ((set.new.members ≡ set.old.members) × (share.new ≡ share.old)) }
@@ -55,7 +55,7 @@ fn change<R: Wait, H: BuildHasher, S: LogSink, L: Ledger, A: Allocator + Copy>(
     requires idle { set.old.next ≡ None }
     requires writing { IsTrue (is_writing command.now.meaning) }
     ensures idle { set.new.next ≡ None }
-    ensures ok { IfOk result (λ done. Stepped set.old.members set.new.members command.now
+    ensures ok { IfOk result (λ done. SetStepped set.old.members set.new.members command.now
         (response_of done.0) done.1) }
     ensures logged { OnOk result (IsLogged set.old.members set.new.members share.old share.new) }
     ensures err { OnErr result ((set.new.members ≡ set.old.members) × (share.new ≡ share.old)) }
@@ -107,7 +107,7 @@ fn read<H: BuildHasher, A: Allocator + Copy>(
     requires keyed { IsSome (key_of command.now.meaning) }
     ensures idle { set.new.next ≡ None }
     ensures members { set.new.members ≡ set.old.members }
-    ensures ok { IfOk result (λ done. Stepped set.old.members set.old.members command.now
+    ensures ok { IfOk result (λ done. SetStepped set.old.members set.old.members command.now
         (response_of done.0) done.1) }
 {
     let reply = set.answer(command)?;

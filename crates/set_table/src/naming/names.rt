@@ -3,7 +3,7 @@
 ghost use Rattle.std.specs.Prelude.{◌≡◌, ◌<◌, ◌≤◌, ◌%◌, List, ℕ, None, Some, map, length, IfOk, IfErr, IfSome, IfNone, MatchOption, MatchResult};
 ghost use Rattle.std.proofs.Math.ListN.{get_or};
 ghost use Rattle.once_cell.specs.Once.{cell_name, Agrees};
-ghost use Rattle.set_table.specs.Naming.{AreNotesOf, Grows, IsPlace, IsUnclaimed, Learns, hash_from, name_at, walk};
+ghost use Rattle.set_table.specs.Naming.{AreNotesOf, NamingGrows, IsPlace, IsUnclaimed, Learns, hash_from, name_at_place, walk};
 
 mod agreement;
 
@@ -92,7 +92,7 @@ impl Names {
         requires own { AreNotesOf self.now known.old }
         requires places { (0 < length self.now) × (length self.now ≤ MAX_PLACES) }
         ensures own { AreNotesOf self.now known.new }
-        ensures grows { Grows known.old.known known.new.known }
+        ensures grows { NamingGrows known.old.known known.new.known }
         ensures found { IfSome result (λ place. IsPlace known.new.known key.now place) }
         ensures none { IfNone result ((place : ℕ) → IsPlace known.old.known key.now place → ⊥) }
     {
@@ -110,7 +110,7 @@ impl Names {
         requires own { AreNotesOf self.now known.old }
         requires places { (0 < length self.now) × (length self.now ≤ MAX_PLACES) }
         ensures own { AreNotesOf self.now known.new }
-        ensures grows { Grows known.old.known known.new.known }
+        ensures grows { NamingGrows known.old.known known.new.known }
         ensures ok { IfOk result (λ place. IsPlace known.new.known key.now place) }
         ensures err { IfErr result (λ fault. IsUnclaimed fault known.new.known key.now) }
     {
@@ -128,7 +128,7 @@ impl Names {
     fn recall(&self, known: &mut Knowledge, hash: u32, key: &[u8]) -> Option<usize>
         requires own { AreNotesOf self.now known.old }
         ensures own { AreNotesOf self.now known.new }
-        ensures grows { Grows known.old.known known.new.known }
+        ensures grows { NamingGrows known.old.known known.new.known }
         ensures found { IfSome result (λ place. IsPlace known.new.known key.now place) }
     {
         let place = known.key_cache.place_of(hash)?;
@@ -145,7 +145,7 @@ impl Names {
         requires own { AreNotesOf self.now known.old }
         requires places { (0 < length self.now) × (length self.now ≤ MAX_PLACES) }
         ensures own { AreNotesOf self.now known.new }
-        ensures grows { Grows known.old.known known.new.known }
+        ensures grows { NamingGrows known.old.known known.new.known }
         ensures found { IfSome result (λ place. IsPlace known.new.known key.now place) }
         ensures none { IfNone result ((place : ℕ) → IsPlace known.old.known key.now place → ⊥) }
     {
@@ -173,7 +173,7 @@ impl Names {
         requires own { AreNotesOf self.now known.old }
         requires places { (0 < length self.now) × (length self.now ≤ MAX_PLACES) }
         ensures own { AreNotesOf self.now known.new }
-        ensures grows { Grows known.old.known known.new.known }
+        ensures grows { NamingGrows known.old.known known.new.known }
         ensures ok { IfOk result (λ place. IsPlace known.new.known key.now place) }
         ensures err { IfErr result (λ fault. IsUnclaimed fault known.new.known key.now) }
     {
@@ -231,7 +231,7 @@ impl Names {
         requires within { place < length self.now }
         ensures own { AreNotesOf self.now known.new }
         ensures seen { MatchOption result
-            ((name_at known.old.known place ≡ None) × (known.new.known ≡ known.old.known))
+            ((name_at_place known.old.known place ≡ None) × (known.new.known ≡ known.old.known))
             (λ name. Learns known.old.known known.new.known place name.now) }
     {
         let name = self.name_of(&mut known.notes, place)?;
@@ -264,7 +264,7 @@ impl Names {
         requires within { place < length self.now }
         ensures own { AreNotesOf self.now notes.new }
         ensures seen { MatchOption result
-            ((name_at notes.old.known place ≡ None) × (notes.new.known ≡ notes.old.known))
+            ((name_at_place notes.old.known place ≡ None) × (notes.new.known ≡ notes.old.known))
             (λ name. Learns notes.old.known notes.new.known place name.now) }
     {
         let known = &mut notes.places[place];

@@ -2,7 +2,7 @@
 
 ghost use Rattle.std.specs.Prelude.{◌≡◌, ◌<◌, length, None};
 ghost use Rattle.std.proofs.Math.ListN.{get_or};
-ghost use Rattle.set_table.specs.Naming.{name_at};
+ghost use Rattle.set_table.specs.Naming.{name_at_place};
 
 use crate::naming::name::Name;
 use once_cell::race::Note;
@@ -35,7 +35,7 @@ impl Notes {
         requires { place < length self.old.known }
         ensures same { self.new ≡ self.old }
         ensures cell { result.cell ≡ get_or self.old.names place 0 }
-        ensures known { result.known ≡ name_at self.old.known place }
+        ensures known { result.known ≡ name_at_place self.old.known place }
     {
         self.places[place].note.again()
     }

@@ -3,7 +3,7 @@
 ghost use Rattle.std.specs.Prelude.{◌≡◌, ◌<◌, ◌≤◌, None, length, IfOk, OnOk};
 ghost use Rattle.std.specs.FinMap as fin;
 ghost use Rattle.set_table.specs.Naming.{AreNotesOf};
-ghost use Rattle.set_table.specs.Opening.{AllHavePlaces, AreEmptySets, AreIdleSets, cards_of, members_of, sum_of};
+ghost use Rattle.set_table.specs.Opening.{AllHavePlaces, AreEmptySets, AreIdleSets, cards_of, members_of, sum_of_numbers};
 
 use crate::limits::MAX_PLACES;
 use crate::naming::knowledge::Knowledge;
@@ -45,7 +45,7 @@ pub(crate) fn place_all<H: BuildHasher + Clone + Drop>(
     ensures known { OnOk result
         (AllHavePlaces owner.world knowledge.new.known (cards_of sets.new.items)) }
     ensures sum { OnOk result
-        (sum_of (cards_of sets.new.items) ≡ members_of (fin.entries owner.world)) }
+        (sum_of_numbers (cards_of sets.new.items) ≡ members_of (fin.entries owner.world)) }
 {
     let mut owner = owner;
     for _ in 0..owner.key_count() {

@@ -2,7 +2,7 @@
 
 ghost use Rattle.std.specs.Prelude.{◌≡◌, ◌+◌, ◌*◌, ◌<◌, ◌≤◌, ◌^◌, ◌↔◌, ℕ, length, IfErr, IfNone, IfOk, IfSome, OnOk, IsTrue};
 ghost use Rattle.std.proofs.Math.ListN.{get_or};
-ghost use Rattle.set_table.specs.CellStates.{InStep, IsWhole};
+ghost use Rattle.set_table.specs.CellStates.{InStep, CellIsWhole};
 ghost use Rattle.set_table.specs.ClosingSteps.{AddsCell, AddsPlace, HaveShares, IsBounded};
 ghost use Rattle.set_table.specs.ClosingTotals.{AddsUp, AgreeAt, Agrees, AreNumbered, AreOfCells, HasOtherCell, HaveOnePlace, IsOutOfStep, pass_at, share_at};
 ghost use Rattle.set_table.specs.WorkerPasses.{IsPassOf};
@@ -159,7 +159,7 @@ fn add_place<H: BuildHasher, L: Ledger, A: Allocator + Copy>(
     ensures cell { IfSome result (λ more. AddsCell passes.now.items max_runs place cell.now totals more) }
     ensures none { IfNone result
         (cell.now.opened ≡ opened → Agrees passes.now.items max_runs place cell.now → ⊥) }
-    ensures whole { IsWhole cell.now }
+    ensures whole { CellIsWhole cell.now }
 {
     let numbers = cell.numbers();
     if numbers.opened != opened

@@ -2,7 +2,7 @@
 
 ghost use Rattle.std.specs.Prelude.{◌≡◌, ◌<◌, length, Some, None, IfSome};
 ghost use Rattle.std.proofs.Math.ListN.{get_or};
-ghost use Rattle.set_table.specs.Naming.{AreNotesOf, name_at};
+ghost use Rattle.set_table.specs.Naming.{AreNotesOf, name_at_place};
 
 use crate::naming::knowledge::Knowledge;
 use crate::naming::name::Name;
@@ -27,7 +27,7 @@ impl Names {
         requires all { all.old.cell ≡ get_or self.now place 0 }
         ensures same { known.new ≡ known.old }
         ensures cell { all.new.cell ≡ all.old.cell }
-        ensures known { IfSome (name_at known.old.known place) (λ name. all.new.known ≡ Some name) }
+        ensures known { IfSome (name_at_place known.old.known place) (λ name. all.new.known ≡ Some name) }
         ensures all { IfSome all.old.known (λ name. all.new.known ≡ Some name) }
     {
         self.gather_note(&mut known.notes, place, all);
@@ -40,7 +40,7 @@ impl Names {
         requires all { all.old.cell ≡ get_or self.now place 0 }
         ensures same { notes.new ≡ notes.old }
         ensures cell { all.new.cell ≡ all.old.cell }
-        ensures known { IfSome (name_at notes.old.known place) (λ name. all.new.known ≡ Some name) }
+        ensures known { IfSome (name_at_place notes.old.known place) (λ name. all.new.known ≡ Some name) }
         ensures all { IfSome all.old.known (λ name. all.new.known ≡ Some name) }
     {
         let mut note = notes.note_of(place);

@@ -1,5 +1,5 @@
 use Rattle.std.proofs.Common.{sym, subst}
-use Rattle.set_table.specs.Naming.{NotesView, Grows, IsPlace}
+use Rattle.set_table.specs.Naming.{NotesView, NamingGrows, IsPlace}
 use Rattle.set_table.proofs.NameLemmas.{grows_on}
 use Rattle.set_table.proofs.KeyCacheLemmas.{met_more}
 use Rattle.set_table.proofs.naming.names.Names.claim.Goals as goal
@@ -11,5 +11,5 @@ invariant_of-known c =
 
 pub returns-clause-grows : goal.returns-clause-grows
 returns-clause-grows c =
-    subst (λ (v : NotesView). Grows c.args.known.now.known v.known) (sym c.known.view_is)
+    subst (λ (v : NotesView). NamingGrows c.args.known.now.known v.known) (sym c.known.view_is)
     (grows_on c.args.known.now.known c.recall.new.known.known c.claim_by_walk.new.known.known c.recall.ensures.grows c.claim_by_walk.ensures.grows)

@@ -1,10 +1,10 @@
-use Rattle.set_table.specs.Naming.{Grows, AreNotesOf}
+use Rattle.set_table.specs.Naming.{NamingGrows, AreNotesOf}
 use Rattle.set_table.proofs.NameLemmas.{Passed}
 use Rattle.set_table.proofs.naming.names.Names.claim_by_walk.Given as goal
 
 abbrev pub invariant-loop-step : goal.invariant-loop-step
 invariant-loop-step l = record {
   own : AreNotesOf l.self l.known;
-  grows : Grows l.fn.known.known l.known.known;
+  grows : NamingGrows l.fn.known.known l.known.known;
   passed : Passed l.known.known l.key l.step;
 }

@@ -1,5 +1,5 @@
 use Rattle.std.proofs.Common.{sym, subst}
-use Rattle.set_table.specs.Naming.{NotesView, Grows, IsPlace}
+use Rattle.set_table.specs.Naming.{NotesView, NamingGrows, IsPlace}
 use Rattle.set_table.proofs.NameLemmas.{grows_on}
 use Rattle.set_table.proofs.PlaceLemmas.{place_grows}
 use Rattle.set_table.proofs.KeyCacheLemmas.{met_more}
@@ -16,5 +16,5 @@ invariant_of-known c =
 
 pub returns-clause-grows : goal.returns-clause-grows
 returns-clause-grows c =
-    subst (λ (v : NotesView). Grows c.args.known.now.known v.known) (sym c.known.view_is)
+    subst (λ (v : NotesView). NamingGrows c.args.known.now.known v.known) (sym c.known.view_is)
     (grows_on c.args.known.now.known c.recall.new.known.known c.find_by_walk.new.known.known c.recall.ensures.grows c.find_by_walk.ensures.grows)

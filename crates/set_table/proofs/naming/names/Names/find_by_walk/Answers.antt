@@ -1,12 +1,12 @@
 use Rattle.std.proofs.Common.{◌∙◌, length, sym, ap, arith, rules}
-use Rattle.set_table.specs.Naming.{name_at, walk}
+use Rattle.set_table.specs.Naming.{name_at_place, walk}
 use Rattle.set_table.proofs.NameLemmas.{found_at, went_on, went_by, other_hash, told_apart, grows_on, none_passed, none_here}
 use Rattle.set_table.proofs.naming.names.Names.find_by_walk.Goals as goal
 
 pub returns-in_err-name-clause-none : goal.returns-in_err-name-clause-none
 returns-in_err-name-clause-none c =
     let own = c.loop-step.invariant.own in
-    let none = ap (λ n. name_at c.loop-step.known.known (walk n c.args.key.now c.loop-step.step)) own.places ∙ ap (name_at c.loop-step.known.known) (sym c.walk-place.ensures.value) ∙ c.in_err-name.ensures.seen.0 in
+    let none = ap (λ n. name_at_place c.loop-step.known.known (walk n c.args.key.now c.loop-step.step)) own.places ∙ ap (name_at_place c.loop-step.known.known) (sym c.walk-place.ensures.value) ∙ c.in_err-name.ensures.seen.0 in
     rw c.from_residual.ensures (λ p place. none_here c.args.known.now.known c.loop-step.known.known c.args.key.now c.loop-step.step p c.loop-step.invariant.grows c.loop-step.invariant.passed none place)
 
 pub returns-then-bears-clause-found : goal.returns-then-bears-clause-found

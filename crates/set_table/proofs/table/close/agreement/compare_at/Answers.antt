@@ -4,7 +4,7 @@ use Rattle.std.proofs.lemmas.Bool.{cases_eq}
 use Rattle.std.proofs.Common.{sym}
 use Rattle.std.specs.declared.option.Option.{Option}
 use Rattle.std.specs.declared.option.Option.TheVariants.{None, Some}
-use Rattle.set_table.specs.Naming.{name_at}
+use Rattle.set_table.specs.Naming.{name_at_place}
 use Rattle.set_table.specs.WorkerPasses.{PassView}
 use Rattle.set_table.specs.ClosingTotals.{pass_at, no_pass}
 use Rattle.set_table.proofs.table.close.agreement.compare_at.Goals as goal
@@ -28,7 +28,7 @@ loop-i-preserved g c =
       same = same_set c.loop-i.passes.items i pass c.tell_name.new.self c.index_mut.ensures.value c.tell_name.ensures.same ∙ inv.same;
       cell = c.tell_name.ensures.cell ∙ inv.cell;
       knows = λ j x below e. elim (cases_eq j i) [
-        | inl is ↦ carried (name_at pass.notes.known c.args.place) c.tell_name.new.all.known x c.tell_name.ensures.known (ap (λ (p : PassView). name_at p.notes.known c.args.place) (here ∙ ap (pass_at c.args.passes.now.items) (sym is)) ∙ e)
+        | inl is ↦ carried (name_at_place pass.notes.known c.args.place) c.tell_name.new.all.known x c.tell_name.ensures.known (ap (λ (p : PassView). name_at_place p.notes.known c.args.place) (here ∙ ap (pass_at c.args.passes.now.items) (sym is)) ∙ e)
         | inr n ↦ carried c.loop-i.all.known c.tell_name.new.all.known x c.tell_name.ensures.all (inv.knows j x (omega arith) e)
       ];
     }
