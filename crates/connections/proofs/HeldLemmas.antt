@@ -5,7 +5,7 @@ use Rattle.resp_wire.specs.Response.{Response}
 use Rattle.zset_core.specs.AbstractCommand.{Asked}
 use Rattle.zset_core.specs.declared.refusal.Refusal.{Refusal}
 use Rattle.session_core.specs.declared.session.Progress.{Progress}
-use Rattle.session_core.specs.Interleaved.{Moves, TakesTurns}
+use Rattle.session_core.specs.Interleaved.{StateMoves, TakesTurns}
 use Rattle.connections.specs.declared.visit.Stage.{Stage}
 use Rattle.connections.specs.declared.visit.Stage.TheVariants.{Reads, Runs, Ended}
 use Rattle.connections.specs.Places.{IsAt, MayPut, EachWas}
@@ -15,7 +15,7 @@ use Rattle.connections.proofs.PlaceLemmas.{at_set, at_grown, was_trans, was_so, 
 
 module _ {S : Type 0} (allows : S → Asked → Result Response Refusal → S → Type 0) where
   -- others were served
-  pub others_served : TakesTurns allows → (here there : S) → Moves allows here there → (visit : VisitState) → GoesOn allows visit here visit there
+  pub others_served : TakesTurns allows → (here there : S) → StateMoves allows here there → (visit : VisitState) → GoesOn allows visit here visit there
   others_served law here there moves visit start source₀ drain₀ stands = waits_at visit.stage visit.source visit.drain visit.wire visit.progress stands
     where
       waits_at : (stage : Stage) (source drain : Option (List ℕ)) (wire : DecoderView) (progress : Progress) → Stands allows start source₀ drain₀ (state stage source drain wire progress) here → Stands allows start source₀ drain₀ (state stage source drain wire progress) there

@@ -7,8 +7,8 @@ use Rattle.zset_core.specs.AbstractCommand.{Asked}
 use Rattle.zset_core.specs.declared.refusal.Refusal.{Refusal}
 use Rattle.session_core.specs.declared.fault.SessionFault.{SessionFault}
 use Rattle.session_core.specs.declared.session.Progress.{Progress}
-use Rattle.session_core.specs.ServeSteps.{Underway}
-use Rattle.session_core.specs.Interleaved.{PartWay, Moves, Talk, Turn, TakesTurns}
+use Rattle.session_core.specs.ServeSteps.{SessionUnderway}
+use Rattle.session_core.specs.Interleaved.{PartWay, StateMoves, Talk, Turn, TakesTurns}
 use Rattle.session_core.proofs.Interleaving.{moves-trans, moved_by}
 use Rattle.connections.specs.declared.visit.Stage.{Stage}
 use Rattle.connections.specs.declared.visit.Stage.TheVariants.{Reads, Runs, Ended}
@@ -21,12 +21,12 @@ module _ {S : Type 0} (allows : S → Asked → Result Response Refusal → S �
       → source₃ ≡ source₂ → drain₂ ≡ drain₁ → after ≡ progress → IsTaken piece stage wire new
       → Stands allows start source₀ drain₀ (state stage source₃ drain₂ new after) here
   takes law start here source₀ source₁ source₂ source₃ drain₀ drain₁ drain₂ wire new progress after old stage piece is stands given same_source same_drain same_progress taken =
-      let way : Underway (Talk allows) start source₀ source₁ drain₀ drain₁ here wire progress = subst (λ (s : Stage). Stands allows start source₀ drain₀ (state s source₁ drain₁ wire progress) here) is stands in
+      let way : SessionUnderway (Talk allows) start source₀ source₁ drain₀ drain₁ here wire progress = subst (λ (s : Stage). Stands allows start source₀ drain₀ (state s source₁ drain₁ wire progress) here) is stands in
       subst (λ (s : Option (List ℕ)). Stands allows start source₀ drain₀ (state stage s drain₂ new after) here) (sym same_source)
       (subst (λ (d : Option (List ℕ)). Stands allows start source₀ drain₀ (state stage source₂ d new after) here) (sym same_drain)
       (subst (λ (p : Progress). Stands allows start source₀ drain₀ (state stage source₂ drain₁ new p) here) (sym same_progress) (by_taken taken way)))
     where
-      by_taken : IsTaken piece stage wire new → Underway (Talk allows) start source₀ source₁ drain₀ drain₁ here wire progress → Stands allows start source₀ drain₀ (state stage source₂ drain₁ new progress) here
+      by_taken : IsTaken piece stage wire new → SessionUnderway (Talk allows) start source₀ source₁ drain₀ drain₁ here wire progress → Stands allows start source₀ drain₀ (state stage source₂ drain₁ new progress) here
       by_taken (inl (runs, fed_is)) way =
           subst (λ (s : Stage). Stands allows start source₀ drain₀ (state s source₂ drain₁ new progress) here) (sym runs)
           (subst (λ (w : DecoderView). PartWay (Talk allows) start source₀ source₂ drain₀ drain₁ here w progress) (sym fed_is) (law.reads start here source₀ source₁ source₂ drain₀ drain₁ wire progress piece way given))
@@ -54,7 +54,7 @@ module _ {S : Type 0} (allows : S → Asked → Result Response Refusal → S �
       follows (Err end) turn part = law.turns start here there source₀ source drain₀ drain drain₁ wire new progress after (Err end) part turn
 
   pub moves_on : (begun here there : S) (drain drain₁ : Option (List ℕ)) (wire new : DecoderView) (progress after : Progress) (result : Result Bool SessionFault)
-      → Moves allows begun here → Turn allows here wire progress drain result there new after drain₁ → Moves allows begun there
+      → StateMoves allows begun here → Turn allows here wire progress drain result there new after drain₁ → StateMoves allows begun there
   moves_on begun here there drain drain₁ wire new progress after result moves turn =
       moves-trans allows begun here there moves (moved_by allows here there drain drain₁ wire new progress after result turn)
 

@@ -9,7 +9,7 @@ use Rattle.zset_core.specs.declared.refusal.Refusal.{Refusal}
 use Rattle.session_core.specs.declared.fault.SessionFault.TheVariants.{NoMemory, TooManyReads}
 use Rattle.session_core.specs.declared.session.Progress.{Progress}
 use Rattle.session_core.specs.SessionEnd.{Served}
-use Rattle.session_core.specs.ServeSteps.{IsBetweenReads, Underway, fed}
+use Rattle.session_core.specs.ServeSteps.{SessionIsBetweenReads, SessionUnderway, fed}
 use Rattle.session_core.specs.Interleaved.{PartWay, Talk}
 use Rattle.connections.specs.declared.visit.Next.{Next}
 use Rattle.connections.specs.declared.visit.Next.TheVariants.{Settles}
@@ -18,7 +18,7 @@ use Rattle.connections.specs.declared.visit.Stage.TheVariants.{Reads, Runs, Ende
 
 -- a session can go on, and its numbers are small: so many pieces came, of 65,536 bytes at most
 pub record IsOpen (wire : DecoderView) (progress : Progress) (pieces : ℕ) : Type 0 where
-  pub ready : IsBetweenReads wire progress
+  pub ready : SessionIsBetweenReads wire progress
   pub bytes : wire.taken + length wire.held ≤ pieces * 65536
 
 -- a visit that has not ended can go on
@@ -45,7 +45,7 @@ module _ {S : Type 0} (allows : S → Asked → Result Response Refusal → S �
   -- how a visit stands that began with these devices and this state of what it shares with others: all that was read is
   -- answered, or a part, or it has ended as a session ends that is served alone, its exchanges standing among theirs
   abbrev StandsAt : Stage → Option (List ℕ) → Option (List ℕ) → S → DecoderView → Progress → Type 0
-  StandsAt Reads source drain here wire progress = Underway (Talk allows) start source₀ source drain₀ drain here wire progress
+  StandsAt Reads source drain here wire progress = SessionUnderway (Talk allows) start source₀ source drain₀ drain here wire progress
   StandsAt Runs source drain here wire progress = PartWay (Talk allows) start source₀ source drain₀ drain here wire progress
   StandsAt (Ended result) source drain here wire progress = Served (Talk allows) start source₀ source drain₀ drain result here
 

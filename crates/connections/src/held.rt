@@ -1,7 +1,7 @@
 //! A connection at its place.
 
 ghost use Rattle.std.specs.Prelude.{◌≡◌, ◌<◌, ◌⊎◌};
-ghost use Rattle.session_core.specs.Interleaved.{Moves};
+ghost use Rattle.session_core.specs.Interleaved.{StateMoves};
 ghost use Rattle.connections.specs.declared.visit.Next.TheVariants.{Ends, Settles};
 ghost use Rattle.connections.specs.HeldConnections.{Begins};
 ghost use Rattle.connections.specs.VisitSteps.{GoesOn, WaitsForTold, new_state};
@@ -141,7 +141,7 @@ impl<S: PolledSource, D: PolledDrain, A: Allocator + Copy> Held<S, D, A> {
     ) -> Next
         requires settled { E.settled exec.old }
         ensures settled { E.settled exec.new }
-        ensures moves { Moves E.allows exec.old exec.new }
+        ensures moves { StateMoves E.allows exec.old exec.new }
         ensures goes_on { GoesOn E.allows self.old.visit exec.old self.new.visit exec.new }
         ensures told { (self.new.visit.progress ≡ self.old.visit.progress)
             ⊎ WaitsForTold (E.tells exec.new) settled result self.new.awaited }

@@ -1,7 +1,7 @@
 //! All connections of one worker.
 
 ghost use Rattle.std.specs.Prelude.{◌≡◌, ◌<◌, length, IfOk};
-ghost use Rattle.session_core.specs.Interleaved.{Moves};
+ghost use Rattle.session_core.specs.Interleaved.{StateMoves};
 ghost use Rattle.connections.specs.Places.{IsGrown};
 ghost use Rattle.connections.specs.HeldConnections.{AllGoOn, AllMayLeave, AllWait, HaveLeft, IsAdded, RisesBy, no_connections};
 ghost use Rattle.connections.specs.VisitSteps.{new_state};
@@ -202,7 +202,7 @@ impl<S: PolledSource + Watched + Drop, D: PolledDrain + Drop, A: Allocator + Cop
     )
         requires settled { E.settled exec.old }
         ensures settled { E.settled exec.new }
-        ensures moves { Moves E.allows exec.old exec.new }
+        ensures moves { StateMoves E.allows exec.old exec.new }
         ensures goes_on { AllGoOn E.allows self.old.held exec.old self.new.held exec.new }
         ensures waits { AllWait self.old.settled self.old.held self.new.held }
         ensures known { self.new.settled ≡ self.old.settled }
@@ -234,7 +234,7 @@ impl<S: PolledSource + Watched + Drop, D: PolledDrain + Drop, A: Allocator + Cop
     )
         requires settled { E.settled exec.old }
         ensures settled { E.settled exec.new }
-        ensures moves { Moves E.allows exec.old exec.new }
+        ensures moves { StateMoves E.allows exec.old exec.new }
         ensures goes_on { AllGoOn E.allows self.old.held exec.old self.new.held exec.new }
         ensures waits { AllWait self.old.settled self.old.held self.new.held }
         ensures known { self.new.settled ≡ self.old.settled }
@@ -257,7 +257,7 @@ impl<S: PolledSource + Watched + Drop, D: PolledDrain + Drop, A: Allocator + Cop
     )
         requires settled { E.settled exec.old }
         ensures settled { E.settled exec.new }
-        ensures moves { Moves E.allows exec.old exec.new }
+        ensures moves { StateMoves E.allows exec.old exec.new }
         ensures goes_on { AllGoOn E.allows self.old.held exec.old self.new.held exec.new }
         ensures waits { AllWait self.old.settled self.old.held self.new.held }
         ensures known { self.new.settled ≡ self.old.settled }
@@ -370,7 +370,7 @@ impl<S: PolledSource + Watched + Drop, D: PolledDrain + Drop, A: Allocator + Cop
         requires settled { E.settled exec.old }
         ensures settled { E.settled exec.new }
         // What the connections share is moved by requests alone.
-        ensures moves { Moves E.allows exec.old exec.new }
+        ensures moves { StateMoves E.allows exec.old exec.new }
         // Each that is held was held before, and goes on as one that is served alone: its requests
         // are run in turn, and their replies stand behind those before.
         ensures goes_on { AllGoOn E.allows self.old.held exec.old self.new.held exec.new }

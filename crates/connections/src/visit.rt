@@ -1,7 +1,7 @@
 //! One connection of many.
 
 ghost use Rattle.std.specs.Prelude.{◌≡◌, ◌≤◌, ◌<◌, ◌^◌, ◌⊎◌, false, length};
-ghost use Rattle.session_core.specs.Interleaved.{Moves};
+ghost use Rattle.session_core.specs.Interleaved.{StateMoves};
 ghost use Rattle.connections.specs.declared.visit.Next.TheVariants.{Ends, Settles};
 ghost use Rattle.connections.specs.declared.visit.Stage.TheVariants.{Reads, Runs};
 ghost use Rattle.connections.specs.VisitSteps.{IsSound, IsTaken, GoesOn, WaitsForTold, state, new_state};
@@ -207,7 +207,7 @@ impl<S: PolledSource, D: PolledDrain, A: Allocator + Copy> Visit<S, D, A> {
         requires settled { E.settled exec.old }
         requires runs { self.old.stage ≡ Runs }
         ensures settled { E.settled exec.new }
-        ensures moves { Moves E.allows exec.old exec.new }
+        ensures moves { StateMoves E.allows exec.old exec.new }
         ensures goes_on { GoesOn E.allows (state self.old.stage (S.told self.old.source)
             (⟦<Replies<D, A> as ByteDrain>⟧.told self.old.replies) self.old.session.decoder self.old.session.progress) exec.old (state self.new.stage (S.told self.new.source)
             (⟦<Replies<D, A> as ByteDrain>⟧.told self.new.replies) self.new.session.decoder self.new.session.progress) exec.new }
@@ -249,7 +249,7 @@ impl<S: PolledSource, D: PolledDrain, A: Allocator + Copy> Visit<S, D, A> {
     fn run_held<R, C: Clock, E: Exec<R, A>>(&mut self, rt: &R, clock: &C, exec: &mut E)
         requires settled { E.settled exec.old }
         ensures settled { E.settled exec.new }
-        ensures moves { Moves E.allows exec.old exec.new }
+        ensures moves { StateMoves E.allows exec.old exec.new }
         ensures goes_on { GoesOn E.allows (state self.old.stage (S.told self.old.source)
             (⟦<Replies<D, A> as ByteDrain>⟧.told self.old.replies) self.old.session.decoder self.old.session.progress) exec.old (state self.new.stage (S.told self.new.source)
             (⟦<Replies<D, A> as ByteDrain>⟧.told self.new.replies) self.new.session.decoder self.new.session.progress) exec.new }
@@ -335,7 +335,7 @@ impl<S: PolledSource, D: PolledDrain, A: Allocator + Copy> Visit<S, D, A> {
         requires settled { E.settled exec.old }
         ensures settled { E.settled exec.new }
         // Requests were run, and no more was done to what the connections share;
-        ensures moves { Moves E.allows exec.old exec.new }
+        ensures moves { StateMoves E.allows exec.old exec.new }
         // they are the connection's own, in turn, and their replies stand behind those before.
         ensures goes_on { GoesOn E.allows (state self.old.stage (S.told self.old.source)
             (⟦<Replies<D, A> as ByteDrain>⟧.told self.old.replies) self.old.session.decoder self.old.session.progress) exec.old (state self.new.stage (S.told self.new.source)

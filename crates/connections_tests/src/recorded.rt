@@ -1,7 +1,7 @@
 //! An executor whose changes have records, what settles them, and a page on which all is written that leaves.
 
 ghost use Rattle.std.specs.Prelude.{⊤};
-ghost use Rattle.session_core.specs.OwnerAnswers.{IsIdle, OwnerAnswers};
+ghost use Rattle.session_core.specs.OwnerAnswers.{OwnerIsIdle, OwnerAnswers};
 
 use crate::devices::Sender;
 use connections::{Settle, Watched};
@@ -24,7 +24,7 @@ pub struct Recorded {
 }
 
 impl<R> Exec<R, Global> for Recorded {
-    ghost settled = { λ r. IsIdle r.owner };
+    ghost settled = { λ r. OwnerIsIdle r.owner };
 
     ghost allows = { λ old asked answer new. OwnerAnswers old.owner asked answer new.owner };
 

@@ -5,7 +5,7 @@ use Rattle.zset_core.specs.AbstractCommand.{Meaning}
 use Rattle.zset_core.specs.CommandGrammar.{asked}
 use Rattle.zset_core.specs.declared.refusal.Refusal.{Refusal}
 use Rattle.session_core.specs.Exchange.{ExchangeOf, Exchanges}
-use Rattle.session_core.specs.Interleaved.{Moves, TakesTurns}
+use Rattle.session_core.specs.Interleaved.{StateMoves, TakesTurns}
 use Rattle.session_core.specs.WorkerAnswers.{WorkerView, WorkerAnswers}
 use Rattle.connections.specs.HeldConnections.{AllStand, AllGoOn, IsAdded}
 use Rattle.connections.specs.VisitSteps.{new_state}
@@ -40,11 +40,11 @@ ran old new requests replies exchanges =
     record { table = stay.0; number = stay.1; ran = record { requests = requests; replies = replies; exchanges = exchanges } }
 
 -- requests, whichever connection's, leave a worker that ran them
-pub keeps_by_moves : (old new : WorkerView) → Moves WorkerAnswers old new → Keeps old new
+pub keeps_by_moves : (old new : WorkerView) → StateMoves WorkerAnswers old new → Keeps old new
 keeps_by_moves old new moves = ran old new moves.requests moves.replies moves.exchanges
 
 -- a turn for each connection that is ready
-pub attends_by_turn : (old new : HandlerView) → Moves WorkerAnswers old.worker new.worker → AllGoOn WorkerAnswers old.connections old.worker new.connections new.worker → Attends old new
+pub attends_by_turn : (old new : HandlerView) → StateMoves WorkerAnswers old.worker new.worker → AllGoOn WorkerAnswers old.connections old.worker new.connections new.worker → Attends old new
 attends_by_turn old new moves goes = record {
   worker = keeps_by_moves old.worker new.worker moves;
   connections = all_stand_on WorkerAnswers old.connections new.connections old.worker new.worker goes;

@@ -8,7 +8,7 @@ use Rattle.session_core.specs.declared.fault.Ended.{Ended}
 use Rattle.session_core.specs.declared.fault.SessionFault.{SessionFault}
 use Rattle.session_core.specs.declared.fault.SessionFault.TheVariants as ends
 use Rattle.session_core.specs.SessionEnd.{Served}
-use Rattle.session_core.specs.SendOutcome.{SourceFailed, DrainFailed, SentOn}
+use Rattle.session_core.specs.SendOutcome.{SessionSourceFailed, DrainFailed, SentOn}
 use Rattle.program_runs.specs.DeviceStates.{SourceState, DrainState}
 use Rattle.program_runs.specs.declared.finish.Line.{Line}
 use Rattle.program_runs.specs.declared.finish.Line.TheVariants as lines
@@ -77,7 +77,7 @@ pub record Finishes {S : Type 0} (talk : S → List (List (List ℕ)) → List R
     (source₀ source₁ : SourceState) (drain₀ drain₁ : DrainState) (finish : Finish) (here : S) : Type 0 where
   pub result : Result Ended SessionFault
   pub served : Served talk start source₀.told source₁.told drain₀.told drain₁.told result here
-  pub source_failures : MatchResult result (λ ended. source₁.failures ≡ source₀.failures) (λ end. SourceFailed end source₀.failures source₁.failures)
+  pub source_failures : MatchResult result (λ ended. source₁.failures ≡ source₀.failures) (λ end. SessionSourceFailed end source₀.failures source₁.failures)
   pub drain_failures : MatchResult result (λ ended. drain₁.failures ≡ drain₀.failures) (λ end. DrainFailed end drain₀.failures drain₁.failures)
   pub reads : source₁.calls ≤ source₀.calls + most_reads
   pub many : result ≡ Err ends.TooManyReads → min (source₀.calls + most_reads) (2 ^ 64 - 1) ≤ source₁.calls

@@ -7,7 +7,7 @@ use Rattle.zset_core.specs.AbstractCommand.{Meaning}
 use Rattle.zset_core.specs.CommandGrammar.{asked}
 use Rattle.zset_core.specs.declared.refusal.Refusal.{Refusal}
 use Rattle.session_core.specs.Exchange.{ExchangeOf, Exchanges}
-use Rattle.session_core.specs.SessionEnd.{Served, Ends}
+use Rattle.session_core.specs.SessionEnd.{Served, SessionEnds}
 use Rattle.session_core.specs.WorkerAnswers.{WorkerView, WorkerAnswers}
 use Rattle.session_core.specs.declared.fault.Ended.{Ended}
 use Rattle.session_core.specs.declared.fault.SessionFault.{SessionFault}
@@ -26,7 +26,7 @@ stays (words ∷ requests) [] old new none = absurd none
 stays (words ∷ requests) (reply ∷ replies) old new (between, exchange, rest) =
     stays requests replies between new rest ∙ stays_in_exchange old between words (asked words) reply exchange
 
-stays_to_fault : (old new : WorkerView) (end : SessionFault) (came : List (List (List ℕ))) (behind : Option ProtocolFault) (before : ℕ) (written : List ℕ) → Ends (Exchanges WorkerAnswers) old came behind before end written new → new.table ≡ old.table
+stays_to_fault : (old new : WorkerView) (end : SessionFault) (came : List (List (List ℕ))) (behind : Option ProtocolFault) (before : ℕ) (written : List ℕ) → SessionEnds (Exchanges WorkerAnswers) old came behind before end written new → new.table ≡ old.table
 stays_to_fault old new NoMemory came behind before written e = stays e.run e.replies old new e.exchanges
 stays_to_fault old new ReadFault came behind before written e = stays came e.0.replies old new e.0.exchanges
 stays_to_fault old new (WriteFault out) came behind before written (out_is, inl broken) = stays broken.run broken.replies old new broken.exchanges

@@ -13,8 +13,8 @@ use Rattle.session_core.specs.declared.session.Progress.{Progress}
 use Rattle.session_core.specs.OwnerAnswers.{LoggedAnswers}
 use Rattle.session_core.specs.Exchange.{Exchanges}
 use Rattle.session_core.specs.SessionEnd.{Served}
-use Rattle.session_core.specs.SendOutcome.{DrainFailed, SourceFailed, SentOn}
-use Rattle.session_core.specs.ServeSteps.{IsBetween, Underway, Answered, Halfway, Halted, fed}
+use Rattle.session_core.specs.SendOutcome.{DrainFailed, SessionSourceFailed, SentOn}
+use Rattle.session_core.specs.ServeSteps.{IsBetween, SessionUnderway, Answered, Halfway, Halted, fed}
 use Rattle.session_core.specs.Interleaved.{PartWay}
 use Rattle.session_core.specs.Deferred.{IsAt, IsPast, IsSynced, TalkBetweenSyncs}
 use Rattle.resp_wire.proofs.CallerLemmas.{prepend_known-nil}
@@ -28,7 +28,7 @@ on : (s m t : LoggedView) (qs : List (List (List ℕ))) (rs : List Response) (mo
 on = talk-on LoggedAnswers IsSynced synced-refl synced-trans
 
 module _ (start : LoggedView) (source₀ drain₀ : Option (List ℕ)) where
-  pub begins : Underway TalkBetweenSyncs start source₀ source₀ drain₀ drain₀ start (record { held = []; taken = 0; fault = None }) (record { requests = 0; out = 0 })
+  pub begins : SessionUnderway TalkBetweenSyncs start source₀ source₀ drain₀ drain₀ start (record { held = []; taken = 0; fault = None }) (record { requests = 0; out = 0 })
   begins = serves.begins LoggedAnswers TalkBetweenSyncs synced-refl on start source₀ drain₀
 
   pub unserved : Served TalkBetweenSyncs start source₀ source₀ drain₀ drain₀ (Err NoMemory) start
@@ -36,9 +36,9 @@ module _ (start : LoggedView) (source₀ drain₀ : Option (List ℕ)) where
 
   -- the log was synced, and the session is under way or has ended as before
   module _ (source₁ drain₁ drain₂ : Option (List ℕ)) (here there : LoggedView) (synced : IsSynced here there) (same : drain₂ ≡ drain₁) where
-    pub synced_way : (wire : DecoderView) (progress : Progress) → Underway TalkBetweenSyncs start source₀ source₁ drain₀ drain₁ here wire progress → Underway TalkBetweenSyncs start source₀ source₁ drain₀ drain₂ there wire progress
+    pub synced_way : (wire : DecoderView) (progress : Progress) → SessionUnderway TalkBetweenSyncs start source₀ source₁ drain₀ drain₁ here wire progress → SessionUnderway TalkBetweenSyncs start source₀ source₁ drain₀ drain₂ there wire progress
     synced_way wire progress way =
-        let P : Option (List ℕ) → Type 0 = λ d. Underway TalkBetweenSyncs start source₀ source₁ drain₀ d there wire progress in
+        let P : Option (List ℕ) → Type 0 = λ d. SessionUnderway TalkBetweenSyncs start source₀ source₁ drain₀ d there wire progress in
         subst P (sym same) (still LoggedAnswers IsSynced synced-refl synced-trans start source₀ source₁ drain₀ drain₁ here there wire progress way synced)
 
     pub synced_part : (wire : DecoderView) (progress : Progress) → PartWay TalkBetweenSyncs start source₀ source₁ drain₀ drain₁ here wire progress → PartWay TalkBetweenSyncs start source₀ source₁ drain₀ drain₂ there wire progress
@@ -72,12 +72,12 @@ module _ (start : LoggedView) (source₀ drain₀ : Option (List ℕ)) where
       );
     }
 
-    pub unsent_way : (wire : DecoderView) (progress : Progress) → Underway TalkBetweenSyncs start source₀ source₁ drain₀ drain₁ here wire progress → Served TalkBetweenSyncs start source₀ source₁ drain₀ drain₂ (Err (WriteFault progress.out)) there
+    pub unsent_way : (wire : DecoderView) (progress : Progress) → SessionUnderway TalkBetweenSyncs start source₀ source₁ drain₀ drain₁ here wire progress → Served TalkBetweenSyncs start source₀ source₁ drain₀ drain₂ (Err (WriteFault progress.out)) there
     unsent_way wire progress way = synced_end (Err (WriteFault progress.out)) (serves.last_flush_fails LoggedAnswers TalkBetweenSyncs synced-refl on start source₀ drain₀ source₁ drain₁ here wire progress way drain₁ refl (Err (WriteFault progress.out)) refl)
 
   -- a turn
   module _ (source₁ drain₁ : Option (List ℕ)) (here : LoggedView) (wire : DecoderView) (progress : Progress) (part : PartWay TalkBetweenSyncs start source₀ source₁ drain₀ drain₁ here wire progress) (there : LoggedView) (drain₂ : Option (List ℕ)) where
-    pub answered : (new : DecoderView) (after : Progress) → Answered LoggedAnswers here wire progress drain₁ there new after drain₂ → Underway TalkBetweenSyncs start source₀ source₁ drain₀ drain₂ there new after
+    pub answered : (new : DecoderView) (after : Progress) → Answered LoggedAnswers here wire progress drain₁ there new after drain₂ → SessionUnderway TalkBetweenSyncs start source₀ source₁ drain₀ drain₂ there new after
     answered new after a = turns.answered LoggedAnswers TalkBetweenSyncs on start source₀ drain₀ source₁ drain₁ here wire progress part there new after drain₂ a
 
     pub halfway : (new : DecoderView) (after : Progress) → Halfway LoggedAnswers here wire progress drain₁ there new after drain₂ → PartWay TalkBetweenSyncs start source₀ source₁ drain₀ drain₂ there new after
@@ -87,11 +87,11 @@ module _ (start : LoggedView) (source₀ drain₀ : Option (List ℕ)) where
     halted end h = turns.halted LoggedAnswers TalkBetweenSyncs on start source₀ drain₀ source₁ drain₁ here wire progress part there end drain₂ h
 
   -- the source may be read no more
-  pub read_out : (source₁ drain₁ : Option (List ℕ)) (here : LoggedView) (wire : DecoderView) (progress : Progress) → Underway TalkBetweenSyncs start source₀ source₁ drain₀ drain₁ here wire progress → Served TalkBetweenSyncs start source₀ source₁ drain₀ drain₁ (Err TooManyReads) here
+  pub read_out : (source₁ drain₁ : Option (List ℕ)) (here : LoggedView) (wire : DecoderView) (progress : Progress) → SessionUnderway TalkBetweenSyncs start source₀ source₁ drain₀ drain₁ here wire progress → Served TalkBetweenSyncs start source₀ source₁ drain₀ drain₁ (Err TooManyReads) here
   read_out source₁ drain₁ here wire progress way = (turns.breaks TalkBetweenSyncs start source₀ drain₀ source₁ source₁ drain₁ here wire progress way (prepend_known-nil source₁)).1
 
   -- a read
-  module _ (source₁ source₂ drain₁ : Option (List ℕ)) (here : LoggedView) (wire : DecoderView) (progress : Progress) (way : Underway TalkBetweenSyncs start source₀ source₁ drain₀ drain₁ here wire progress) where
+  module _ (source₁ source₂ drain₁ : Option (List ℕ)) (here : LoggedView) (wire : DecoderView) (progress : Progress) (way : SessionUnderway TalkBetweenSyncs start source₀ source₁ drain₀ drain₁ here wire progress) where
     pub read_fails : source₁ ≡ prepend_known [] source₂ → Served TalkBetweenSyncs start source₀ source₂ drain₀ drain₁ (Err ReadFault) here
     read_fails given = (turns.breaks TalkBetweenSyncs start source₀ drain₀ source₁ source₂ drain₁ here wire progress way given).0
 
@@ -116,16 +116,16 @@ module _ (start : LoggedView) (source₀ source₁ drain₀ drain₁ : Option (L
   at_fault result is = let P : Result (Option Ended) SessionFault → Type 0 = λ r. IsAt start source₀ source₁ drain₀ drain₁ r here wire progress in subst P (sym is) served
 
 -- a fault between two reads is none of the source's
-unread_good : (end : SessionFault) (old new : ℕ) → IsBetween end → new ≡ old → SourceFailed end old new
+unread_good : (end : SessionFault) (old new : ℕ) → IsBetween end → new ≡ old → SessionSourceFailed end old new
 unread_good NoMemory old new between same = same
 unread_good ReadFault old new between same = absurd between
 unread_good (WriteFault out) old new between same = same
 unread_good (Wire told) old new between same = same
 unread_good TooManyReads old new between same = absurd between
 
-pub unread : (result : Result (Option Ended) SessionFault) (end : SessionFault) (old new : ℕ) → result ≡ Err end → IsBetween end → new ≡ old → MatchResult result (λ next. new ≡ old) (λ fault. SourceFailed fault old new)
+pub unread : (result : Result (Option Ended) SessionFault) (end : SessionFault) (old new : ℕ) → result ≡ Err end → IsBetween end → new ≡ old → MatchResult result (λ next. new ≡ old) (λ fault. SessionSourceFailed fault old new)
 unread result end old new is between same =
-    let P : Result (Option Ended) SessionFault → Type 0 = λ r. MatchResult r (λ next. new ≡ old) (λ fault. SourceFailed fault old new) in
+    let P : Result (Option Ended) SessionFault → Type 0 = λ r. MatchResult r (λ next. new ≡ old) (λ fault. SessionSourceFailed fault old new) in
     subst P (sym is) (unread_good end old new between same)
 
 -- all was sent on, where a session ends so

@@ -13,9 +13,9 @@ use Rattle.session_core.specs.declared.fault.Ended.{Ended}
 use Rattle.session_core.specs.declared.fault.SessionFault.{SessionFault}
 use Rattle.session_core.specs.declared.fault.SessionFault.TheVariants.{NoMemory, ReadFault, WriteFault, Wire, TooManyReads}
 use Rattle.session_core.specs.Exchange.{Exchanges}
-use Rattle.session_core.specs.SessionEnd.{Replied, Broken, Finished, Served, Ends}
-use Rattle.session_core.specs.ServeSteps.{Underway, fed}
-use Rattle.session_core.specs.Interleaved.{Moves, Talk, TalkBetween, Turn, Follows, PartWay, TakesTurns}
+use Rattle.session_core.specs.SessionEnd.{Replied, Broken, Finished, Served, SessionEnds}
+use Rattle.session_core.specs.ServeSteps.{SessionUnderway, fed}
+use Rattle.session_core.specs.Interleaved.{StateMoves, Talk, TalkBetween, Turn, Follows, PartWay, TakesTurns}
 use Rattle.session_core.proofs.ExchangeLemmas.{exchanges-append}
 use Rattle.session_core.proofs.HeldRequests.{halted_unfed}
 use Rattle.session_core.proofs.ServeProgress.{begins, finishes}
@@ -54,8 +54,8 @@ module _ {S : Type 0} (allows : S → Asked → Result Response Refusal → S �
   talk-on s m t qs rs more others talk exchanges = talk-append s m t qs rs more others talk (undisturbed m t more others exchanges)
 
   -- the state went on, and the session is under way as before
-  pub still : (start : S) (source₀ source₁ drain₀ drain₁ : Option (List ℕ)) (before here : S) (wire : DecoderView) (progress : Progress) → Underway (TalkBetween allows between) start source₀ source₁ drain₀ drain₁ before wire progress → between before here
-      → Underway (TalkBetween allows between) start source₀ source₁ drain₀ drain₁ here wire progress
+  pub still : (start : S) (source₀ source₁ drain₀ drain₁ : Option (List ℕ)) (before here : S) (wire : DecoderView) (progress : Progress) → SessionUnderway (TalkBetween allows between) start source₀ source₁ drain₀ drain₁ before wire progress → between before here
+      → SessionUnderway (TalkBetween allows between) start source₀ source₁ drain₀ drain₁ here wire progress
   still start source₀ source₁ drain₀ drain₁ before here wire progress way moves = record {
     read = way.read;
     written = way.written;
@@ -109,7 +109,7 @@ module _ {S : Type 0} (allows : S → Asked → Result Response Refusal → S �
       cut = b.cut;
     }
 
-    still_faulted : (asked : List (List (List ℕ))) (behind : Option ProtocolFault) (so_far : ℕ) (end : SessionFault) (written : List ℕ) → Ends (TalkBetween allows between) start asked behind so_far end written before → Ends (TalkBetween allows between) start asked behind so_far end written here
+    still_faulted : (asked : List (List (List ℕ))) (behind : Option ProtocolFault) (so_far : ℕ) (end : SessionFault) (written : List ℕ) → SessionEnds (TalkBetween allows between) start asked behind so_far end written before → SessionEnds (TalkBetween allows between) start asked behind so_far end written here
     still_faulted asked behind so_far NoMemory written e = still_broken _ asked written e
     still_faulted asked behind so_far ReadFault written e = (still_replied asked written e.0, e.1)
     still_faulted asked behind so_far TooManyReads written e = (still_replied asked written e.0, e.1)
@@ -150,16 +150,16 @@ module _ {S : Type 0} (allows : S → Asked → Result Response Refusal → S �
     }
       where
         line : (result : Result Ended SessionFault)
-            → MatchResult result (λ ended. Finished (TalkBetween allows between) start served.read ended served.written before) (λ end. Ends (TalkBetween allows between) start (requests served.read) (fault served.read) 0 end served.written before)
-            → MatchResult result (λ ended. Finished (TalkBetween allows between) start served.read ended served.written here) (λ end. Ends (TalkBetween allows between) start (requests served.read) (fault served.read) 0 end served.written here)
+            → MatchResult result (λ ended. Finished (TalkBetween allows between) start served.read ended served.written before) (λ end. SessionEnds (TalkBetween allows between) start (requests served.read) (fault served.read) 0 end served.written before)
+            → MatchResult result (λ ended. Finished (TalkBetween allows between) start served.read ended served.written here) (λ end. SessionEnds (TalkBetween allows between) start (requests served.read) (fault served.read) 0 end served.written here)
         line (Ok ended) finished = still_finished served.read ended served.written finished
         line (Err end) ends = still_faulted (requests served.read) (fault served.read) 0 end served.written ends
 
 module _ {S : Type 0} (allows : S → Asked → Result Response Refusal → S → Type 0) where
-  pub moves-refl : (s : S) → Moves allows s s
+  pub moves-refl : (s : S) → StateMoves allows s s
   moves-refl s = record { requests = []; replies = []; exchanges = refl }
 
-  pub moves-trans : (a b c : S) → Moves allows a b → Moves allows b c → Moves allows a c
+  pub moves-trans : (a b c : S) → StateMoves allows a b → StateMoves allows b c → StateMoves allows a c
   moves-trans a b c x y = record {
     requests = x.requests ++ y.requests;
     replies = x.replies ++ y.replies;
@@ -167,7 +167,7 @@ module _ {S : Type 0} (allows : S → Asked → Result Response Refusal → S �
   }
 
   moved_on : (s m t : S) (qs : List (List (List ℕ))) (rs : List Response) (more : List (List (List ℕ))) (others : List Response) → Talk allows s qs rs m → Exchanges allows m more others t → Talk allows s (qs ++ more) (rs ++ others) t
-  moved_on = talk-on allows (Moves allows) moves-refl moves-trans
+  moved_on = talk-on allows (StateMoves allows) moves-refl moves-trans
 
   module _ (start here there : S) (source₀ source₁ drain₀ drain₁ drain₂ : Option (List ℕ)) (wire new : DecoderView) (progress after : Progress) where
     follows : (result : Result Bool SessionFault) → PartWay (Talk allows) start source₀ source₁ drain₀ drain₁ here wire progress → Turn allows here wire progress drain₁ result there new after drain₂
@@ -177,7 +177,7 @@ module _ {S : Type 0} (allows : S → Asked → Result Response Refusal → S �
     follows (Err end) part turn = halted allows (Talk allows) moved_on start source₀ drain₀ source₁ drain₁ here wire progress part there end drain₂ turn
 
   -- the requests of a turn are moves
-  moved_to : (here there : S) (asked : List (List (List ℕ))) (behind : Option ProtocolFault) (before : ℕ) (end : SessionFault) (written : List ℕ) → Ends (Exchanges allows) here asked behind before end written there → Moves allows here there
+  moved_to : (here there : S) (asked : List (List (List ℕ))) (behind : Option ProtocolFault) (before : ℕ) (end : SessionFault) (written : List ℕ) → SessionEnds (Exchanges allows) here asked behind before end written there → StateMoves allows here there
   moved_to here there asked behind before NoMemory written e = record { requests = e.run; replies = e.replies; exchanges = e.exchanges }
   moved_to here there asked behind before ReadFault written e = record { requests = asked; replies = e.0.replies; exchanges = e.0.exchanges }
   moved_to here there asked behind before (WriteFault out) written (is, inl broken) = record { requests = broken.run; replies = broken.replies; exchanges = broken.exchanges }
@@ -185,7 +185,7 @@ module _ {S : Type 0} (allows : S → Asked → Result Response Refusal → S �
   moved_to here there asked behind before (Wire told) written e = record { requests = asked; replies = e.replies; exchanges = e.exchanges }
   moved_to here there asked behind before TooManyReads written e = record { requests = asked; replies = e.0.replies; exchanges = e.0.exchanges }
 
-  pub moved_by : (here there : S) (drain₁ drain₂ : Option (List ℕ)) (wire new : DecoderView) (progress after : Progress) (result : Result Bool SessionFault) → Turn allows here wire progress drain₁ result there new after drain₂ → Moves allows here there
+  pub moved_by : (here there : S) (drain₁ drain₂ : Option (List ℕ)) (wire new : DecoderView) (progress after : Progress) (result : Result Bool SessionFault) → Turn allows here wire progress drain₁ result there new after drain₂ → StateMoves allows here there
   moved_by here there drain₁ drain₂ wire new progress after (Ok true) a = record { requests = requests wire.held; replies = a.replied.replies; exchanges = a.replied.exchanges }
   moved_by here there drain₁ drain₂ wire new progress after (Ok false) h = record { requests = h.given; replies = h.replies; exchanges = h.exchanges }
   moved_by here there drain₁ drain₂ wire new progress after (Err end) h = moved_to here there (requests wire.held) (fault wire.held) progress.out end h.written h.ends
@@ -194,9 +194,9 @@ module _ {S : Type 0} (allows : S → Asked → Result Response Refusal → S �
     pub takes_turns : TakesTurns allows
     takes_turns = record {
       begins = λ start source drain. begins allows (Talk allows) moves-refl moved_on start source drain;
-      waits = λ start before here source₀ source₁ drain₀ drain₁ wire progress way moves. still allows (Moves allows) moves-refl moves-trans start source₀ source₁ drain₀ drain₁ before here wire progress way moves;
-      waits_part = λ start before here source₀ source₁ drain₀ drain₁ wire progress part moves. still_part allows (Moves allows) moves-refl moves-trans start before here source₀ source₁ drain₀ drain₁ wire progress part moves;
-      waits_ended = λ start before here source₀ source₁ drain₀ drain₁ result served moves. still_ended allows (Moves allows) moves-refl moves-trans start before here moves source₀ source₁ drain₀ drain₁ result served;
+      waits = λ start before here source₀ source₁ drain₀ drain₁ wire progress way moves. still allows (StateMoves allows) moves-refl moves-trans start source₀ source₁ drain₀ drain₁ before here wire progress way moves;
+      waits_part = λ start before here source₀ source₁ drain₀ drain₁ wire progress part moves. still_part allows (StateMoves allows) moves-refl moves-trans start before here source₀ source₁ drain₀ drain₁ wire progress part moves;
+      waits_ended = λ start before here source₀ source₁ drain₀ drain₁ result served moves. still_ended allows (StateMoves allows) moves-refl moves-trans start before here moves source₀ source₁ drain₀ drain₁ result served;
       reads = λ start here source₀ source₁ source₂ drain₀ drain₁ wire progress piece way given. reads (Talk allows) start source₀ drain₀ source₁ source₂ drain₁ here wire progress way piece given requests_cut rest_cut fault_cut;
       turns = λ start here there source₀ source₁ drain₀ drain₁ drain₂ wire new progress after result part turn. follows start here there source₀ source₁ drain₀ drain₁ drain₂ wire new progress after result part turn;
       ends = λ start here source₀ source₁ source₂ drain₀ drain₁ wire progress ended way given at_end count left.

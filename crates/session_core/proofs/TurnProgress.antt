@@ -12,13 +12,13 @@ use Rattle.session_core.specs.declared.fault.SessionFault.{SessionFault}
 use Rattle.session_core.specs.declared.fault.SessionFault.TheVariants.{ReadFault, TooManyReads}
 use Rattle.session_core.specs.declared.session.Progress.{Progress}
 use Rattle.session_core.specs.Exchange.{Exchanges, texts}
-use Rattle.session_core.specs.SessionEnd.{Ends, Served}
-use Rattle.session_core.specs.ServeSteps.{fed, Answered, Halfway, Halted, Underway}
+use Rattle.session_core.specs.SessionEnd.{SessionEnds, Served}
+use Rattle.session_core.specs.ServeSteps.{fed, Answered, Halfway, Halted, SessionUnderway}
 use Rattle.session_core.specs.Interleaved.{PartWay}
 use Rattle.resp_wire.proofs.CallerLemmas.{append_known-append_known, prepend_known-prepend_known}
 use Rattle.session_core.proofs.ExchangeLemmas.{texts-append, ends_after}
 
-module _ {S : Type 0} (talk : S → List (List (List ℕ)) → List Response → S → Type 0) (start : S) (source₀ drain₀ source₁ source₂ drain₁ : Option (List ℕ)) (here : S) (wire : DecoderView) (progress : Progress) (way : Underway talk start source₀ source₁ drain₀ drain₁ here wire progress) where
+module _ {S : Type 0} (talk : S → List (List (List ℕ)) → List Response → S → Type 0) (start : S) (source₀ drain₀ source₁ source₂ drain₁ : Option (List ℕ)) (here : S) (wire : DecoderView) (progress : Progress) (way : SessionUnderway talk start source₀ source₁ drain₀ drain₁ here wire progress) where
   -- a piece was read
   pub reads : (piece : List ℕ) → source₁ ≡ prepend_known piece source₂ → ((a b : List ℕ) → requests (a ++ b) ≡ requests a ++ requests (rest a ++ b)) → ((a b : List ℕ) → rest (a ++ b) ≡ rest (rest a ++ b)) → ((a b : List ℕ) → fault (a ++ b) ≡ fault (rest a ++ b))
       → PartWay talk start source₀ source₂ drain₀ drain₁ here (fed wire piece) progress
@@ -49,7 +49,7 @@ module _ {S : Type 0} (talk : S → List (List (List ℕ)) → List Response →
 module _ {S : Type 0} (allows : S → Asked → Result Response Refusal → S → Type 0) (talk : S → List (List (List ℕ)) → List Response → S → Type 0) (append : (s m t : S) (qs : List (List (List ℕ))) (rs : List Response) (more : List (List (List ℕ))) (others : List Response) → talk s qs rs m → Exchanges allows m more others t → talk s (qs ++ more) (rs ++ others) t)
     (start : S) (source₀ drain₀ source₁ drain₁ : Option (List ℕ)) (here : S) (wire : DecoderView) (progress : Progress) (part : PartWay talk start source₀ source₁ drain₀ drain₁ here wire progress) where
   -- all that was left is answered
-  pub answered : (there : S) (new : DecoderView) (after : Progress) (drain₂ : Option (List ℕ)) → Answered allows here wire progress drain₁ there new after drain₂ → Underway talk start source₀ source₁ drain₀ drain₂ there new after
+  pub answered : (there : S) (new : DecoderView) (after : Progress) (drain₂ : Option (List ℕ)) → Answered allows here wire progress drain₁ there new after drain₂ → SessionUnderway talk start source₀ source₁ drain₀ drain₂ there new after
   answered there new after drain₂ a = record {
     read = part.read;
     written = part.written ++ a.written;
@@ -92,7 +92,7 @@ module _ {S : Type 0} (allows : S → Asked → Result Response Refusal → S �
   pub halted : (there : S) (end : SessionFault) (drain₂ : Option (List ℕ)) → Halted allows here (requests wire.held) (fault wire.held) progress.out drain₁ end there drain₂ → Served talk start source₀ source₁ drain₀ drain₂ (Err end) there
   halted there end drain₂ h =
       let out : progress.out ≡ 0 + length (texts part.replied.replies) = omega (arith, part.out_is, ap length part.replied.written_is) in
-      let counted = subst (λ (n : ℕ). Ends (Exchanges allows) here (requests wire.held) (fault wire.held) n end h.written there) out h.ends in
+      let counted = subst (λ (n : ℕ). SessionEnds (Exchanges allows) here (requests wire.held) (fault wire.held) n end h.written there) out h.ends in
       let all = ends_after allows talk append start here there part.given part.replied.replies part.replied.exchanges (requests wire.held) (fault wire.held) 0 end h.written counted in
       record {
         read = part.read;
@@ -100,5 +100,5 @@ module _ {S : Type 0} (allows : S → Asked → Result Response Refusal → S �
         read_is = part.read_is;
         written_is = h.told_is ∙ ap (λ (k : Option (List ℕ)). append_known k h.written) part.written_is ∙ append_known-append_known drain₀ part.written h.written ∙ ap (λ (t : List ℕ). append_known drain₀ (t ++ h.written)) part.replied.written_is;
         at_end = tt;
-        line = subst (λ (f : Option ProtocolFault). Ends talk start (requests part.read) f 0 end (texts part.replied.replies ++ h.written) there) (sym part.fault_is) (subst (λ (l : List (List (List ℕ))). Ends talk start l (fault wire.held) 0 end (texts part.replied.replies ++ h.written) there) (sym part.requests_are) all);
+        line = subst (λ (f : Option ProtocolFault). SessionEnds talk start (requests part.read) f 0 end (texts part.replied.replies ++ h.written) there) (sym part.fault_is) (subst (λ (l : List (List (List ℕ))). SessionEnds talk start l (fault wire.held) 0 end (texts part.replied.replies ++ h.written) there) (sym part.requests_are) all);
       }

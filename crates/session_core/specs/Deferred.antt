@@ -9,7 +9,7 @@ use Rattle.session_core.specs.declared.fault.Ended.{Ended}
 use Rattle.session_core.specs.declared.fault.SessionFault.{SessionFault}
 use Rattle.session_core.specs.declared.session.Progress.{Progress}
 use Rattle.session_core.specs.SessionEnd.{Served}
-use Rattle.session_core.specs.ServeSteps.{Underway}
+use Rattle.session_core.specs.ServeSteps.{SessionUnderway}
 use Rattle.session_core.specs.Interleaved.{TalkBetween}
 
 -- no set changed, and no byte or record came to the log: it was synced, so that more of its records are settled, or a sync failed,
@@ -34,11 +34,11 @@ TalkBetweenSyncs = TalkBetween LoggedAnswers IsSynced
 -- what is known of a session behind a read: all that was read is answered, or it has ended
 module _ (start : LoggedView) (source₀ source₁ drain₀ drain₁ : Option (List ℕ)) where
   abbrev pub IsAt : Result (Option Ended) SessionFault → LoggedView → DecoderView → Progress → Type 0
-  IsAt (Ok None) here wire progress = Underway TalkBetweenSyncs start source₀ source₁ drain₀ drain₁ here wire progress
+  IsAt (Ok None) here wire progress = SessionUnderway TalkBetweenSyncs start source₀ source₁ drain₀ drain₁ here wire progress
   IsAt (Ok (Some ended)) here wire progress = Served TalkBetweenSyncs start source₀ source₁ drain₀ drain₁ (Ok ended) here
   IsAt (Err end) here wire progress = Served TalkBetweenSyncs start source₀ source₁ drain₀ drain₁ (Err end) here
 
   -- the same behind requests that were held
   abbrev pub IsPast : Result Unit SessionFault → LoggedView → DecoderView → Progress → Type 0
-  IsPast (Ok unit) here wire progress = Underway TalkBetweenSyncs start source₀ source₁ drain₀ drain₁ here wire progress
+  IsPast (Ok unit) here wire progress = SessionUnderway TalkBetweenSyncs start source₀ source₁ drain₀ drain₁ here wire progress
   IsPast (Err end) here wire progress = Served TalkBetweenSyncs start source₀ source₁ drain₀ drain₁ (Err end) here

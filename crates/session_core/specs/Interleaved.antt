@@ -12,7 +12,7 @@ use Rattle.session_core.specs.declared.fault.SessionFault.TheVariants.{NoMemory,
 use Rattle.session_core.specs.declared.session.Progress.{Progress}
 use Rattle.session_core.specs.Exchange.{Exchange, Exchanges}
 use Rattle.session_core.specs.SessionEnd.{Replied, Served}
-use Rattle.session_core.specs.ServeSteps.{Underway, Answered, Halfway, Halted, fed}
+use Rattle.session_core.specs.ServeSteps.{SessionUnderway, Answered, Halfway, Halted, fed}
 
 -- the first of the requests that were read are answered, and the others are held
 pub record PartWay {S : Type 0} (talk : S → List (List (List ℕ)) → List Response → S → Type 0) (start : S) (source₀ source₁ drain₀ drain₁ : Option (List ℕ)) (here : S) (wire : DecoderView) (progress : Progress) : Type 0 where
@@ -30,7 +30,7 @@ pub record PartWay {S : Type 0} (talk : S → List (List (List ℕ)) → List Re
   pub count_is : progress.requests ≡ length given
 
 -- requests, of whichever session, led from one state to the other
-pub record Moves {S : Type 0} (allows : S → Asked → Result Response Refusal → S → Type 0) (old new : S) : Type 0 where
+pub record StateMoves {S : Type 0} (allows : S → Asked → Result Response Refusal → S → Type 0) (old new : S) : Type 0 where
   pub requests : List (List (List ℕ))
   pub replies : List Response
   pub exchanges : Exchanges allows old requests replies new
@@ -46,7 +46,7 @@ module _ {S : Type 0} (allows : S → Asked → Result Response Refusal → S �
 module _ {S : Type 0} (allows : S → Asked → Result Response Refusal → S → Type 0) where
   -- what is said in one session, where others may be served between
   abbrev pub Talk : S → List (List (List ℕ)) → List Response → S → Type 0
-  Talk = TalkBetween allows (Moves allows)
+  Talk = TalkBetween allows (StateMoves allows)
 
   -- a turn: all requests that are held were answered, or the first of them, or the session ended at them
   abbrev pub Turn : S → DecoderView → Progress → Option (List ℕ) → Result Bool SessionFault → S → DecoderView → Progress → Option (List ℕ) → Type 0
@@ -56,7 +56,7 @@ module _ {S : Type 0} (allows : S → Asked → Result Response Refusal → S �
 
   -- what is known of a session behind a turn: all that was read is answered, or a part, or it has ended
   abbrev pub Follows : S → Option (List ℕ) → Option (List ℕ) → Option (List ℕ) → Option (List ℕ) → Result Bool SessionFault → S → DecoderView → Progress → Type 0
-  Follows start source₀ source₁ drain₀ drain₁ (Ok true) here wire progress = Underway Talk start source₀ source₁ drain₀ drain₁ here wire progress
+  Follows start source₀ source₁ drain₀ drain₁ (Ok true) here wire progress = SessionUnderway Talk start source₀ source₁ drain₀ drain₁ here wire progress
   Follows start source₀ source₁ drain₀ drain₁ (Ok false) here wire progress = PartWay Talk start source₀ source₁ drain₀ drain₁ here wire progress
   Follows start source₀ source₁ drain₀ drain₁ (Err end) here wire progress = Served Talk start source₀ source₁ drain₀ drain₁ (Err end) here
 
@@ -64,17 +64,17 @@ module _ {S : Type 0} (allows : S → Asked → Result Response Refusal → S �
   -- served alone, its exchanges standing among theirs
   pub record TakesTurns : Type 0 where
     -- a session begins
-    pub begins : (start : S) (source drain : Option (List ℕ)) → Underway Talk start source source drain drain start (record { held = []; taken = 0; fault = None }) (record { requests = 0; out = 0 })
+    pub begins : (start : S) (source drain : Option (List ℕ)) → SessionUnderway Talk start source source drain drain start (record { held = []; taken = 0; fault = None }) (record { requests = 0; out = 0 })
     -- others are served
     pub waits : (start before here : S) (source₀ source₁ drain₀ drain₁ : Option (List ℕ)) (wire : DecoderView) (progress : Progress)
-        → Underway Talk start source₀ source₁ drain₀ drain₁ before wire progress → Moves allows before here → Underway Talk start source₀ source₁ drain₀ drain₁ here wire progress
+        → SessionUnderway Talk start source₀ source₁ drain₀ drain₁ before wire progress → StateMoves allows before here → SessionUnderway Talk start source₀ source₁ drain₀ drain₁ here wire progress
     pub waits_part : (start before here : S) (source₀ source₁ drain₀ drain₁ : Option (List ℕ)) (wire : DecoderView) (progress : Progress)
-        → PartWay Talk start source₀ source₁ drain₀ drain₁ before wire progress → Moves allows before here → PartWay Talk start source₀ source₁ drain₀ drain₁ here wire progress
+        → PartWay Talk start source₀ source₁ drain₀ drain₁ before wire progress → StateMoves allows before here → PartWay Talk start source₀ source₁ drain₀ drain₁ here wire progress
     pub waits_ended : (start before here : S) (source₀ source₁ drain₀ drain₁ : Option (List ℕ)) (result : Result Ended SessionFault)
-        → Served Talk start source₀ source₁ drain₀ drain₁ result before → Moves allows before here → Served Talk start source₀ source₁ drain₀ drain₁ result here
+        → Served Talk start source₀ source₁ drain₀ drain₁ result before → StateMoves allows before here → Served Talk start source₀ source₁ drain₀ drain₁ result here
     -- a piece is read
     pub reads : (start here : S) (source₀ source₁ source₂ drain₀ drain₁ : Option (List ℕ)) (wire : DecoderView) (progress : Progress) (piece : List ℕ)
-        → Underway Talk start source₀ source₁ drain₀ drain₁ here wire progress → source₁ ≡ prepend_known piece source₂
+        → SessionUnderway Talk start source₀ source₁ drain₀ drain₁ here wire progress → source₁ ≡ prepend_known piece source₂
         → PartWay Talk start source₀ source₂ drain₀ drain₁ here (fed wire piece) progress
     -- a turn
     pub turns : (start here there : S) (source₀ source₁ drain₀ drain₁ drain₂ : Option (List ℕ)) (wire new : DecoderView) (progress after : Progress) (result : Result Bool SessionFault)
@@ -82,14 +82,14 @@ module _ {S : Type 0} (allows : S → Asked → Result Response Refusal → S �
         → Follows start source₀ source₁ drain₀ drain₂ result there new after
     -- the input is at its end
     pub ends : (start here : S) (source₀ source₁ source₂ drain₀ drain₁ : Option (List ℕ)) (wire : DecoderView) (progress : Progress) (ended : Ended)
-        → Underway Talk start source₀ source₁ drain₀ drain₁ here wire progress → source₁ ≡ prepend_known [] source₂ → IsAtEnd source₂
+        → SessionUnderway Talk start source₀ source₁ drain₀ drain₁ here wire progress → source₁ ≡ prepend_known [] source₂ → IsAtEnd source₂
         → ended.requests ≡ progress.requests → ended.rest ≡ length wire.held
         → Served Talk start source₀ source₂ drain₀ drain₁ (Ok ended) here
     -- the source fails, or was read as often as allowed
     pub breaks : (start here : S) (source₀ source₁ source₂ drain₀ drain₁ : Option (List ℕ)) (wire : DecoderView) (progress : Progress)
-        → Underway Talk start source₀ source₁ drain₀ drain₁ here wire progress → source₁ ≡ prepend_known [] source₂
+        → SessionUnderway Talk start source₀ source₁ drain₀ drain₁ here wire progress → source₁ ≡ prepend_known [] source₂
         → Served Talk start source₀ source₂ drain₀ drain₁ (Err ReadFault) here × Served Talk start source₀ source₂ drain₀ drain₁ (Err TooManyReads) here
     -- there is no memory for a piece that was read
     pub lacks : (start here : S) (source₀ source₁ source₂ drain₀ drain₁ : Option (List ℕ)) (wire : DecoderView) (progress : Progress) (piece : List ℕ)
-        → Underway Talk start source₀ source₁ drain₀ drain₁ here wire progress → source₁ ≡ prepend_known piece source₂
+        → SessionUnderway Talk start source₀ source₁ drain₀ drain₁ here wire progress → source₁ ≡ prepend_known piece source₂
         → Served Talk start source₀ source₂ drain₀ drain₁ (Err NoMemory) here

@@ -6,9 +6,9 @@ ghost use Rattle.std.specs.Io.KnownBytes.{IsAtEnd};
 ghost use Rattle.resp_wire.specs.Device.{Rose, saturating_succ};
 ghost use Rattle.session_core.specs.Exchange.{Exchanges};
 ghost use Rattle.session_core.specs.SessionEnd.{Served};
-ghost use Rattle.session_core.specs.SendOutcome.{DrainFailed, SourceFailed, SentOn};
+ghost use Rattle.session_core.specs.SendOutcome.{DrainFailed, SessionSourceFailed, SentOn};
 ghost use Rattle.session_core.specs.declared.fault.SessionFault.TheVariants.{WriteFault, TooManyReads};
-ghost use Rattle.session_core.specs.ServeSteps.{IsSmall, IsBetweenReads, StaysSmall, Halted, Answered, Round, fed};
+ghost use Rattle.session_core.specs.ServeSteps.{IsSmall, SessionIsBetweenReads, StaysSmall, Halted, Answered, Round, fed};
 
 use crate::exec::Exec;
 use crate::fault::{Ended, SessionFault};
@@ -43,7 +43,7 @@ impl<A: Allocator + Copy> Session<A> {
         exec: &mut E,
     ) -> Result<(), SessionFault>
         requires settled { E.settled exec.old }
-        requires ready { IsBetweenReads self.old.decoder self.old.progress }
+        requires ready { SessionIsBetweenReads self.old.decoder self.old.progress }
         ensures settled { E.settled exec.new }
         ensures small { OnOk result (IsSmall self.new.decoder self.new.progress) }
         ensures answered { OnOk result
@@ -106,7 +106,7 @@ impl<A: Allocator + Copy> Session<A> {
         exec: &mut E,
     ) -> Result<Option<Ended>, SessionFault>
         requires settled { E.settled exec.old }
-        requires ready { IsBetweenReads self.old.decoder self.old.progress }
+        requires ready { SessionIsBetweenReads self.old.decoder self.old.progress }
         requires some { 1 ≤ length buffer.old }
         requires room { self.old.decoder.taken + length self.old.decoder.held + length buffer.old
             < 2 ^ 60 }
@@ -120,7 +120,7 @@ impl<A: Allocator + Copy> Session<A> {
         ensures once { OnOk result (S.calls source.new ≡ saturating_succ (S.calls source.old)) }
         ensures source_failures { MatchResult result
             (λ _. S.failures source.new ≡ S.failures source.old)
-            (λ end. SourceFailed end (S.failures source.old) (S.failures source.new)) }
+            (λ end. SessionSourceFailed end (S.failures source.old) (S.failures source.new)) }
         ensures drain_failures { MatchResult result
             (λ _. D.failures drain.new ≡ D.failures drain.old)
             (λ end. DrainFailed end (D.failures drain.old) (D.failures drain.new)) }
@@ -183,7 +183,7 @@ pub fn serve<R, A: Allocator + Copy, S: ByteSource, D: ByteDrain, E: Exec<R, A>>
         ≤ S.calls source.new }
     ensures source_failures { MatchResult result
         (λ _. S.failures source.new ≡ S.failures source.old)
-        (λ end. SourceFailed end (S.failures source.old) (S.failures source.new)) }
+        (λ end. SessionSourceFailed end (S.failures source.old) (S.failures source.new)) }
     ensures drain_failures { MatchResult result (λ _. D.failures drain.new ≡ D.failures drain.old)
         (λ end. DrainFailed end (D.failures drain.old) (D.failures drain.new)) }
     // A read that fails leaves it so too: all was sent on before each read.

@@ -7,8 +7,8 @@ ghost use Rattle.append_log.specs.LoggedOwner.{LoggedView};
 ghost use Rattle.session_core.specs.Deferred.{IsAt, IsPast, IsSynced, TalkBetweenSyncs};
 ghost use Rattle.session_core.specs.Interleaved.{PartWay};
 ghost use Rattle.session_core.specs.SessionEnd.{Served};
-ghost use Rattle.session_core.specs.SendOutcome.{DrainFailed, SourceFailed, SentOn};
-ghost use Rattle.session_core.specs.ServeSteps.{IsBetween, IsBetweenReads, IsSmall, StaysSmall, Underway};
+ghost use Rattle.session_core.specs.SendOutcome.{DrainFailed, SessionSourceFailed, SentOn};
+ghost use Rattle.session_core.specs.ServeSteps.{IsBetween, SessionIsBetweenReads, IsSmall, StaysSmall, SessionUnderway};
 ghost use Rattle.session_core.specs.declared.fault.SessionFault.TheVariants.{WriteFault, TooManyReads};
 
 use crate::fault::{Ended, SessionFault};
@@ -64,7 +64,7 @@ impl<A: Allocator + Copy> Session<A> {
         K: LogSink,
         L: Ledger,
         D: ByteDrain,
-        requires ready { IsBetweenReads self.old.decoder self.old.progress }
+        requires ready { SessionIsBetweenReads self.old.decoder self.old.progress }
         ensures small { OnOk result (IsSmall self.new.decoder self.new.progress) }
         ensures bytes { OnOk result (self.new.decoder.taken + length self.new.decoder.held
             ≡ self.old.decoder.taken + length self.old.decoder.held) }
@@ -118,14 +118,14 @@ impl<A: Allocator + Copy> Session<A> {
         L: Ledger,
         S: ByteSource,
         D: ByteDrain,
-        requires ready { IsBetweenReads self.old.decoder self.old.progress }
+        requires ready { SessionIsBetweenReads self.old.decoder self.old.progress }
         requires some { 1 ≤ length buffer.old }
         requires room { self.old.decoder.taken + length self.old.decoder.held + length buffer.old
             < 2 ^ 60 }
         ensures small { OnOk result (StaysSmall self.old.decoder (length buffer.old)
             self.new.decoder self.new.progress) }
         ensures at { (start : LoggedView) (source₀ drain₀ : Option (List ℕ))
-            → Underway TalkBetweenSyncs start source₀ (S.told source.old) drain₀
+            → SessionUnderway TalkBetweenSyncs start source₀ (S.told source.old) drain₀
             (⟦<HeldReplies<D, A> as ByteDrain>⟧.told replies.old) owner.old self.old.decoder self.old.progress
             → IsAt start source₀ (S.told source.new) drain₀ (⟦<HeldReplies<D, A> as ByteDrain>⟧.told replies.new)
             result owner.new self.new.decoder self.new.progress }
@@ -135,7 +135,7 @@ impl<A: Allocator + Copy> Session<A> {
         ensures at_end { IfOk result (λ next. OnSome next (IsAtEnd (S.told source.new))) }
         ensures source_failures { MatchResult result
             (λ _. S.failures source.new ≡ S.failures source.old)
-            (λ end. SourceFailed end (S.failures source.old) (S.failures source.new)) }
+            (λ end. SessionSourceFailed end (S.failures source.old) (S.failures source.new)) }
         ensures drain_failures { MatchResult result
             (λ _. replies.new.failures ≡ replies.old.failures)
             (λ end. DrainFailed end replies.old.failures replies.new.failures) }
@@ -192,7 +192,7 @@ where
         ≤ S.calls source.new }
     ensures source_failures { MatchResult result
         (λ _. S.failures source.new ≡ S.failures source.old)
-        (λ end. SourceFailed end (S.failures source.old) (S.failures source.new)) }
+        (λ end. SessionSourceFailed end (S.failures source.old) (S.failures source.new)) }
     ensures drain_failures { MatchResult result (λ _. replies.new.failures ≡ replies.old.failures)
         (λ end. DrainFailed end replies.old.failures replies.new.failures) }
     ensures sent_on { MatchResult result

@@ -6,7 +6,7 @@ ghost use Rattle.resp_wire.specs.declared.fault.ProtocolFault.{ProtocolFault};
 ghost use Rattle.session_core.specs.Interleaved.{TakesTurns};
 ghost use Rattle.session_core.specs.SendOutcome.{DrainFailed, SentOn};
 ghost use Rattle.session_core.specs.declared.fault.SessionFault.TheVariants.{NoMemory, WriteFault, Wire};
-ghost use Rattle.session_core.specs.ServeSteps.{IsSmall, IsBetweenReads, AnsweredOne, HaltedOne, Halfway, Answered, Halted, fed};
+ghost use Rattle.session_core.specs.ServeSteps.{IsSmall, SessionIsBetweenReads, AnsweredOne, HaltedOne, Halfway, Answered, Halted, fed};
 
 use crate::exec::{Exec, respond};
 use crate::fault::{Ended, SessionFault};
@@ -148,9 +148,9 @@ impl<A: Allocator + Copy> Session<A> {
         exec: &mut E,
     ) -> Result<bool, SessionFault>
         requires settled { E.settled exec.old }
-        requires ready { IsBetweenReads self.old.decoder self.old.progress }
+        requires ready { SessionIsBetweenReads self.old.decoder self.old.progress }
         ensures settled { E.settled exec.new }
-        ensures ready { OnOk result (IsBetweenReads self.new.decoder self.new.progress) }
+        ensures ready { OnOk result (SessionIsBetweenReads self.new.decoder self.new.progress) }
         ensures answered { IfOk result (λ all. all ≡ true →
             Answered E.allows exec.old self.old.decoder self.old.progress (D.told drain.old)
             exec.new self.new.decoder self.new.progress (D.told drain.new)) }
