@@ -8,9 +8,9 @@ use Rattle.session_core.specs.declared.session.Progress.{Progress}
 use Rattle.session_core.specs.Interleaved.{StateMoves, TakesTurns}
 use Rattle.connections.specs.declared.visit.Stage.{Stage}
 use Rattle.connections.specs.declared.visit.Stage.TheVariants.{Reads, Runs, Ended}
-use Rattle.connections.specs.Places.{IsAt, MayPut, EachWas}
-use Rattle.connections.specs.VisitSteps.{VisitState, Stands, GoesOn, HasBegun, state, new_state}
-use Rattle.connections.specs.HeldConnections.{HeldState, AllGoOn, AllStand, IsAdded, HaveLeft, Waits, AllWait, AllMayLeave, RisesBy}
+use Rattle.connections.specs.Places.{ValueIsAt, MayPut, EachWas}
+use Rattle.connections.specs.VisitSteps.{VisitState, Stands, GoesOn, HasBegun, visit_state, new_state}
+use Rattle.connections.specs.HeldConnections.{HeldState, AllGoOn, AllStand, IsAdded, HaveLeft, ConnectionWaits, AllWait, AllMayLeave, RisesBy}
 use Rattle.connections.proofs.PlaceLemmas.{at_set, at_grown, was_trans, was_so, each_now, all_shown, exchanged_alike, exchanged_was, emptied_was}
 
 module _ {S : Type 0} (allows : S → Asked → Result Response Refusal → S → Type 0) where
@@ -18,7 +18,7 @@ module _ {S : Type 0} (allows : S → Asked → Result Response Refusal → S �
   pub others_served : TakesTurns allows → (here there : S) → StateMoves allows here there → (visit : VisitState) → GoesOn allows visit here visit there
   others_served law here there moves visit start source₀ drain₀ stands = waits_at visit.stage visit.source visit.drain visit.wire visit.progress stands
     where
-      waits_at : (stage : Stage) (source drain : Option (List ℕ)) (wire : DecoderView) (progress : Progress) → Stands allows start source₀ drain₀ (state stage source drain wire progress) here → Stands allows start source₀ drain₀ (state stage source drain wire progress) there
+      waits_at : (stage : Stage) (source drain : Option (List ℕ)) (wire : DecoderView) (progress : Progress) → Stands allows start source₀ drain₀ (visit_state stage source drain wire progress) here → Stands allows start source₀ drain₀ (visit_state stage source drain wire progress) there
       waits_at Reads source drain wire progress way = law.waits start here there source₀ source drain₀ drain wire progress way moves
       waits_at Runs source drain wire progress part = law.waits_part start here there source₀ source drain₀ drain wire progress part moves
       waits_at (Ended result) source drain wire progress served = law.waits_ended start here there source₀ source drain₀ drain result served moves
@@ -48,14 +48,14 @@ module _ {S : Type 0} (allows : S → Asked → Result Response Refusal → S �
   pub added_stands : TakesTurns allows → (old new : List (Option HeldState)) (here : S) (source drain : Option (List ℕ)) → IsAdded (new_state source drain) old new → AllStand allows old here → AllStand allows new here
   added_stands law old new here source drain added stand other connection at = by_put added.put
     where
-      was_held : IsAt added.grown other connection → HasBegun allows here connection.visit
+      was_held : ValueIsAt added.grown other connection → HasBegun allows here connection.visit
       was_held before = stand other connection (at_grown old added.grown added.is_grown other connection before)
 
       by_put : MayPut added.connection added.grown new → HasBegun allows here connection.visit
-      by_put (inr same) = was_held (subst (λ (slots : List (Option HeldState)). IsAt slots other connection) same at)
-      by_put (inl p) = by_place (at_set added.grown p.place other added.connection connection (subst (λ (slots : List (Option HeldState)). IsAt slots other connection) p.put at))
+      by_put (inr same) = was_held (subst (λ (slots : List (Option HeldState)). ValueIsAt slots other connection) same at)
+      by_put (inl p) = by_place (at_set added.grown p.place other added.connection connection (subst (λ (slots : List (Option HeldState)). ValueIsAt slots other connection) p.put at))
         where
-          by_place : ((other ≡ p.place) × (connection ≡ added.connection)) ⊎ IsAt added.grown other connection → HasBegun allows here connection.visit
+          by_place : ((other ≡ p.place) × (connection ≡ added.connection)) ⊎ ValueIsAt added.grown other connection → HasBegun allows here connection.visit
           by_place (inl (place, is)) =
               let visit_is : connection.visit ≡ new_state source drain = ap (λ (h : HeldState). h.visit) is ∙ added.begins.0 in
               (here, source, drain, subst (λ (v : VisitState). Stands allows here source drain v here) (sym visit_is) (law.begins here source drain))
@@ -73,16 +73,16 @@ pub all_wait_refl : (settled : ℕ) (held : List (Option HeldState)) → AllWait
 all_wait_refl settled held place connection at = (connection, at, λ behind. refl)
 
 -- what waits for a record behind so many waits for one behind fewer
-waits_from : (fewer more : ℕ) → fewer ≤ more → (before after : HeldState) → Waits fewer before after → Waits more before after
+waits_from : (fewer more : ℕ) → fewer ≤ more → (before after : HeldState) → ConnectionWaits fewer before after → ConnectionWaits more before after
 waits_from fewer more rises before after waits behind = waits (omega (arith, rises, behind))
 
-waits_on : (fewer more : ℕ) → fewer ≤ more → (a b c : HeldState) → Waits fewer a b → Waits more b c → Waits more a c
+waits_on : (fewer more : ℕ) → fewer ≤ more → (a b c : HeldState) → ConnectionWaits fewer a b → ConnectionWaits more b c → ConnectionWaits more a c
 waits_on fewer more rises a b c first second behind =
     let stays = waits_from fewer more rises a b first behind in
     second (subst (λ (h : HeldState). more < h.awaited) (sym stays) behind) ∙ stays
 
 pub all_wait_trans : (fewer more : ℕ) → fewer ≤ more → (first second third : List (Option HeldState)) → AllWait fewer first second → AllWait more second third → AllWait more first third
-all_wait_trans fewer more rises first second third one other = was_trans (Waits fewer) (Waits more) (Waits more) (waits_on fewer more rises) first second third one other
+all_wait_trans fewer more rises first second third one other = was_trans (ConnectionWaits fewer) (ConnectionWaits more) (ConnectionWaits more) (waits_on fewer more rises) first second third one other
 
 pub may_leave_refl : (settled : ℕ) (held : List (Option HeldState)) → AllMayLeave settled held held
 may_leave_refl settled held place connection at = (connection, at, (refl, λ behind. refl))

@@ -1,23 +1,23 @@
 -- What stands at a place, once another value was put there or taken out.
 use Rattle.std.proofs.Common.{◌≡◌, ℕ, ◌⊎◌, inl, inr, List, [], ◌∷◌, ◌++◌, map, Option, Some, None, slice_set, slice_get, option_map, zero, suc, refl, sym, ◌∙◌, ap, subst}
 use Rattle.std.proofs.lemmas.Option.{none-some, same_Some, slice_get-map}
-use Rattle.connections.specs.Places.{IsAt, IsGrown, MayPut, EachWas, Each}
+use Rattle.connections.specs.Places.{ValueIsAt, IsGrown, MayPut, EachWas, Each}
 
 module _ {V : Type 0} where
   -- behind a value that was put, each other one stood there before
-  pub at_set : (slots : List (Option V)) (place other : ℕ) (new value : V) → IsAt (slice_set slots place (Some new)) other value → ((other ≡ place) × (value ≡ new)) ⊎ IsAt slots other value
+  pub at_set : (slots : List (Option V)) (place other : ℕ) (new value : V) → ValueIsAt (slice_set slots place (Some new)) other value → ((other ≡ place) × (value ≡ new)) ⊎ ValueIsAt slots other value
   at_set [] place other new value at = inr at
   at_set (slot ∷ slots) zero zero new value at = inl (refl, sym (same_Some new value (same_Some (Some new) (Some value) at)))
   at_set (slot ∷ slots) zero (suc other) new value at = inr at
   at_set (slot ∷ slots) (suc place) zero new value at = inr at
   at_set (slot ∷ slots) (suc place) (suc other) new value at = behind (at_set slots place other new value at)
     where
-      behind : ((other ≡ place) × (value ≡ new)) ⊎ IsAt slots other value → ((suc other ≡ suc place) × (value ≡ new)) ⊎ IsAt slots other value
+      behind : ((other ≡ place) × (value ≡ new)) ⊎ ValueIsAt slots other value → ((suc other ≡ suc place) × (value ≡ new)) ⊎ ValueIsAt slots other value
       behind (inl (same, is)) = inl (ap suc same, is)
       behind (inr before) = inr before
 
   -- what stands somewhere once a place was emptied stood there before
-  pub at_emptied : (slots : List (Option V)) (place other : ℕ) (value : V) → IsAt (slice_set slots place None) other value → IsAt slots other value
+  pub at_emptied : (slots : List (Option V)) (place other : ℕ) (value : V) → ValueIsAt (slice_set slots place None) other value → ValueIsAt slots other value
   at_emptied [] place other value at = at
   at_emptied (slot ∷ slots) zero zero value at = absurd (none-some value (same_Some None (Some value) at))
   at_emptied (slot ∷ slots) zero (suc other) value at = at
@@ -25,15 +25,15 @@ module _ {V : Type 0} where
   at_emptied (slot ∷ slots) (suc place) (suc other) value at = at_emptied slots place other value at
 
   -- what stands somewhere once there is a place more stood there before
-  pub at_longer : (slots : List (Option V)) (other : ℕ) (value : V) → IsAt (slots ++ None ∷ []) other value → IsAt slots other value
+  pub at_longer : (slots : List (Option V)) (other : ℕ) (value : V) → ValueIsAt (slots ++ None ∷ []) other value → ValueIsAt slots other value
   at_longer [] zero value at = absurd (none-some value (same_Some None (Some value) at))
   at_longer [] (suc other) value at = at
   at_longer (slot ∷ slots) zero value at = at
   at_longer (slot ∷ slots) (suc other) value at = at_longer slots other value at
 
-  pub at_grown : (old new : List (Option V)) → IsGrown old new → (other : ℕ) (value : V) → IsAt new other value → IsAt old other value
-  at_grown old new (inl same) other value at = subst (λ (slots : List (Option V)). IsAt slots other value) same at
-  at_grown old new (inr longer) other value at = at_longer old other value (subst (λ (slots : List (Option V)). IsAt slots other value) longer at)
+  pub at_grown : (old new : List (Option V)) → IsGrown old new → (other : ℕ) (value : V) → ValueIsAt new other value → ValueIsAt old other value
+  at_grown old new (inl same) other value at = subst (λ (slots : List (Option V)). ValueIsAt slots other value) same at
+  at_grown old new (inr longer) other value at = at_longer old other value (subst (λ (slots : List (Option V)). ValueIsAt slots other value) longer at)
 
   -- a place that was emptied and filled anew, and one that was only filled
   pub set_again : (slots : List (Option V)) (place : ℕ) (first second : Option V) → slice_set (slice_set slots place first) place second ≡ slice_set slots place second
@@ -70,7 +70,7 @@ module _ {V W : Type 0} (shown : V → W) where
   abbrev pub all_shown : List (Option V) → List (Option W)
   all_shown slots = map (option_map shown) slots
 
-  pub at_shown : (slots : List (Option V)) (place : ℕ) (value : V) → IsAt slots place value → IsAt (all_shown slots) place (shown value)
+  pub at_shown : (slots : List (Option V)) (place : ℕ) (value : V) → ValueIsAt slots place value → ValueIsAt (all_shown slots) place (shown value)
   at_shown slots place value at = slice_get-map (option_map shown) slots place ∙ ap (option_map (option_map shown)) at
 
   pub shown_set : (slots : List (Option V)) (place : ℕ) (slot : Option V) → all_shown (slice_set slots place slot) ≡ slice_set (all_shown slots) place (option_map shown slot)
@@ -98,7 +98,7 @@ module _ {V W : Type 0} (shown : V → W) where
   exchanged : (slots : List (Option V)) (place : ℕ) (new : V) → all_shown (slice_set (slice_set slots place None) place (Some new)) ≡ slice_set (all_shown slots) place (Some (shown new))
   exchanged slots place new = ap all_shown (set_again slots place None (Some new)) ∙ shown_set slots place (Some new)
 
-  pub exchanged_alike : (slots : List (Option V)) (place : ℕ) (old new : V) → IsAt slots place old → shown new ≡ shown old → all_shown (slice_set (slice_set slots place None) place (Some new)) ≡ all_shown slots
+  pub exchanged_alike : (slots : List (Option V)) (place : ℕ) (old new : V) → ValueIsAt slots place old → shown new ≡ shown old → all_shown (slice_set (slice_set slots place None) place (Some new)) ≡ all_shown slots
   exchanged_alike slots place old new at alike =
       exchanged slots place new ∙ ap (λ (w : W). slice_set (all_shown slots) place (Some w)) alike ∙ set_same (all_shown slots) place (Some (shown old)) (at_shown slots place old at)
 
@@ -107,15 +107,15 @@ module _ {V W : Type 0} (shown : V → W) where
   emptied_alike slots place none = ap all_shown (set_same slots place None none)
 
   module _ (became : W → W → Type 0) (stays : (w : W) → became w w) where
-    pub exchanged_was : (slots : List (Option V)) (place : ℕ) (old new : V) → IsAt slots place old → became (shown old) (shown new) → EachWas became (all_shown slots) (all_shown (slice_set (slice_set slots place None) place (Some new)))
-    exchanged_was slots place old new at turned other value at_new = by_place (at_set (all_shown slots) place other (shown new) value (subst (λ (ws : List (Option W)). IsAt ws other value) (exchanged slots place new) at_new))
+    pub exchanged_was : (slots : List (Option V)) (place : ℕ) (old new : V) → ValueIsAt slots place old → became (shown old) (shown new) → EachWas became (all_shown slots) (all_shown (slice_set (slice_set slots place None) place (Some new)))
+    exchanged_was slots place old new at turned other value at_new = by_place (at_set (all_shown slots) place other (shown new) value (subst (λ (ws : List (Option W)). ValueIsAt ws other value) (exchanged slots place new) at_new))
       where
-        by_place : ((other ≡ place) × (value ≡ shown new)) ⊎ IsAt (all_shown slots) other value → (before : W) × IsAt (all_shown slots) other before × became before value
-        by_place (inl (same, is)) = (shown old, subst (λ (p : ℕ). IsAt (all_shown slots) p (shown old)) (sym same) (at_shown slots place old at), subst (λ (w : W). became (shown old) w) (sym is) turned)
+        by_place : ((other ≡ place) × (value ≡ shown new)) ⊎ ValueIsAt (all_shown slots) other value → (before : W) × ValueIsAt (all_shown slots) other before × became before value
+        by_place (inl (same, is)) = (shown old, subst (λ (p : ℕ). ValueIsAt (all_shown slots) p (shown old)) (sym same) (at_shown slots place old at), subst (λ (w : W). became (shown old) w) (sym is) turned)
         by_place (inr before) = (value, before, stays value)
 
     pub emptied_was : (slots : List (Option V)) (place : ℕ) → EachWas became (all_shown slots) (all_shown (slice_set slots place None))
-    emptied_was slots place other value at = (value, at_emptied (all_shown slots) place other value (subst (λ (ws : List (Option W)). IsAt ws other value) (shown_set slots place None) at), stays value)
+    emptied_was slots place other value at = (value, at_emptied (all_shown slots) place other value (subst (λ (ws : List (Option W)). ValueIsAt ws other value) (shown_set slots place None) at), stays value)
 
     pub all_stay : (slots : List (Option W)) → EachWas became slots slots
     all_stay slots other value at = (value, at, stays value)

@@ -47,15 +47,15 @@ abbrev pub HaveLeft : List (Option HeldState) → List (Option HeldState) → Ty
 HaveLeft old new = EachWas (λ before after. after ≡ before) old new
 
 -- a connection whose replies wait for a record behind so many stays as it is: none of them leaves
-abbrev pub Waits : ℕ → HeldState → HeldState → Type 0
-Waits settled before after = settled < before.awaited → after ≡ before
+abbrev pub ConnectionWaits : ℕ → HeldState → HeldState → Type 0
+ConnectionWaits settled before after = settled < before.awaited → after ≡ before
 
 abbrev pub AllWait : ℕ → List (Option HeldState) → List (Option HeldState) → Type 0
-AllWait settled old new = EachWas (Waits settled) old new
+AllWait settled old new = EachWas (ConnectionWaits settled) old new
 
 -- replies may have left: no request was run, no reply was made, and none left that waits for a record behind so many
 abbrev pub MayLeave : ℕ → HeldState → HeldState → Type 0
-MayLeave settled before after = (after.visit ≡ before.visit) × Waits settled before after
+MayLeave settled before after = (after.visit ≡ before.visit) × ConnectionWaits settled before after
 
 abbrev pub AllMayLeave : ℕ → List (Option HeldState) → List (Option HeldState) → Type 0
 AllMayLeave settled old new = EachWas (MayLeave settled) old new

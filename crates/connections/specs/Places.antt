@@ -3,8 +3,8 @@ use Rattle.std.specs.Prelude.{◌≡◌, ℕ, ◌⊎◌, List, [], ◌∷◌, �
 
 module _ {V : Type 0} where
   -- the value stands at the place
-  abbrev pub IsAt : List (Option V) → ℕ → V → Type 0
-  IsAt slots place value = slice_get slots place ≡ Some (Some value)
+  abbrev pub ValueIsAt : List (Option V) → ℕ → V → Type 0
+  ValueIsAt slots place value = slice_get slots place ≡ Some (Some value)
 
   -- the same values, at the same places, and a place more or none
   abbrev pub IsGrown : List (Option V) → List (Option V) → Type 0
@@ -22,8 +22,8 @@ module _ {V : Type 0} where
 
   -- each value that stands at a place stood there before, as another one maybe
   abbrev pub EachWas : (V → V → Type 0) → List (Option V) → List (Option V) → Type 0
-  EachWas became old new = (place : ℕ) (value : V) → IsAt new place value → (before : V) × IsAt old place before × became before value
+  EachWas became old new = (place : ℕ) (value : V) → ValueIsAt new place value → (before : V) × ValueIsAt old place before × became before value
 
   -- each value that stands at a place is such a one
   abbrev pub Each : (V → Type 0) → List (Option V) → Type 0
-  Each is slots = (place : ℕ) (value : V) → IsAt slots place value → is value
+  Each is slots = (place : ℕ) (value : V) → ValueIsAt slots place value → is value

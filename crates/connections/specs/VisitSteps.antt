@@ -22,7 +22,7 @@ pub record IsOpen (wire : DecoderView) (progress : Progress) (pieces : ℕ) : Ty
   pub bytes : wire.taken + length wire.held ≤ pieces * 65536
 
 -- a visit that has not ended can go on
-pub record IsSound (stage : Stage) (wire : DecoderView) (progress : Progress) (pieces : ℕ) : Type 0 where
+pub record VisitIsSound (stage : Stage) (wire : DecoderView) (progress : Progress) (pieces : ℕ) : Type 0 where
   pub reads : stage ≡ Reads → IsOpen wire progress pieces
   pub runs : stage ≡ Runs → IsOpen wire progress pieces
   pub few : pieces ≤ 2 ^ 40
@@ -44,24 +44,24 @@ pub record VisitState : Type 0 where
 module _ {S : Type 0} (allows : S → Asked → Result Response Refusal → S → Type 0) (start : S) (source₀ drain₀ : Option (List ℕ)) where
   -- how a visit stands that began with these devices and this state of what it shares with others: all that was read is
   -- answered, or a part, or it has ended as a session ends that is served alone, its exchanges standing among theirs
-  abbrev StandsAt : Stage → Option (List ℕ) → Option (List ℕ) → S → DecoderView → Progress → Type 0
-  StandsAt Reads source drain here wire progress = SessionUnderway (Talk allows) start source₀ source drain₀ drain here wire progress
-  StandsAt Runs source drain here wire progress = PartWay (Talk allows) start source₀ source drain₀ drain here wire progress
-  StandsAt (Ended result) source drain here wire progress = Served (Talk allows) start source₀ source drain₀ drain result here
+  abbrev VisitStandsAt : Stage → Option (List ℕ) → Option (List ℕ) → S → DecoderView → Progress → Type 0
+  VisitStandsAt Reads source drain here wire progress = SessionUnderway (Talk allows) start source₀ source drain₀ drain here wire progress
+  VisitStandsAt Runs source drain here wire progress = PartWay (Talk allows) start source₀ source drain₀ drain here wire progress
+  VisitStandsAt (Ended result) source drain here wire progress = Served (Talk allows) start source₀ source drain₀ drain result here
 
   abbrev pub Stands : VisitState → S → Type 0
-  Stands visit here = StandsAt visit.stage visit.source visit.drain here visit.wire visit.progress
+  Stands visit here = VisitStandsAt visit.stage visit.source visit.drain here visit.wire visit.progress
 
 -- what an outbox tells: what its drain took, and behind it what is held
-abbrev pub told_by : {D A : Type 0} → (D → Option (List ℕ)) → Outbox D A → Option (List ℕ)
-told_by told outbox = append_known (told outbox.drain) (drop outbox.sent outbox.held.items)
+abbrev pub told_by_outbox : {D A : Type 0} → (D → Option (List ℕ)) → Outbox D A → Option (List ℕ)
+told_by_outbox told outbox = append_known (told outbox.drain) (drop outbox.sent outbox.held.items)
 
-abbrev pub state : Stage → Option (List ℕ) → Option (List ℕ) → DecoderView → Progress → VisitState
-state stage source drain wire progress = record { stage = stage; source = source; drain = drain; wire = wire; progress = progress }
+abbrev pub visit_state : Stage → Option (List ℕ) → Option (List ℕ) → DecoderView → Progress → VisitState
+visit_state stage source drain wire progress = record { stage = stage; source = source; drain = drain; wire = wire; progress = progress }
 
 -- a visit that has not begun
 abbrev pub new_state : Option (List ℕ) → Option (List ℕ) → VisitState
-new_state source drain = state Reads source drain (record { held = []; taken = 0; fault = None }) (record { requests = 0; out = 0 })
+new_state source drain = visit_state Reads source drain (record { held = []; taken = 0; fault = None }) (record { requests = 0; out = 0 })
 
 module _ {S : Type 0} (allows : S → Asked → Result Response Refusal → S → Type 0) where
   -- whatever is known of a visit holds on, with what was done in between

@@ -40,12 +40,12 @@ pub struct Held<S: PolledSource, D: PolledDrain, A: Allocator> {
 /// Seen as its visit shows itself, with what its replies wait for and what left.
 impl<S: PolledSource, D: PolledDrain, A: Allocator> Model for Held<S, D, A> {
     ghost use Rattle.connections.specs.HeldConnections.{HeldState};
-    ghost use Rattle.connections.specs.VisitSteps.{state, told_by};
+    ghost use Rattle.connections.specs.VisitSteps.{visit_state, told_by_outbox};
 
     ghost Value = { HeldState };
 
     ghost view = { λ h. record {
-      visit = state h.visit.stage (S.told h.visit.source) (told_by D.told h.visit.replies.outbox)
+      visit = visit_state h.visit.stage (S.told h.visit.source) (told_by_outbox D.told h.visit.replies.outbox)
           h.visit.session.decoder h.visit.session.progress;
       awaited = h.visit.awaited;
       left = D.told h.visit.replies.outbox.drain;

@@ -4,7 +4,7 @@ ghost use Rattle.std.specs.Prelude.{◌≡◌, ◌≤◌, ◌<◌, ◌^◌, ◌�
 ghost use Rattle.session_core.specs.Interleaved.{StateMoves};
 ghost use Rattle.connections.specs.declared.visit.Next.TheVariants.{Ends, Settles};
 ghost use Rattle.connections.specs.declared.visit.Stage.TheVariants.{Reads, Runs};
-ghost use Rattle.connections.specs.VisitSteps.{IsSound, IsTaken, GoesOn, WaitsForTold, state, new_state};
+ghost use Rattle.connections.specs.VisitSteps.{VisitIsSound, IsTaken, GoesOn, WaitsForTold, visit_state, new_state};
 
 use crate::buffers::Buffers;
 use crate::replies::Replies;
@@ -76,7 +76,7 @@ pub struct Visit<S, D, A: Allocator> {
     is_closed: bool,
     /// Bytes came or went since that was last asked.
     has_moved: bool,
-    ghost sound: { IsSound stage session.decoder session.progress pieces },
+    ghost sound: { VisitIsSound stage session.decoder session.progress pieces },
 }
 
 impl<S: PolledSource, D: PolledDrain, A: Allocator + Copy> Visit<S, D, A> {
@@ -84,7 +84,7 @@ impl<S: PolledSource, D: PolledDrain, A: Allocator + Copy> Visit<S, D, A> {
     /// nobody notes when its device becomes ready, is always ready.
     pub fn new(alloc: A, source: S, drain: D, is_watched: bool) -> Self
         ensures awaited { result.awaited ≡ 0 }
-        ensures state { (state result.stage (S.told result.source)
+        ensures state { (visit_state result.stage (S.told result.source)
             (⟦<Replies<D, A> as ByteDrain>⟧.told result.replies) result.session.decoder result.session.progress)
             ≡ new_state (S.told source) (D.told drain) }
     {
@@ -104,9 +104,9 @@ impl<S: PolledSource, D: PolledDrain, A: Allocator + Copy> Visit<S, D, A> {
 
     /// Notes that the device became ready, and whether the peer sends no more.
     pub fn note(&mut self, is_closed: bool)
-        ensures same { (state self.new.stage (S.told self.new.source)
+        ensures same { (visit_state self.new.stage (S.told self.new.source)
             (⟦<Replies<D, A> as ByteDrain>⟧.told self.new.replies) self.new.session.decoder self.new.session.progress)
-            ≡ (state self.old.stage (S.told self.old.source)
+            ≡ (visit_state self.old.stage (S.told self.old.source)
             (⟦<Replies<D, A> as ByteDrain>⟧.told self.old.replies) self.old.session.decoder self.old.session.progress) }
         ensures replies { self.new.replies ≡ self.old.replies }
         ensures awaited { self.new.awaited ≡ self.old.awaited }
@@ -125,9 +125,9 @@ impl<S: PolledSource, D: PolledDrain, A: Allocator + Copy> Visit<S, D, A> {
 
     /// Whether bytes came or went since this was last asked.
     pub fn take_moved(&mut self) -> bool
-        ensures same { (state self.new.stage (S.told self.new.source)
+        ensures same { (visit_state self.new.stage (S.told self.new.source)
             (⟦<Replies<D, A> as ByteDrain>⟧.told self.new.replies) self.new.session.decoder self.new.session.progress)
-            ≡ (state self.old.stage (S.told self.old.source)
+            ≡ (visit_state self.old.stage (S.told self.old.source)
             (⟦<Replies<D, A> as ByteDrain>⟧.told self.old.replies) self.old.session.decoder self.old.session.progress) }
         ensures replies { self.new.replies ≡ self.old.replies }
         ensures awaited { self.new.awaited ≡ self.old.awaited }
@@ -139,9 +139,9 @@ impl<S: PolledSource, D: PolledDrain, A: Allocator + Copy> Visit<S, D, A> {
 
     /// Sends what is held. None where the drain failed.
     fn send(&mut self) -> Option<bool>
-        ensures same { (state self.new.stage (S.told self.new.source)
+        ensures same { (visit_state self.new.stage (S.told self.new.source)
             (⟦<Replies<D, A> as ByteDrain>⟧.told self.new.replies) self.new.session.decoder self.new.session.progress)
-            ≡ (state self.old.stage (S.told self.old.source)
+            ≡ (visit_state self.old.stage (S.told self.old.source)
             (⟦<Replies<D, A> as ByteDrain>⟧.told self.old.replies) self.old.session.decoder self.old.session.progress) }
     {
         let before = self.replies.len();
@@ -178,8 +178,8 @@ impl<S: PolledSource, D: PolledDrain, A: Allocator + Copy> Visit<S, D, A> {
     fn read<R, E: Exec<R, A>>(&mut self, buffer: &mut [u8], exec: &E)
         requires reads { self.old.stage ≡ Reads }
         requires buffer { (1 ≤ length buffer.old) × (length buffer.old ≤ 65536) }
-        ensures goes_on { GoesOn E.allows (state self.old.stage (S.told self.old.source)
-            (⟦<Replies<D, A> as ByteDrain>⟧.told self.old.replies) self.old.session.decoder self.old.session.progress) exec.now (state self.new.stage (S.told self.new.source)
+        ensures goes_on { GoesOn E.allows (visit_state self.old.stage (S.told self.old.source)
+            (⟦<Replies<D, A> as ByteDrain>⟧.told self.old.replies) self.old.session.decoder self.old.session.progress) exec.now (visit_state self.new.stage (S.told self.new.source)
             (⟦<Replies<D, A> as ByteDrain>⟧.told self.new.replies) self.new.session.decoder self.new.session.progress) exec.now }
         ensures buffer { length buffer.new ≡ length buffer.old }
     {
@@ -208,8 +208,8 @@ impl<S: PolledSource, D: PolledDrain, A: Allocator + Copy> Visit<S, D, A> {
         requires runs { self.old.stage ≡ Runs }
         ensures settled { E.settled exec.new }
         ensures moves { StateMoves E.allows exec.old exec.new }
-        ensures goes_on { GoesOn E.allows (state self.old.stage (S.told self.old.source)
-            (⟦<Replies<D, A> as ByteDrain>⟧.told self.old.replies) self.old.session.decoder self.old.session.progress) exec.old (state self.new.stage (S.told self.new.source)
+        ensures goes_on { GoesOn E.allows (visit_state self.old.stage (S.told self.old.source)
+            (⟦<Replies<D, A> as ByteDrain>⟧.told self.old.replies) self.old.session.decoder self.old.session.progress) exec.old (visit_state self.new.stage (S.told self.new.source)
             (⟦<Replies<D, A> as ByteDrain>⟧.told self.new.replies) self.new.session.decoder self.new.session.progress) exec.new }
     {
         takes_turns::<R, A, E>();
@@ -236,8 +236,8 @@ impl<S: PolledSource, D: PolledDrain, A: Allocator + Copy> Visit<S, D, A> {
 
     /// Reads where all that was read is answered.
     fn read_due<R, E: Exec<R, A>>(&mut self, buffers: &mut Buffers<A>, exec: &E)
-        ensures goes_on { GoesOn E.allows (state self.old.stage (S.told self.old.source)
-            (⟦<Replies<D, A> as ByteDrain>⟧.told self.old.replies) self.old.session.decoder self.old.session.progress) exec.now (state self.new.stage (S.told self.new.source)
+        ensures goes_on { GoesOn E.allows (visit_state self.old.stage (S.told self.old.source)
+            (⟦<Replies<D, A> as ByteDrain>⟧.told self.old.replies) self.old.session.decoder self.old.session.progress) exec.now (visit_state self.new.stage (S.told self.new.source)
             (⟦<Replies<D, A> as ByteDrain>⟧.told self.new.replies) self.new.session.decoder self.new.session.progress) exec.now }
     {
         if self.stage == Stage::Reads {
@@ -250,8 +250,8 @@ impl<S: PolledSource, D: PolledDrain, A: Allocator + Copy> Visit<S, D, A> {
         requires settled { E.settled exec.old }
         ensures settled { E.settled exec.new }
         ensures moves { StateMoves E.allows exec.old exec.new }
-        ensures goes_on { GoesOn E.allows (state self.old.stage (S.told self.old.source)
-            (⟦<Replies<D, A> as ByteDrain>⟧.told self.old.replies) self.old.session.decoder self.old.session.progress) exec.old (state self.new.stage (S.told self.new.source)
+        ensures goes_on { GoesOn E.allows (visit_state self.old.stage (S.told self.old.source)
+            (⟦<Replies<D, A> as ByteDrain>⟧.told self.old.replies) self.old.session.decoder self.old.session.progress) exec.old (visit_state self.new.stage (S.told self.new.source)
             (⟦<Replies<D, A> as ByteDrain>⟧.told self.new.replies) self.new.session.decoder self.new.session.progress) exec.new }
     {
         if self.stage == Stage::Runs {
@@ -261,9 +261,9 @@ impl<S: PolledSource, D: PolledDrain, A: Allocator + Copy> Visit<S, D, A> {
 
     /// Takes the memory for replies that is shared.
     fn lend(&mut self, buffers: &mut Buffers<A>)
-        ensures same { (state self.new.stage (S.told self.new.source)
+        ensures same { (visit_state self.new.stage (S.told self.new.source)
             (⟦<Replies<D, A> as ByteDrain>⟧.told self.new.replies) self.new.session.decoder self.new.session.progress)
-            ≡ (state self.old.stage (S.told self.old.source)
+            ≡ (visit_state self.old.stage (S.told self.old.source)
             (⟦<Replies<D, A> as ByteDrain>⟧.told self.old.replies) self.old.session.decoder self.old.session.progress) }
     {
         let (text, replies) = buffers.lend();
@@ -273,9 +273,9 @@ impl<S: PolledSource, D: PolledDrain, A: Allocator + Copy> Visit<S, D, A> {
 
     /// Gives the memory for replies back, but for what holds some.
     fn give_back(&mut self, buffers: &mut Buffers<A>)
-        ensures same { (state self.new.stage (S.told self.new.source)
+        ensures same { (visit_state self.new.stage (S.told self.new.source)
             (⟦<Replies<D, A> as ByteDrain>⟧.told self.new.replies) self.new.session.decoder self.new.session.progress)
-            ≡ (state self.old.stage (S.told self.old.source)
+            ≡ (visit_state self.old.stage (S.told self.old.source)
             (⟦<Replies<D, A> as ByteDrain>⟧.told self.old.replies) self.old.session.decoder self.old.session.progress) }
         ensures awaited { self.new.awaited ≡ self.old.awaited }
     {
@@ -297,9 +297,9 @@ impl<S: PolledSource, D: PolledDrain, A: Allocator + Copy> Visit<S, D, A> {
 
     /// Sends what is held, where the last record is settled that it may tell of; else it waits for that.
     fn send_settled(&mut self, told: u64, settled: u64) -> Next
-        ensures same { (state self.new.stage (S.told self.new.source)
+        ensures same { (visit_state self.new.stage (S.told self.new.source)
             (⟦<Replies<D, A> as ByteDrain>⟧.told self.new.replies) self.new.session.decoder self.new.session.progress)
-            ≡ (state self.old.stage (S.told self.old.source)
+            ≡ (visit_state self.old.stage (S.told self.old.source)
             (⟦<Replies<D, A> as ByteDrain>⟧.told self.old.replies) self.old.session.decoder self.old.session.progress) }
         ensures held { settled < told → self.new.replies ≡ self.old.replies }
         ensures awaited { settled < told → (result ≡ Settles) × (self.new.awaited ≡ told) }
@@ -337,8 +337,8 @@ impl<S: PolledSource, D: PolledDrain, A: Allocator + Copy> Visit<S, D, A> {
         // Requests were run, and no more was done to what the connections share;
         ensures moves { StateMoves E.allows exec.old exec.new }
         // they are the connection's own, in turn, and their replies stand behind those before.
-        ensures goes_on { GoesOn E.allows (state self.old.stage (S.told self.old.source)
-            (⟦<Replies<D, A> as ByteDrain>⟧.told self.old.replies) self.old.session.decoder self.old.session.progress) exec.old (state self.new.stage (S.told self.new.source)
+        ensures goes_on { GoesOn E.allows (visit_state self.old.stage (S.told self.old.source)
+            (⟦<Replies<D, A> as ByteDrain>⟧.told self.old.replies) self.old.session.decoder self.old.session.progress) exec.old (visit_state self.new.stage (S.told self.new.source)
             (⟦<Replies<D, A> as ByteDrain>⟧.told self.new.replies) self.new.session.decoder self.new.session.progress) exec.new }
         // Where replies were made, they wait if they may tell of a record that is not settled;
         ensures told { (self.new.session.progress ≡ self.old.session.progress)
@@ -367,9 +367,9 @@ impl<S: PolledSource, D: PolledDrain, A: Allocator + Copy> Visit<S, D, A> {
     /// Sends replies that waited for their records, where these are among the first `settled`. Else nothing leaves, and
     /// the connection is to end.
     pub fn let_go(&mut self, buffers: &mut Buffers<A>, settled: u64) -> Next
-        ensures same { (state self.new.stage (S.told self.new.source)
+        ensures same { (visit_state self.new.stage (S.told self.new.source)
             (⟦<Replies<D, A> as ByteDrain>⟧.told self.new.replies) self.new.session.decoder self.new.session.progress)
-            ≡ (state self.old.stage (S.told self.old.source)
+            ≡ (visit_state self.old.stage (S.told self.old.source)
             (⟦<Replies<D, A> as ByteDrain>⟧.told self.old.replies) self.old.session.decoder self.old.session.progress) }
         ensures held { settled < self.old.awaited → self.new ≡ self.old }
         ensures ends { settled < self.old.awaited → result ≡ Ends }

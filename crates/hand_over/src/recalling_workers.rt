@@ -5,7 +5,7 @@ ghost use Rattle.crossbeam_channel.specs.Claims.{view, IsSeatAt};
 ghost use Rattle.crossbeam_channel.specs.Ends.{sends_on, receives_on, ruled_capacity};
 ghost use Rattle.std.specs.List.Sorted.{IsStrictlyIncreasing};
 ghost use Rattle.hand_over.specs.ChannelInvariant.{pass_view, with_pass};
-ghost use Rattle.hand_over.specs.Outcome.{all_of, Served};
+ghost use Rattle.hand_over.specs.Outcome.{all_of, HandlersServed};
 
 use crate::channel::{ChannelEnds, ChannelPass, Sender, SplitPass, dismiss};
 use crate::handler::Handler;
@@ -93,7 +93,7 @@ impl<H: Drop> Returned<H> {
         ensures rises { All (λ v. IsStrictlyIncreasing v.items) self.new.taken.items }
         ensures lists { (vec_len self.new.taken ≡ vec_len children)
             × (vec_len self.new.handlers ≡ vec_len children) }
-        ensures served { Served H.keeps H.handled
+        ensures served { HandlersServed H.keeps H.handled
             (map (λ h. h.promise.handler.value) children.items) self.new.handlers.items
             self.new.taken.items }
     {
@@ -127,7 +127,7 @@ impl<H: Drop> Returned<H> {
         ensures rises { All (λ v. IsStrictlyIncreasing v.items) self.new.taken.items }
         ensures lists { (vec_len self.new.taken ≡ vec_len children)
             × (vec_len self.new.handlers ≡ vec_len children) }
-        ensures served { Served H.keeps H.handled
+        ensures served { HandlersServed H.keeps H.handled
             (map (λ h. h.promise.handler.value) children.items) self.new.handlers.items
             self.new.taken.items }
     {

@@ -8,7 +8,7 @@ use Rattle.std.proofs.lemmas.List.Elements.{All-nil, All-cons, All-map, All-same
 use Rattle.std.proofs.lemmas.List.Sums.{sum_by-cons}
 use Rattle.std.proofs.lemmas.List.{map-append, take_all, length-map}
 use Rattle.hand_over.specs.ChannelInvariant.{times, once_below}
-use Rattle.hand_over.specs.Outcome.{all_of, Served, IsHandedOver}
+use Rattle.hand_over.specs.Outcome.{all_of, HandlersServed, IsHandedOver}
 use Rattle.hand_over.specs.declared.arrivals.ArrivalKind.{ArrivalKind}
 use Rattle.hand_over.specs.declared.arrivals.ArrivalKind.TheVariants.{End, Failure}
 use Rattle.hand_over.specs.declared.outcome.HandedOver.{HandedOver}
@@ -102,7 +102,7 @@ keeps_on_table table pass worker k =
 
 module _ {A : Type 0} where
   pub all_keep : (table : TableView) (passes : List PassView) (handed : List HandlerView) (lists : List (Vec ℕ A))
-      → Served Attends (λ h. h.handled) (new_handlers table passes) handed lists → AllKeep table passes (passes_of handed)
+      → HandlersServed Attends (λ h. h.handled) (new_handlers table passes) handed lists → AllKeep table passes (passes_of handed)
   all_keep table [] [] [] served = tt
   all_keep table (pass ∷ passes) (h ∷ handed) (list ∷ lists) served = (keeps_on_table table pass h.worker served.0.worker, all_keep table passes handed lists served.2)
   all_keep table [] [] (list ∷ lists) served = absurd served
@@ -113,7 +113,7 @@ module _ {A : Type 0} where
   all_keep table (pass ∷ passes) (h ∷ handed) [] served = absurd served
 
   same_tables : (table : TableView) (passes : List PassView) (handed : List HandlerView) (lists : List (Vec ℕ A))
-      → Served Attends (λ h. h.handled) (new_handlers table passes) handed lists → All (OnTable table) handed
+      → HandlersServed Attends (λ h. h.handled) (new_handlers table passes) handed lists → All (OnTable table) handed
   same_tables table [] [] [] served = All-nil (OnTable table)
   same_tables table (pass ∷ passes) (h ∷ handed) (list ∷ lists) served = All-cons (OnTable table) h handed served.0.worker.table (same_tables table passes handed lists served.2)
   same_tables table [] [] (list ∷ lists) served = absurd served
@@ -124,13 +124,13 @@ module _ {A : Type 0} where
   same_tables table (pass ∷ passes) (h ∷ handed) [] served = absurd served
 
   pub own_passes : (table : TableView) (passes : List PassView) (handed : List HandlerView) (lists : List (Vec ℕ A))
-      → Served Attends (λ h. h.handled) (new_handlers table passes) handed lists → All (λ h. IsPassOf h.worker.table h.worker.pass) handed → All (IsPassOf table) (passes_of handed)
+      → HandlersServed Attends (λ h. h.handled) (new_handlers table passes) handed lists → All (λ h. IsPassOf h.worker.table h.worker.pass) handed → All (IsPassOf table) (passes_of handed)
   own_passes table passes handed lists served own =
       let tables = same_tables table passes handed lists served in
       All-map (IsPassOf table) (λ h. h.worker.pass) handed (λ k d within. subst (λ (t : TableView). IsPassOf t (get_or handed k d).worker.pass) (tables k d within) (own k d within))
 
   pub as_many_handed : (table : TableView) (passes : List PassView) (handed : List HandlerView) (lists : List (Vec ℕ A))
-      → Served Attends (λ h. h.handled) (new_handlers table passes) handed lists → length handed ≡ length passes
+      → HandlersServed Attends (λ h. h.handled) (new_handlers table passes) handed lists → length handed ≡ length passes
   as_many_handed table [] [] [] served = refl
   as_many_handed table (pass ∷ passes) (h ∷ handed) (list ∷ lists) served = ap suc (as_many_handed table passes handed lists served.2)
   as_many_handed table [] [] (list ∷ lists) served = absurd served
@@ -141,8 +141,8 @@ module _ {A : Type 0} where
   as_many_handed table (pass ∷ passes) (h ∷ handed) [] served = absurd served
 
 module _ {A : Type 0} (came : A → ℕ) (last : A → Option ArrivalKind) (before after : A) (limit : ℕ) (table : TableView) (first : List PassView) (handlers : List HandlerView) (handed : HandedOver HandlerView) (are : handlers ≡ new_handlers table first) (is : IsHandedOver came last Attends (λ h. h.handled) before handlers limit after handed) where
-  served_new : Served Attends (λ h. h.handled) (new_handlers table first) handed.handlers.items handed.taken.items
-  served_new = subst (λ (l : List HandlerView). Served Attends (λ h. h.handled) l handed.handlers.items handed.taken.items) are is.served
+  served_new : HandlersServed Attends (λ h. h.handled) (new_handlers table first) handed.handlers.items handed.taken.items
+  served_new = subst (λ (l : List HandlerView). HandlersServed Attends (λ h. h.handled) l handed.handlers.items handed.taken.items) are is.served
 
   pub handed_count : length handed.handlers.items ≡ length first
   handed_count = as_many_handed table first handed.handlers.items handed.taken.items served_new

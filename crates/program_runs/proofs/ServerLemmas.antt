@@ -14,7 +14,7 @@ use Rattle.set_table.specs.declared.open.TableOpenFault.TheVariants as opens
 use Rattle.set_table.specs.declared.table.close.CloseFault.{CloseFault}
 use Rattle.set_table.specs.declared.table.close.CloseFault.TheVariants.{MissingPass, OutOfStep}
 use Rattle.program_runs.specs.WorkerTurns.{Keeps, worker_on, AllKeep}
-use Rattle.program_runs.specs.ServerExitStatus.{IsStartFault, open_line, hand_over_line}
+use Rattle.program_runs.specs.ServerExitStatus.{IsStartFault, table_open_line, hand_over_line}
 
 pub own_all : (table : TableView) (passes : List PassView) → ((i : ℕ) → i < length passes → IsPassOf table (pass_at passes i)) → All (IsPassOf table) passes
 own_all table passes each = All-from_get_or (IsPassOf table) passes no_pass each
@@ -35,7 +35,7 @@ pub out_of_step : (fault : CloseFault) → (fault ≡ MissingPass → ⊥) → f
 out_of_step MissingPass none = absurd (none refl)
 out_of_step OutOfStep none = refl
 
-pub not_opened : (fault : TableOpenFault) (world : World) (places : ℕ) → IsTableOpenFault fault world places → IsStartFault (open_line fault) world places
+pub not_opened : (fault : TableOpenFault) (world : World) (places : ℕ) → IsTableOpenFault fault world places → IsStartFault (table_open_line fault) world places
 not_opened opens.NoMemory world places fits = fits
 not_opened opens.TooManyKeys world places many = many
 

@@ -134,13 +134,13 @@ TellsTorn bytes errors₀ errors₁ =
     (bytes ≡ 0 → errors₁ ≡ errors₀) × (0 < bytes → (printed : Result Unit Line) × IsPrinted (torn_text bytes) printed errors₀ errors₁)
 
 -- an append file was opened, whose records replay to this world, and a torn end was told
-pub record IsOpened (world : World) (errors₀ errors₁ : DrainState) : Type 0 where
+pub record FileIsOpened (world : World) (errors₀ errors₁ : DrainState) : Type 0 where
   pub loaded : Loaded
   pub opened : Opens (Ok loaded) fin.empty world
   pub told : TellsTorn loaded.torn errors₀ errors₁
 
 -- it was not opened, for the cause of this line, and nothing was told
-pub record IsUnopened (line : Line) (errors₀ errors₁ : DrainState) : Type 0 where
+pub record FileIsUnopened (line : Line) (errors₀ errors₁ : DrainState) : Type 0 where
   pub fault : OpenFault
   pub world : World
   pub opened : Opens (Err fault) fin.empty world

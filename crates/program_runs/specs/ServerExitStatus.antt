@@ -71,9 +71,9 @@ pub record HasServed {A : Type 0} (came : A → ℕ) (last : A → Option Arriva
   pub finish_is : finish ≡ server_finish printed fault
 
 -- the line that tells why there is no table
-abbrev pub open_line : TableOpenFault → Line
-open_line opens.NoMemory = lines.OutOfMemory
-open_line opens.TooManyKeys = lines.MoreKeysThanPlaces
+abbrev pub table_open_line : TableOpenFault → Line
+table_open_line opens.NoMemory = lines.OutOfMemory
+table_open_line opens.TooManyKeys = lines.MoreKeysThanPlaces
 
 -- the line that tells why no connection was handed over
 abbrev pub hand_over_line : HandOverFault → Line

@@ -17,7 +17,7 @@ abbrev pub worker_on : TableView → PassView → WorkerView
 worker_on table pass = record { table = table; pass = pass }
 
 -- a worker that ran requests in turn, each answered as a worker on a table answers
-pub record HasRun (old new : WorkerView) : Type 0 where
+pub record WorkerHasRun (old new : WorkerView) : Type 0 where
   pub requests : List (List (List ℕ))
   pub replies : List Response
   pub exchanges : Exchanges WorkerAnswers old requests replies new
@@ -26,7 +26,7 @@ pub record HasRun (old new : WorkerView) : Type 0 where
 pub record Keeps (old new : WorkerView) : Type 0 where
   pub table : new.table ≡ old.table
   pub number : new.pass.number ≡ old.pass.number
-  pub ran : HasRun old new
+  pub ran : WorkerHasRun old new
 
 -- a handler whose worker ran requests; and each connection that it holds stands as one that is served alone, the requests
 -- that it sent answered in turn, those of the others between them, where that was so before

@@ -6,7 +6,7 @@ ghost use Rattle.resp_wire.specs.Device.{Rose};
 ghost use Rattle.append_log.specs.FileOpening.{Restores};
 ghost use Rattle.program_runs.specs.ExitStatus.{IsPrinted};
 ghost use Rattle.program_runs.specs.FileExitStatus as files;
-ghost use Rattle.program_runs.specs.FileExitStatus.{FailsBy, IsOpened, IsUnopened, Prints, MakesNewFile, Rewrites, ServesFile, ServesFrom, TellsTorn};
+ghost use Rattle.program_runs.specs.FileExitStatus.{FailsBy, FileIsOpened, FileIsUnopened, Prints, MakesNewFile, Rewrites, ServesFile, ServesFrom, TellsTorn};
 ghost use Rattle.program_runs.specs.declared.finish.Line.TheVariants as lines;
 
 use crate::finish::{Finish, Line, Unusable};
@@ -129,10 +129,10 @@ pub fn open_session<R: Files, E: ByteDrain>(
 where
     R::File: LockFile,
     ensures idle { IfOk result (λ opened. opened.owner.next ≡ None) }
-    ensures opened { IfOk result (λ opened. IsOpened opened.owner.world
+    ensures opened { IfOk result (λ opened. FileIsOpened opened.owner.world
         (record { told = E.told errors.old; flushed = E.flushed errors.old; failures = E.failures errors.old })
         (record { told = E.told errors.new; flushed = E.flushed errors.new; failures = E.failures errors.new })) }
-    ensures unopened { IfErr result (λ line. IsUnopened line
+    ensures unopened { IfErr result (λ line. FileIsUnopened line
         (record { told = E.told errors.old; flushed = E.flushed errors.old; failures = E.failures errors.old })
         (record { told = E.told errors.new; flushed = E.flushed errors.new; failures = E.failures errors.new })) }
 {

@@ -39,7 +39,7 @@ use zset_core::OneOwner;
 
 /// The line that tells why there is no table.
 fn open_line(fault: TableOpenFault) -> Line
-    ensures { result ≡ server.open_line fault }
+    ensures { result ≡ server.table_open_line fault }
 {
     match fault {
         TableOpenFault::NoMemory => Line::OutOfMemory,

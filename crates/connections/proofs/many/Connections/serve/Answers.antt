@@ -1,7 +1,7 @@
 use Rattle.std.proofs.Common.{◌≡◌, ◌<◌, ℕ, refl, ◌∙◌, sym, subst, box_value}
 use Rattle.session_core.proofs.Interleaving.{moves-refl}
 use Rattle.connections.specs.VisitSteps.{GoesOn}
-use Rattle.connections.specs.HeldConnections.{HeldState, Waits, AllWait}
+use Rattle.connections.specs.HeldConnections.{HeldState, ConnectionWaits, AllWait}
 use Rattle.connections.proofs.PlaceLemmas.{all_shown}
 use Rattle.connections.proofs.HeldLemmas.{others_served, left_by, became_by}
 use Rattle.connections.proofs.many.Connections.serve.Goals as goal
@@ -19,7 +19,7 @@ returns-in_default-clause-goes_on g c =
     left_by box_value c.self.inside.slots c.take.new.self c.args.place _ (λ i. (c.self.view_is i).held) c.take.ensures.out (λ (before after : HeldState). GoesOn allows before.visit here after.visit here) (λ (h : HeldState). others_served allows c.takes_turns.ensures.law here here (moves-refl allows here) h.visit)
 
 pub returns-in_default-clause-waits : goal.returns-in_default-clause-waits
-returns-in_default-clause-waits g c = left_by box_value c.self.inside.slots c.take.new.self c.args.place _ (λ i. (c.self.view_is i).held) c.take.ensures.out (Waits _) (λ (h : HeldState) behind. refl)
+returns-in_default-clause-waits g c = left_by box_value c.self.inside.slots c.take.new.self c.args.place _ (λ i. (c.self.view_is i).held) c.take.ensures.out (ConnectionWaits _) (λ (h : HeldState) behind. refl)
 
 pub returns-in-Some-queue_again-clause-goes_on : goal.returns-in-Some-queue_again-clause-goes_on
 returns-in-Some-queue_again-clause-goes_on g c =
@@ -37,7 +37,7 @@ returns-in-Some-queue_again-clause-waits g c =
     let settled = c.self.inside.settled in
     let stays = c.set_queued.ensures.same ∙ c.deref_mut-in-Some-queue_again.ensures.value in
     let waits = subst (λ (h : HeldState). settled < h.awaited → c.set_queued.new.self ≡ h) c.deref_mut.ensures.value (λ behind. stays ∙ c.turn-next.ensures.held behind) in
-    let after = became_by box_value c.self.inside.slots c.take.new.self c.args.place _ (λ i. (c.self.view_is i).held) c.take.ensures.out (Waits settled) (λ (h : HeldState) behind. refl)
+    let after = became_by box_value c.self.inside.slots c.take.new.self c.args.place _ (λ i. (c.self.view_is i).held) c.take.ensures.out (ConnectionWaits settled) (λ (h : HeldState) behind. refl)
     c.put_back.new.self c.in-Some.held (record { ptr = c.in-Some.held.ptr; alloc = c.in-Some.held.alloc; value = c.set_queued.new.self }) c.in-Some.ensures.value waits c.put_back.ensures.put in
     subst (λ (n : ℕ). AllWait n c.args.self.now.held (all_shown box_value c.put_back.new.self)) (λ i. (c.self.view_is i).settled) after
 
@@ -49,4 +49,4 @@ returns-in-None-clause-goes_on g c =
     left_by box_value c.self.inside.slots c.let_go.new.self c.args.place _ (λ i. (c.self.view_is i).held) (c.let_go.ensures.same ∙ c.take.ensures.out) (λ (before after : HeldState). GoesOn allows before.visit here after.visit there) (λ (h : HeldState). others_served allows c.takes_turns.ensures.law here there c.turn-next.ensures.moves h.visit)
 
 pub returns-in-None-clause-waits : goal.returns-in-None-clause-waits
-returns-in-None-clause-waits g c = left_by box_value c.self.inside.slots c.let_go.new.self c.args.place _ (λ i. (c.self.view_is i).held) (c.let_go.ensures.same ∙ c.take.ensures.out) (Waits _) (λ (h : HeldState) behind. refl)
+returns-in-None-clause-waits g c = left_by box_value c.self.inside.slots c.let_go.new.self c.args.place _ (λ i. (c.self.view_is i).held) (c.let_go.ensures.same ∙ c.take.ensures.out) (ConnectionWaits _) (λ (h : HeldState) behind. refl)
