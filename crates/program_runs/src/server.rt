@@ -92,16 +92,19 @@ fn tell_totals<D: ByteDrain>(
     }
 }
 
-/// Serves connections from the sets of an owner, until as many came as the settings say, the arrivals
-/// close, or accepting fails; those that came then are served to their end. Each worker is a thread
-/// of its own, which serves many connections, turn by turn. In the end the line
-/// `connections C sets S members M added A removed R records L` is printed to the drain. Where the journal has a handle,
-/// the workers settle its records by it, and no reply leaves before what it tells of is settled: no clause says that of
-/// the whole, tests do.
+/// Serves connections from the sets of an owner, until as many came as the settings say, the arrivals close, or accepting
+/// fails; those that came then are served to their end. Each worker is a thread that serves many connections.
 ///
-/// Nothing is accepted and nothing printed where there are more keys than places (status 3), where
-/// there is no memory or no thread (4). Else the status is 0, or 1 where accepting failed, the line
-/// could not be printed, or the table's numbers disagree.
+/// Either it does not begin: nothing is accepted and nothing printed. The status is 3 where there are more keys than
+/// places, 4 where there is no memory or no thread.
+///
+/// Or one table is opened with the owner's sets. What each worker's pass knows in the end is what some requests made of
+/// it, each answered lawfully. Then the line `connections C sets S members M added A removed R records L` is printed with
+/// the table's totals. The status is 0; 1 where accepting failed, the line could not be printed, or the table's numbers
+/// disagree; 4 where there was no memory for the line.
+///
+/// Where the journal has a handle, the workers settle its records by it, and no reply leaves before what it tells of is
+/// settled: tests show that, no clause.
 pub fn serve_run<A, S, D, K, L, Y, W, R>(
     rt: &R,
     arrivals: &mut A,

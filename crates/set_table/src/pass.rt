@@ -22,7 +22,7 @@ pub struct Pass<A: Allocator> {
     pub(crate) number: usize,
     pub(crate) knowledge: Knowledge,
     pub(crate) shares: Vec<Shares, A>,
-    /// What the worker keeps back for removals.
+    /// What the worker keeps back for removals: 131,072 bytes, once a command that creates was answered.
     pub(crate) spare: Spare<A>,
     /// The log's number of the last record that its answers may tell of, since that was last asked.
     pub(crate) told: cell::Cell<u64>,

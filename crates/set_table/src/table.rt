@@ -96,31 +96,23 @@ impl<H: BuildHasher, S: LogSink, L: Ledger, A: Allocator + Copy> Table<H, S, L, 
         }
     }
 
-    /// Runs a command at its key's place. Where the key has none yet, a command that creates gives it
-    /// one, and any other gets the reply of an empty set, as PING gets its own. A command that reads is
-    /// asked under the shared lock first. `rt` waits for locks; the gate is called inside each one. A pass
-    /// is one worker's memory: the places that it knows, and for each place a share, the sum of what the
-    /// worker was answered there.
+    /// Runs a command for a worker at its key's place. The worker's pass knows places of keys, and of each a share: the sum
+    /// of what the worker was answered there. A command that creates gives its key a place where it has none. Any other
+    /// gets the reply of an empty set then, and PING its own.
     ///
-    /// On [`Answered::Ran`] the place is the key's, by what the pass knows then. The answer's `found` is what all
-    /// passes together had been told of the place's members before, and no less than what this pass was told. Its
-    /// `own` is what this command added and removed. Reply and `own` are those of one step of the command on some
-    /// set with as many members as `found` tells. That this is the key's own set is shown by tests alone, since
-    /// others write the sets between two calls.
+    /// The reply is that of one step of the command on some set with as many members as the answer's `found` tells; `own`
+    /// is what came in and left by that step. `found` is at least what this pass was told. That it is the key's own set,
+    /// and `found` what all passes were told, is shown by tests alone: others write the sets between two calls.
     ///
-    /// The pass's share of that place counts one run more and the members of `own`, or stays where a reading was
-    /// answered under the shared lock. No other share moves. Once a command that creates was answered, the pass
-    /// keeps 131,072 bytes back for removals. It remembers the last record that the answer may tell of
-    /// ([`Pass::take_told`]); no clause says which.
+    /// The pass's share of the place counts the run and `own`, or stays where a reading was answered under the shared
+    /// lock. Other shares stay. `rt` waits for locks, and the gate is called inside each.
     ///
     /// # Errors
     ///
-    /// The pass's shares stay. [`Refusal::TableFull`] where a command that creates finds no place;
-    /// [`Refusal::OutOfStep`] where cell and pass tell different numbers, which a pass of this table met in no test;
-    /// [`Refusal::Spent`] where the place has no run left; [`Refusal::ScoreOverflow`] to ZADD with INCR alone,
-    /// and those of the log to commands that change sets; [`Refusal::NoMemory`]. What the cell tells is behind
-    /// its lock, so the clauses say of these only which may come to which command: [`crate::Cell::run`] says
-    /// exactly when.
+    /// The pass's shares stay. Which refusal may come to which command, the clauses say; exactly when it comes is told by
+    /// [`crate::Cell::run`], behind the lock. [`Refusal::TableFull`] where a command that creates finds no place;
+    /// [`Refusal::OutOfStep`], which a pass of this table met in no test; [`Refusal::Spent`] where the place has no run
+    /// left; [`Refusal::ScoreOverflow`] to ZADD with INCR alone; those of the log to changes; [`Refusal::NoMemory`].
     pub fn run<'c, R: Wait, G: TestGate>(
         &self,
         rt: &R,

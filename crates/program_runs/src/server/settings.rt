@@ -9,7 +9,7 @@ use command_line::{MAX_CONNECTIONS, MAX_PLACES, MAX_WORKERS};
 /// How many workers, keys and connections a server has.
 #[derive(Clone, Copy, Debug, PartialEq, Eq)]
 pub struct Settings {
-    /// How many connections are served at once.
+    /// How many threads serve connections.
     pub workers: usize,
     /// How many keys there may be.
     pub places: usize,
