@@ -201,11 +201,11 @@ impl<H: BuildHasher, S: LogSink, L: Ledger, A: Allocator + Copy> Table<H, S, L, 
         if command.writes() {
             return self.change_at(rt, pass, place, command, gate);
         }
-        if let Some(answer) = self.read_few_at(rt, pass, place, command, gate) {
+        if let Some(answer) = self.read_at(rt, pass, place, command, gate) {
             return answer;
         }
         match self.run_at(rt, pass, place, command, gate) {
-            // Another worker may have taken the place's last run since.
+            // Another worker may have taken the place's last run since. Then the cell answers whatever it has to read.
             Err(Refusal::Spent) => match self.read_at(rt, pass, place, command, gate) {
                 Some(answer) => answer,
                 None => Err(Refusal::Spent),
@@ -248,31 +248,6 @@ impl<H: BuildHasher, S: LogSink, L: Ledger, A: Allocator + Copy> Table<H, S, L, 
     }
 
     /// Asks a place's cell under its shared lock, unless it had better be run.
-    fn read_few_at<'c, R: Wait, G: TestGate>(
-        &self,
-        rt: &R,
-        pass: &Pass<A>,
-        place: usize,
-        command: &'c Command<A>,
-        gate: &G,
-    ) -> Option<Result<Answer<'c, A>, Refusal>>
-        requires own { IsPassOf self.now pass.now }
-        requires within { place < length self.now.opened }
-        requires keyed { IsSome (key_of command.now.meaning) }
-        requires reading { is_writing command.now.meaning ≡ false }
-        ensures ok { IfSome result
-            (λ read. IfOk read (λ answer. WasAnswered self.now.opened pass.now.shares
-            pass.now.shares place command.now answer)) }
-        ensures refused { IfSome result
-            (λ read. IfErr read (IsSetRefusal command.now.meaning)) }
-    {
-        let cell = self.cells[place].read(rt);
-        gate.inside(place);
-        pass.note_told(cell.last_record());
-        cell.read_few(command, &pass.shares[place])
-    }
-
-    /// Asks a place's cell under its shared lock.
     fn read_at<'c, R: Wait, G: TestGate>(
         &self,
         rt: &R,
@@ -294,7 +269,7 @@ impl<H: BuildHasher, S: LogSink, L: Ledger, A: Allocator + Copy> Table<H, S, L, 
         let cell = self.cells[place].read(rt);
         gate.inside(place);
         pass.note_told(cell.last_record());
-        cell.ready(command, &pass.shares[place])
+        cell.read_few(command, &pass.shares[place])
     }
 
     /// Runs a command at a place's cell under its exclusive lock.
