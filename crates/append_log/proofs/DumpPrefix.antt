@@ -4,7 +4,7 @@ use Rattle.std.proofs.lemmas.List.{append-nil}
 use Rattle.std.proofs.lemmas.Grind.{flat_map-append}
 use Rattle.std.specs.FinMap as fin
 use Rattle.std.specs.Io.KnownBytes.{append_known}
-use Rattle.zset_core.specs.World.{World, set_at}
+use Rattle.zset_core.specs.SetsByKey.{World, set_at}
 use Rattle.append_log.specs.Records.{Record, text_of_records}
 use Rattle.append_log.specs.Dump.{set_records, records_at, dump}
 use Rattle.append_log.specs.Rewrite.{TakesPrefix}

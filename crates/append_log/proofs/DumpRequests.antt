@@ -8,7 +8,7 @@ use Rattle.score_bounds.specs.Scores.{IsScore, score_text}
 use Rattle.resp_wire.specs.RequestEncoding.{request, IsArgument, IsRequest}
 use Rattle.zset_core.proofs.CallerLemmas.{whole_empty}
 use Rattle.zset_core.specs.SortedSet.{Members, Pair, whole}
-use Rattle.zset_core.specs.World.{World, set_at}
+use Rattle.zset_core.specs.SetsByKey.{World, set_at}
 use Rattle.zset_core.specs.ExpressibleWorld.{IsSpelled, IsBoundedAt, IsBoundedWorld}
 use Rattle.append_log.specs.Replay.{header}
 use Rattle.append_log.specs.Dump.{add_record, cut_pieces, set_records, records_at}

@@ -10,7 +10,7 @@ use Rattle.resp_wire.specs.RequestEncoding.{Item, Ask, SkipZero, SkipMinus, IsIt
 use Rattle.resp_wire.specs.Parser.{item_at, head_at, byte_at}
 use Rattle.resp_wire.specs.Stream.{fault_of, split_items, asked, items, requests, rest, fault}
 use Rattle.resp_wire.specs.DecoderView.{DecoderView, Gave, Waits}
-use Rattle.zset_core.specs.World.{World}
+use Rattle.zset_core.specs.SetsByKey.{World}
 use Rattle.append_log.specs.Records.{Record}
 use Rattle.append_log.specs.Replay.{replay, replay_from, names_version, is_header, version_after, count_from}
 use Rattle.append_log.specs.declared.version.Version.{Version}

@@ -6,7 +6,7 @@ use Rattle.zset_core.specs.SortedSet.{Members}
 use Rattle.zset_core.specs.AbstractCommand.{Asked, Meaning, key_of}
 use Rattle.zset_core.specs.Semantics.{act, act_at, step}
 use Rattle.zset_core.specs.SetAndOwnerViews.{HasNoSet, IsPreparedAt, IsPreparedFor, IsSetAt, Next, OwnerView, SetView, Shows, ShowsAt, next_for}
-use Rattle.zset_core.specs.World.{World, put_set, set_at}
+use Rattle.zset_core.specs.SetsByKey.{World, put_set, set_at}
 use Rattle.append_log.specs.EffectRecords.{effect_record, next_record, prepared_record, record_made, record_made_at, record_of_next, record_of_owner_next}
 use Rattle.append_log.proofs.SameWorlds.{set_at-put_set-same}
 

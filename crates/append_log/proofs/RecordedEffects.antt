@@ -15,7 +15,7 @@ use Rattle.zset_core.specs.SetAndOwnerViews.{IsPreparedFor, Next, SetView, Shows
 use Rattle.zset_core.specs.CommandGrammar.{asked}
 use Rattle.zset_core.specs.ExpressibleWorld.{FitsRequest, IsBoundedMeaning}
 use Rattle.zset_core.specs.Semantics.{count_all, put_one, put_all, remove_all, step, act, act_at, increase_reply, is_barred, outcome_of, sum_of}
-use Rattle.zset_core.specs.World.{World, set_at, put_set}
+use Rattle.zset_core.specs.SetsByKey.{World, set_at, put_set}
 use Rattle.zset_core.specs.declared.refusal.Refusal.{Refusal}
 use Rattle.zset_core.specs.declared.command.pair_outcome.Flags.{Flags}
 use Rattle.zset_core.proofs.Outlines.{has}

@@ -3,7 +3,7 @@ use Rattle.std.proofs.Common.{◌≡◌, ◌+◌, Bool, true, false, cond, not, 
 use Rattle.std.specs.Prelude.{codes, ◌==◌, option_and_then, option_map}
 use Rattle.std.specs.Str.{bytes_eq}
 use Rattle.std.specs.Cmp.Lexicographic.{bytes_decides}
-use Rattle.zset_core.specs.World.{World}
+use Rattle.zset_core.specs.SetsByKey.{World}
 use Rattle.zset_core.specs.AbstractCommand.{Meaning, is_writing}
 use Rattle.zset_core.specs.AbstractCommand.{has_options}
 use Rattle.zset_core.specs.Semantics.{act}

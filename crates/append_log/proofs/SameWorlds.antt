@@ -12,7 +12,7 @@ use Rattle.zset_core.specs.SortedSet.{Members, bytes_cmp}
 use Rattle.zset_core.specs.AbstractCommand.{Meaning}
 use Rattle.zset_core.specs.Semantics.{step, act_at}
 use Rattle.zset_core.specs.SetAndOwnerViews.{Next, ShowsAt, IsPreparedAt}
-use Rattle.zset_core.specs.World.{World, is_empty, set_at, put_set}
+use Rattle.zset_core.specs.SetsByKey.{World, is_empty, set_at, put_set}
 use Rattle.zset_core.proofs.CallerLemmas.{get_put_set, filled, placed}
 use Rattle.zset_core.proofs.CallerLemmas.{total, exact}
 use Rattle.append_log.specs.LoggedOwner.{AreSame}

@@ -4,7 +4,7 @@ use Rattle.std.specs.List.{flat_map}
 use Rattle.std.specs.FinMap as fin
 use Rattle.score_bounds.specs.Scores.{score_text}
 use Rattle.zset_core.specs.SortedSet.{Pair, Members, whole}
-use Rattle.zset_core.specs.World.{World, set_at}
+use Rattle.zset_core.specs.SetsByKey.{World, set_at}
 use Rattle.append_log.specs.Records.{Record}
 use Rattle.append_log.specs.Replay.{header}
 

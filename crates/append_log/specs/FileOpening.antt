@@ -1,6 +1,6 @@
 -- What an append file that is opened leaves, where its bytes are not known.
 use Rattle.std.specs.Prelude.{◌≡◌, ◌≢◌, ◌<◌, ℕ, List, Result, Ok, Err}
-use Rattle.zset_core.specs.World.{World}
+use Rattle.zset_core.specs.SetsByKey.{World}
 use Rattle.append_log.specs.Reload.{IsLoaded, FaultAt}
 use Rattle.append_log.specs.declared.file.FileFault.{FileFault}
 use Rattle.append_log.specs.declared.file.FileFault.TheVariants.{Open, NotRegular, Locked, Lock, Cut, Sync, Folder}

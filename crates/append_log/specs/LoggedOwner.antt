@@ -2,7 +2,7 @@
 use Rattle.std.specs.Prelude.{◌≡◌, ℕ, ◌+◌, List, Option, None, Some, IsSomeAnd}
 use Rattle.resp_wire.specs.RequestEncoding.{request}
 use Rattle.resp_wire.specs.Response.{Response}
-use Rattle.zset_core.specs.World.{World, set_at}
+use Rattle.zset_core.specs.SetsByKey.{World, set_at}
 use Rattle.zset_core.specs.Semantics.{act}
 use Rattle.zset_core.specs.AbstractCommand.{Asked}
 use Rattle.zset_core.specs.declared.refusal.Refusal.{Refusal}

@@ -7,7 +7,7 @@ use Rattle.resp_wire.specs.RequestEncoding.{request, IsRequest}
 use Rattle.resp_wire.specs.Parser.{item_at}
 use Rattle.resp_wire.specs.Stream.{requests, rest, fault}
 use Rattle.resp_wire.specs.DecoderView.{DecoderView}
-use Rattle.zset_core.specs.World.{World}
+use Rattle.zset_core.specs.SetsByKey.{World}
 use Rattle.append_log.specs.Records.{Record}
 use Rattle.append_log.specs.Replay.{replay, replay_from, names_version, is_header, version_after, records_counted}
 use Rattle.append_log.specs.declared.version.Version.{Version}

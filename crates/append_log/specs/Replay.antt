@@ -6,7 +6,7 @@ use Rattle.zset_core.specs.AbstractCommand.{Meaning, is_writing}
 use Rattle.zset_core.specs.AbstractCommand.{has_options}
 use Rattle.zset_core.specs.CommandGrammar.{asked}
 use Rattle.zset_core.specs.ParsedArguments.{word_at}
-use Rattle.zset_core.specs.World.{World}
+use Rattle.zset_core.specs.SetsByKey.{World}
 use Rattle.zset_core.specs.Semantics.{act}
 use Rattle.append_log.specs.Records.{Record}
 use Rattle.append_log.specs.declared.version.Version.{Version}

@@ -1,7 +1,7 @@
 //! Laws of replay, each the contract of a function that does nothing.
 
 ghost use Rattle.std.specs.Prelude.{◌≡◌, List, Some};
-ghost use Rattle.zset_core.specs.World.{World as WorldType};
+ghost use Rattle.zset_core.specs.SetsByKey.{World as WorldType};
 ghost use Rattle.append_log.specs.Records.{Record};
 ghost use Rattle.append_log.specs.Replay.{after, replay_as};
 ghost use Rattle.append_log.specs.declared.version.Version.TheVariants.{Commands, Effects};

@@ -4,7 +4,7 @@ ghost use Rattle.std.specs.Prelude.{◌≡◌, ◌≢◌, ℕ, ◌+◌, ◌-◌,
 ghost use Rattle.std.specs.Io.KnownBytes.{prepend_known, IsAtEnd};
 ghost use Rattle.resp_wire.specs.Device.{Rose, saturating_succ};
 ghost use Rattle.resp_wire.specs.RequestEncoding.{IsArgument, argument, line, request as request_text};
-ghost use Rattle.zset_core.specs.World.{World as WorldType};
+ghost use Rattle.zset_core.specs.SetsByKey.{World as WorldType};
 ghost use Rattle.append_log.specs.Replay.{after, is_replayed as is_replayed_by};
 ghost use Rattle.append_log.specs.Reload.{ReloadHolds, ReloadReads};
 ghost use Rattle.append_log.specs.ReloadSteps.{IsBetweenReads, ReloadStepped, Drained, ReadsOn, SourceFailed, IsOfBytes, UnreplayedFor, NotTakenFor, Takes};

@@ -5,7 +5,7 @@ ghost use Rattle.resp_wire.specs.Response.{response_of};
 ghost use Rattle.resp_wire.specs.RequestEncoding.{request};
 ghost use Rattle.zset_core.specs.AbstractCommand.{is_writing, key_of};
 ghost use Rattle.zset_core.specs.SetAndOwnerViews.{IsPreparedAt, IsPreparedFor};
-ghost use Rattle.zset_core.specs.World.{World as WorldType, put_set, set_at};
+ghost use Rattle.zset_core.specs.SetsByKey.{World as WorldType, put_set, set_at};
 ghost use Rattle.append_log.specs.EffectRecords.{next_record, prepared_record};
 ghost use Rattle.append_log.specs.Log.{LogView, Appends, HasRecords, NotSettled, Settles, records_after, share_after};
 ghost use Rattle.append_log.specs.Replay.{after};

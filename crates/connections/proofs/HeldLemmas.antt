@@ -9,7 +9,7 @@ use Rattle.session_core.specs.Interleaved.{StateMoves, TakesTurns}
 use Rattle.connections.specs.declared.visit.Stage.{Stage}
 use Rattle.connections.specs.declared.visit.Stage.TheVariants.{Reads, Runs, Ended}
 use Rattle.connections.specs.Places.{ValueIsAt, MayPut, EachWas}
-use Rattle.connections.specs.VisitSteps.{VisitState, Stands, GoesOn, HasBegun, visit_state, new_state}
+use Rattle.connections.specs.VisitState.{VisitState, Stands, GoesOn, HasBegun, visit_state, new_state}
 use Rattle.connections.specs.HeldConnections.{HeldState, AllGoOn, AllStand, IsAdded, HaveLeft, ConnectionWaits, AllWait, AllMayLeave, RisesBy}
 use Rattle.connections.proofs.PlaceLemmas.{at_set, at_grown, was_trans, was_so, each_now, all_shown, exchanged_alike, exchanged_was, emptied_was}
 

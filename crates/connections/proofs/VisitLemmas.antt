@@ -12,7 +12,7 @@ use Rattle.session_core.specs.Interleaved.{PartWay, StateMoves, Talk, Turn, Take
 use Rattle.session_core.proofs.Interleaving.{moves-trans, moved_by}
 use Rattle.connections.specs.declared.visit.Stage.{Stage}
 use Rattle.connections.specs.declared.visit.Stage.TheVariants.{Reads, Runs, Ended}
-use Rattle.connections.specs.VisitSteps.{IsTaken, Stands, GoesOn, VisitState, visit_state}
+use Rattle.connections.specs.VisitState.{IsTaken, Stands, GoesOn, VisitState, visit_state}
 
 module _ {S : Type 0} (allows : S → Asked → Result Response Refusal → S → Type 0) where
   -- a piece was read

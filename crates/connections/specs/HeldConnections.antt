@@ -4,7 +4,7 @@ use Rattle.resp_wire.specs.Response.{Response}
 use Rattle.zset_core.specs.AbstractCommand.{Asked}
 use Rattle.zset_core.specs.declared.refusal.Refusal.{Refusal}
 use Rattle.connections.specs.Places.{IsGrown, MayPut, EachWas, Each}
-use Rattle.connections.specs.VisitSteps.{VisitState, GoesOn, HasBegun}
+use Rattle.connections.specs.VisitState.{VisitState, GoesOn, HasBegun}
 
 -- what contracts see of a connection that is held: its visit, the number of the last record that its replies wait for (0:
 -- none), and the bytes that left, as far as they are known

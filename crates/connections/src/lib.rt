@@ -10,19 +10,19 @@
 #![tactic(auto)]
 
 mod buffers;
-mod held;
+mod held_connection;
 mod many;
 mod queues;
 mod replies;
 mod settle;
 mod slots;
-mod sockets;
+mod socket_limits;
 mod visit;
 mod watch;
 
 pub use buffers::Buffers;
 pub use many::Connections;
 pub use settle::{AtOnce, Settle};
-pub use sockets::{descriptor_limit, keep_alive};
+pub use socket_limits::{descriptor_limit, keep_alive};
 pub use visit::{MOST_HELD, MOST_MILLIS, MOST_REQUESTS, Next, Stage, Visit};
 pub use watch::{Ringer, Watched};

@@ -4,12 +4,12 @@ ghost use Rattle.std.specs.Prelude.{◌≡◌, ◌<◌, length, IfOk};
 ghost use Rattle.session_core.specs.Interleaved.{StateMoves};
 ghost use Rattle.connections.specs.Places.{IsGrown};
 ghost use Rattle.connections.specs.HeldConnections.{AllGoOn, AllMayLeave, AllWait, HaveLeft, IsAdded, RisesBy, no_connections};
-ghost use Rattle.connections.specs.VisitSteps.{new_state};
+ghost use Rattle.connections.specs.VisitState.{new_state};
 
 mod waiting_reads;
 
 use crate::buffers::Buffers;
-use crate::held::{Held, Moment};
+use crate::held_connection::{Held, Moment};
 use crate::many::waiting_reads::WaitingReads;
 use crate::queues::{begin, queue, queue_again};
 use crate::settle::{Settle, settle_to};

@@ -4,7 +4,7 @@ ghost use Rattle.std.specs.Prelude.{◌≡◌, ◌≤◌, ◌<◌, ◌^◌, ◌�
 ghost use Rattle.session_core.specs.Interleaved.{StateMoves};
 ghost use Rattle.connections.specs.declared.visit.Next.TheVariants.{Ends, Settles};
 ghost use Rattle.connections.specs.declared.visit.Stage.TheVariants.{Reads, Runs};
-ghost use Rattle.connections.specs.VisitSteps.{VisitIsSound, IsTaken, GoesOn, WaitsForTold, visit_state, new_state};
+ghost use Rattle.connections.specs.VisitState.{VisitIsSound, IsTaken, GoesOn, WaitsForTold, visit_state, new_state};
 
 use crate::buffers::Buffers;
 use crate::replies::Replies;

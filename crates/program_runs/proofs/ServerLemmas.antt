@@ -3,7 +3,7 @@ use Rattle.std.proofs.Common.{◌≡◌, ℕ, ◌<◌, ◌≤◌, List, length, 
 use Rattle.std.specs.Prelude.{All}
 use Rattle.std.specs.FinMap as fin
 use Rattle.std.proofs.lemmas.List.Elements.{length_all_zip, AllZip-get_or, All-from_get_or}
-use Rattle.zset_core.specs.World.{World}
+use Rattle.zset_core.specs.SetsByKey.{World}
 use Rattle.hand_over.specs.declared.outcome.HandOverFault.{HandOverFault}
 use Rattle.hand_over.specs.declared.outcome.HandOverFault.TheVariants as hands
 use Rattle.set_table.specs.Opening.{AreNewPasses, IsTableOpenFault, no_pass, pass_at}
@@ -14,7 +14,7 @@ use Rattle.set_table.specs.declared.open.TableOpenFault.TheVariants as opens
 use Rattle.set_table.specs.declared.table.close.CloseFault.{CloseFault}
 use Rattle.set_table.specs.declared.table.close.CloseFault.TheVariants.{MissingPass, OutOfStep}
 use Rattle.program_runs.specs.WorkerTurns.{Keeps, worker_on, AllKeep}
-use Rattle.program_runs.specs.ServerExitStatus.{IsStartFault, table_open_line, hand_over_line}
+use Rattle.program_runs.specs.ServerRun.{IsStartFault, table_open_line, hand_over_line}
 
 pub own_all : (table : TableView) (passes : List PassView) → ((i : ℕ) → i < length passes → IsPassOf table (pass_at passes i)) → All (IsPassOf table) passes
 own_all table passes each = All-from_get_or (IsPassOf table) passes no_pass each

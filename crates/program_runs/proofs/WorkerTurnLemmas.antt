@@ -8,7 +8,7 @@ use Rattle.session_core.specs.Exchange.{ExchangeOf, Exchanges}
 use Rattle.session_core.specs.Interleaved.{StateMoves, TakesTurns}
 use Rattle.session_core.specs.WorkerAnswers.{WorkerView, WorkerAnswers}
 use Rattle.connections.specs.HeldConnections.{AllStand, AllGoOn, IsAdded}
-use Rattle.connections.specs.VisitSteps.{new_state}
+use Rattle.connections.specs.VisitState.{new_state}
 use Rattle.connections.proofs.HeldLemmas.{all_stand_on, added_stands}
 use Rattle.program_runs.specs.WorkerTurns.{HandlerView, Keeps, Attends}
 use Rattle.program_runs.specs.WorkerTurnLaws.{keeps_itself}

@@ -10,9 +10,9 @@ use Rattle.session_core.specs.declared.fault.SessionFault.TheVariants as ends
 use Rattle.session_core.specs.SessionEnd.{Served}
 use Rattle.session_core.specs.SendOutcome.{SessionSourceFailed, DrainFailed, SentOn}
 use Rattle.program_runs.specs.DeviceStates.{SourceState, DrainState}
-use Rattle.program_runs.specs.declared.finish.Line.{Line}
-use Rattle.program_runs.specs.declared.finish.Line.TheVariants as lines
-use Rattle.program_runs.specs.declared.finish.Finish.{Finish}
+use Rattle.program_runs.specs.declared.exit_lines.Line.{Line}
+use Rattle.program_runs.specs.declared.exit_lines.Line.TheVariants as lines
+use Rattle.program_runs.specs.declared.exit_lines.Finish.{Finish}
 
 -- the exit status of an end for a cause; 0 for a notice, after which the work goes on
 abbrev pub status_of : Line → ℕ

@@ -3,7 +3,7 @@ use Rattle.std.specs.Prelude.{◌≡◌, ℕ, ◌-◌, ◌^◌, ◌<◌, ◌==�
 use Rattle.std.specs.FinMap as fin
 use Rattle.std.specs.Io.KnownBytes.{append_known}
 use Rattle.resp_wire.specs.Device.{Rose}
-use Rattle.zset_core.specs.World.{World}
+use Rattle.zset_core.specs.SetsByKey.{World}
 use Rattle.append_log.specs.Dump.{dump}
 use Rattle.append_log.specs.FileOpening.{Opens, OpenFails}
 use Rattle.append_log.specs.LoggedOwner.{LoggedView}
@@ -19,13 +19,13 @@ use Rattle.append_log.specs.declared.new_file.NewFileFault.TheVariants as new_fi
 use Rattle.resp_wire.specs.Response.{Response}
 use Rattle.session_core.specs.OwnerAnswers.{LoggedAnswers}
 use Rattle.session_core.specs.Exchange.{Exchanges}
-use Rattle.session_core.specs.Deferred.{TalkBetweenSyncs}
+use Rattle.session_core.specs.DeferredSession.{TalkBetweenSyncs}
 use Rattle.program_runs.specs.DeviceStates.{SourceState, DrainState}
 use Rattle.program_runs.specs.ExitStatus.{finish_by, noticed, Finishes, IsPrinted}
-use Rattle.program_runs.specs.declared.finish.Line.{Line}
-use Rattle.program_runs.specs.declared.finish.Line.TheVariants as lines
-use Rattle.program_runs.specs.declared.finish.Unusable.TheVariants as unusable
-use Rattle.program_runs.specs.declared.finish.Finish.{Finish}
+use Rattle.program_runs.specs.declared.exit_lines.Line.{Line}
+use Rattle.program_runs.specs.declared.exit_lines.Line.TheVariants as lines
+use Rattle.program_runs.specs.declared.exit_lines.Unusable.TheVariants as unusable
+use Rattle.program_runs.specs.declared.exit_lines.Finish.{Finish}
 
 -- the line that tells why a file could not be reloaded
 abbrev pub reload_line : ReloadFault → Line

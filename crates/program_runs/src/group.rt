@@ -4,8 +4,8 @@ ghost use Rattle.std.specs.Prelude.{◌≡◌, true, None};
 ghost use Rattle.resp_wire.specs.Device.{Rose};
 ghost use Rattle.program_runs.specs.FileExitStatus.{ServesFile, ServesFrom};
 
-use crate::file::{MAX_SESSION_RECORDS, Opened, open_session};
-use crate::finish::Finish;
+use crate::exit_lines::Finish;
+use crate::file_runs::{MAX_SESSION_RECORDS, Opened, open_session};
 use crate::stdio::after_session;
 use append_log::{LockFile, Log, LogSink, LoggedOwner};
 use resp_wire::{ByteDrain, ByteSource};

@@ -5,9 +5,9 @@
 //! what these lines mean in its case.
 #![tactic(auto)]
 
-mod ending;
-mod file;
-mod finish;
+mod exit_lines;
+mod explanations;
+mod file_runs;
 mod group;
 mod logs;
 mod printing;
@@ -16,9 +16,9 @@ mod stdio;
 mod streams;
 mod watching;
 
-pub use ending::Ending;
-pub use file::{open_file, rewrite_run, serve_file};
-pub use finish::{Finish, Line, Unusable};
+pub use exit_lines::{Finish, Line, Unusable};
+pub use explanations::Ending;
+pub use file_runs::{open_file, rewrite_run, serve_file};
 pub use group::serve_group;
 pub use server::{Settings, Stock, TcpArrivals, serve_stock, serve_tcp};
 pub use stdio::{after_session, stdio_run};

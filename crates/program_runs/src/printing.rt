@@ -3,9 +3,9 @@
 ghost use Rattle.std.specs.Prelude.{◌≡◌, IfErr, OnOk};
 ghost use Rattle.std.specs.Io.KnownBytes.{append_known};
 ghost use Rattle.resp_wire.specs.Device.{Rose};
-ghost use Rattle.program_runs.specs.declared.finish.Line.TheVariants as lines;
+ghost use Rattle.program_runs.specs.declared.exit_lines.Line.TheVariants as lines;
 
-use crate::finish::Line;
+use crate::exit_lines::Line;
 use resp_wire::{ByteDrain, write_all};
 
 /// Writes a text to the drain, and sends it on.

@@ -3,12 +3,12 @@
 ghost use Rattle.std.specs.Prelude.{◌≡◌, ◌<◌, ◌⊎◌, None, All};
 ghost use Rattle.set_table.specs.ClosingTotals.{AreNumbered};
 ghost use Rattle.set_table.specs.WorkerPasses.{IsPassOf};
-ghost use Rattle.program_runs.specs.ServerExitStatus as server;
-ghost use Rattle.program_runs.specs.ServerExitStatus.{HasNotServed, HasServed, HasTotals, IsTold};
+ghost use Rattle.program_runs.specs.ServerRun as server;
+ghost use Rattle.program_runs.specs.ServerRun.{HasNotServed, HasServed, HasTotals, IsTold};
 
+mod attending;
 mod connection_handler;
 mod seats;
-mod served;
 mod server_plan;
 mod settings;
 mod settling;
@@ -16,8 +16,8 @@ mod startup;
 mod tcp_arrivals;
 mod totals_line;
 
-use crate::finish::{Finish, Line};
-use crate::server::served::attend;
+use crate::exit_lines::{Finish, Line};
+use crate::server::attending::attend;
 pub use crate::server::settings::Settings;
 use crate::server::settling::Journal;
 pub use crate::server::startup::{Stock, serve_stock, serve_tcp};

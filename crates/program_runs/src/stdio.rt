@@ -4,7 +4,7 @@ ghost use Rattle.std.specs.Prelude.{◌≡◌, ◌+◌, ◌≤◌};
 ghost use Rattle.session_core.specs.Exchange.{Exchanges};
 ghost use Rattle.program_runs.specs.ExitStatus.{finish_of, Finishes, most_reads};
 
-use crate::finish::{Finish, Line};
+use crate::exit_lines::{Finish, Line};
 use resp_wire::{ByteDrain, ByteSource, MAX_READS, READ_BUFFER};
 use session_core::{Ended, Exec, SessionFault, serve};
 use std::alloc::Allocator;

@@ -16,7 +16,7 @@ use Rattle.session_core.specs.SessionEnd.{Served}
 use Rattle.session_core.specs.SendOutcome.{DrainFailed, SessionSourceFailed, SentOn}
 use Rattle.session_core.specs.ServeSteps.{IsBetween, SessionUnderway, Answered, Halfway, Halted, fed}
 use Rattle.session_core.specs.Interleaved.{PartWay}
-use Rattle.session_core.specs.Deferred.{IsAt, IsPast, IsSynced, TalkBetweenSyncs}
+use Rattle.session_core.specs.DeferredSession.{IsAt, IsPast, IsSynced, TalkBetweenSyncs}
 use Rattle.resp_wire.proofs.CallerLemmas.{prepend_known-nil}
 use Rattle.session_core.proofs.HeldRequests.{halted_unfed}
 use Rattle.session_core.proofs.ServeProgress as serves

@@ -1,12 +1,12 @@
 -- A log that is synced between the exchanges of a session.
 use Rattle.std.proofs.Common.{◌≡◌, ℕ, ◌≤◌, refl, ap, ◌∙◌, arith, true, Result, Ok, Err}
 use Rattle.std.specs.Prelude.{OnOk, IfErr}
-use Rattle.zset_core.specs.World.{World}
+use Rattle.zset_core.specs.SetsByKey.{World}
 use Rattle.zset_core.specs.declared.refusal.Refusal.{Refusal}
 use Rattle.zset_core.specs.declared.refusal.Refusal.TheVariants.{LogBroken, LogRefused}
 use Rattle.append_log.specs.Log.{LogView, NotSettled, Settles, Unsettled}
 use Rattle.append_log.specs.LoggedOwner.{LoggedView, Replays}
-use Rattle.session_core.specs.Deferred.{IsSynced}
+use Rattle.session_core.specs.DeferredSession.{IsSynced}
 
 pub synced-refl : (s : LoggedView) → IsSynced s s
 synced-refl s = record {

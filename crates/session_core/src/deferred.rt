@@ -4,7 +4,7 @@ ghost use Rattle.std.specs.Prelude.{◌≡◌, ℕ, ◌+◌, ◌-◌, ◌≤◌,
 ghost use Rattle.std.specs.Io.KnownBytes.{IsAtEnd};
 ghost use Rattle.resp_wire.specs.Device.{Rose, saturating_succ};
 ghost use Rattle.append_log.specs.LoggedOwner.{LoggedView};
-ghost use Rattle.session_core.specs.Deferred.{IsAt, IsPast, IsSynced, TalkBetweenSyncs};
+ghost use Rattle.session_core.specs.DeferredSession.{IsAt, IsPast, IsSynced, TalkBetweenSyncs};
 ghost use Rattle.session_core.specs.Interleaved.{PartWay};
 ghost use Rattle.session_core.specs.SessionEnd.{Served};
 ghost use Rattle.session_core.specs.SendOutcome.{DrainFailed, SessionSourceFailed, SentOn};

@@ -4,7 +4,7 @@ ghost use Rattle.std.specs.Prelude.{◌≡◌, ◌≤◌, ◌⊎◌, [], length,
 ghost use Rattle.std.specs.Io.KnownBytes.{append_known};
 ghost use Rattle.resp_wire.specs.Device.{Rose, saturating_succ};
 ghost use Rattle.append_log.specs.Log.{Settles};
-ghost use Rattle.session_core.specs.Deferred.{IsSynced};
+ghost use Rattle.session_core.specs.DeferredSession.{IsSynced};
 
 use append_log::{LogSink, LoggedOwner};
 use resp_wire::{ByteDrain, Failed, write_all};

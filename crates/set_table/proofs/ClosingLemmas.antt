@@ -10,7 +10,7 @@ use Rattle.set_table.specs.declared.counts.Tally.{Tally}
 use Rattle.set_table.specs.declared.table.close.totals.Totals.{Totals}
 use Rattle.set_table.specs.CellStates.{CellView, InStep}
 use Rattle.set_table.specs.WorkerPasses.{PassView}
-use Rattle.set_table.specs.Tallies.{empty_tally, added_of, removed_of}
+use Rattle.set_table.specs.PassTallies.{empty_tally, added_of, removed_of}
 use Rattle.set_table.specs.ClosingTotals.{AddsUp, Agrees, AreOfCells, HasOtherCell, HasOtherRecords, IsOutOfStep, added_at, removed_at, members_at, sum_below, sum_of_numbers, pass_at, share_at, no_pass}
 use Rattle.set_table.specs.ClosingSteps.{HaveShares, AddsCell, AddsPlace, AddsUpTo}
 use Rattle.set_table.proofs.PassOrder.{stands_in}

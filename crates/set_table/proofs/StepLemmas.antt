@@ -15,7 +15,7 @@ use Rattle.zset_core.proofs.CallerLemmas.{missing_none}
 use Rattle.append_log.specs.Log.{LogView, NotAppended}
 use Rattle.append_log.proofs.CallerLemmas.{unchanged}
 use Rattle.set_table.specs.declared.counts.OwnCounts.{OwnCounts}
-use Rattle.set_table.specs.Tallies.{no_counts}
+use Rattle.set_table.specs.PassTallies.{no_counts}
 use Rattle.set_table.specs.TableAnswers.{IsSetRefusal, is_increase, is_sum}
 use Rattle.set_table.specs.SetSteps.{SetStepped, IsLogged, ChangesSet, IsHindered, IsAppendRefusal}
 

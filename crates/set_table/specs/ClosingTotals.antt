@@ -7,7 +7,7 @@ use Rattle.set_table.specs.CellStates.{CellView, CellIsWhole, InStep}
 use Rattle.set_table.specs.Naming.{name_at_place, IsPlace}
 pub use Rattle.set_table.specs.Opening.{no_pass, pass_at, sum_of_numbers}
 use Rattle.set_table.specs.WorkerPasses.{PassView, no_share}
-use Rattle.set_table.specs.Tallies.{ShareView}
+use Rattle.set_table.specs.PassTallies.{ShareView}
 use Rattle.set_table.specs.declared.table.close.totals.Totals.{Totals}
 
 abbrev pub share_at : PassView → ℕ → ShareView

@@ -1,4 +1,4 @@
-pub mod Tallies
+pub mod PassTallies
 pub mod SetSteps
 pub mod CellStates
 pub mod Naming

@@ -12,7 +12,7 @@ ghost use Rattle.zset_core.specs.AnswerableAsItStands.{IsReadyFor, ListsWindow};
 ghost use Rattle.zset_core.specs.SortedSet.{pairs};
 ghost use Rattle.set_table.specs.CellStates.{HasNoReading, HasRead, HasRun, InStep, RunIsRefused, CellIsWhole, WasRun, counts_of, new_cell};
 ghost use Rattle.set_table.specs.TableAnswers.{IsSetRefusal};
-ghost use Rattle.set_table.specs.Tallies.{TallyHasRoom, runs_of, share_after_run, tally_after};
+ghost use Rattle.set_table.specs.PassTallies.{TallyHasRoom, runs_of, share_after_run, tally_after};
 
 mod numbers;
 mod step;
@@ -50,7 +50,7 @@ pub struct Cell<H: BuildHasher, L: Ledger, A: Allocator + Copy> {
 impl<H: BuildHasher, L: Ledger, A: Allocator + Copy> Model for Cell<H, L, A> {
     ghost use Rattle.std.specs.Prelude.{◌≡◌};
     ghost use Rattle.set_table.specs.CellStates.{CellView, CellIsWhole};
-    ghost use Rattle.set_table.specs.Tallies.{total_of};
+    ghost use Rattle.set_table.specs.PassTallies.{total_of};
 
     ghost Value = { CellView };
 

@@ -1,7 +1,7 @@
 //! Numbers that are told of a place.
 
 ghost use Rattle.std.specs.Prelude.{◌≡◌};
-ghost use Rattle.set_table.specs.Tallies.{TallyHasRoom, empty_tally, no_counts, tally_after};
+ghost use Rattle.set_table.specs.PassTallies.{TallyHasRoom, empty_tally, no_counts, tally_after};
 
 /// A place's members at opening, and how many came in and left since then, as a command found them.
 #[derive(Clone, Copy, Debug, PartialEq, Eq)]

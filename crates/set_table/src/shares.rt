@@ -1,7 +1,7 @@
 //! What a pass was answered at one place.
 
 ghost use Rattle.std.specs.Prelude.{◌≡◌};
-ghost use Rattle.set_table.specs.Tallies.{empty_tally};
+ghost use Rattle.set_table.specs.PassTallies.{empty_tally};
 
 use crate::counts::Tally;
 use std::marker::Model;
@@ -18,7 +18,7 @@ pub struct Shares {
 }
 
 impl Model for Shares {
-    ghost use Rattle.set_table.specs.Tallies.{ShareView};
+    ghost use Rattle.set_table.specs.PassTallies.{ShareView};
 
     ghost Value = { ShareView };
 

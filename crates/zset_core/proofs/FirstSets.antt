@@ -18,7 +18,7 @@ use Rattle.zset_core.specs.AbstractCommand.{Asked}
 use Rattle.zset_core.specs.OwnerViewAndInvariant.{Keyed, world_of, set_in, IsAfter, KeysRise, AllRest, IsOwned, owner_view}
 use Rattle.zset_core.specs.FirstSetTaken.{IsFirst}
 use Rattle.zset_core.specs.SetAndOwnerViews.{SetView, OwnerView}
-use Rattle.zset_core.specs.World.{World}
+use Rattle.zset_core.specs.SetsByKey.{World}
 use Rattle.zset_core.proofs.Bridge.{total, exact}
 use Rattle.zset_core.proofs.OwnerBounds.{world_bounded, idle_after}
 use Rattle.zset_core.proofs.OwnerViews.{row_of, rows_of, world_rows, idle_rest}

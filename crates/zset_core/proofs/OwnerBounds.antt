@@ -6,7 +6,7 @@ use Rattle.resp_wire.specs.RequestEncoding.{IsArgument}
 use Rattle.resp_wire.specs.Response.{Response}
 use Rattle.zset_core.specs.AbstractCommand.{Meaning, Asked, key_of}
 use Rattle.zset_core.specs.SetAndOwnerViews.{SetView, Next, OwnerView}
-use Rattle.zset_core.specs.World.{World, put_set}
+use Rattle.zset_core.specs.SetsByKey.{World, put_set}
 use Rattle.zset_core.specs.Semantics.{act_at}
 use Rattle.zset_core.specs.OwnerViewAndInvariant.{Keyed, world_of, set_in, next_at, IsHeld, IsOwned, owner_view, AllRest}
 use Rattle.zset_core.specs.ExpressibleWorld.{IsBoundedWorld, IsBoundedMeaning, IsBoundedOwner}

@@ -16,7 +16,7 @@ use Rattle.zset_core.specs.SortedSet.{Members, bytes_cmp}
 use Rattle.zset_core.specs.SetAndOwnerViews.{SetView, Next, Shows, IsPreparedFor, ShowsAt, IsPreparedAt}
 use Rattle.zset_core.specs.ChangeOutline.{IsOutline}
 use Rattle.zset_core.specs.declared.set.change_outline.Outline.{Outline}
-use Rattle.zset_core.specs.World.{World, is_empty, set_at, put_set}
+use Rattle.zset_core.specs.SetsByKey.{World, is_empty, set_at, put_set}
 use Rattle.zset_core.specs.OwnerViewAndInvariant.{Keyed, world_of, set_in, IsResting, AllRest, OthersRest, next_at, IsAfter}
 use Rattle.zset_core.proofs.Bridge.{total, exact}
 use Rattle.std.proofs.Common.{IfOk, IfErr}

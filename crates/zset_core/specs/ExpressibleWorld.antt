@@ -9,7 +9,7 @@ use Rattle.zset_core.specs.SortedSet.{Members, Pair}
 use Rattle.zset_core.specs.AbstractCommand.{Meaning, Ping, Asks, Changes, Change, Add, Increase, Remove, RemoveRange, key_of}
 use Rattle.zset_core.specs.ChangeEffect.{names_in}
 use Rattle.zset_core.specs.SetAndOwnerViews.{OwnerView}
-use Rattle.zset_core.specs.World.{World, is_empty}
+use Rattle.zset_core.specs.SetsByKey.{World, is_empty}
 
 -- a pair that a request can carry
 abbrev pub IsSpelled : Pair → Type 0

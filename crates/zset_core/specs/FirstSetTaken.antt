@@ -2,7 +2,7 @@
 use Rattle.std.specs.Prelude.{◌≡◌, ℕ, false, List, ◌∷◌, None, Some, slice_get}
 use Rattle.std.specs.FinMap as fin
 use Rattle.zset_core.specs.SetAndOwnerViews.{SetView}
-use Rattle.zset_core.specs.World.{World, is_empty, set_at}
+use Rattle.zset_core.specs.SetsByKey.{World, is_empty, set_at}
 
 -- the set at the old world's first key was taken out, and the new world is what is left
 pub record IsFirst (old : World) (key : List ℕ) (taken : SetView) (new : World) : Type 0 where

@@ -1,6 +1,6 @@
 pub mod SortedSet
 pub mod AbstractCommand
-pub mod World
+pub mod SetsByKey
 pub mod Semantics
 pub mod SetAndOwnerViews
 pub mod MembersWithStagedScores

@@ -10,7 +10,7 @@ use Rattle.std.specs.declared.snapshot.Snapshot.{Snapshot}
 use Rattle.zset_core.specs.SortedSet.{bytes_cmp}
 use Rattle.zset_core.specs.AbstractCommand.{Asked, key_of}
 use Rattle.zset_core.specs.SetAndOwnerViews.{SetView, Next, OwnerView}
-use Rattle.zset_core.specs.World.{World, is_empty, put_set}
+use Rattle.zset_core.specs.SetsByKey.{World, is_empty, put_set}
 
 abbrev pub Keyed : Type 0 → Type 0
 Keyed A = Vec ℕ A × SetView

@@ -8,7 +8,7 @@ use Rattle.score_bounds.specs.declared.bounds.Range.{Range}
 use Rattle.score_bounds.specs.Bounds.{is_in}
 use Rattle.score_bounds.specs.Scores.{is_score, score_text}
 use Rattle.zset_core.specs.SortedSet.{Members, Pair, listing}
-use Rattle.zset_core.specs.World.{World, put_set, set_at}
+use Rattle.zset_core.specs.SetsByKey.{World, put_set, set_at}
 use Rattle.zset_core.specs.AbstractCommand.{Meaning, key_of, Ping, Asks, Changes, Question, Score, Card, Count, ListRange, Change, Add, Increase, Remove, RemoveRange}
 use Rattle.zset_core.specs.declared.command.pair_outcome.Flags.{Flags}
 use Rattle.zset_core.specs.declared.command.pair_outcome.Outcome.{Outcome}

@@ -8,7 +8,7 @@ use Rattle.ripple_column.specs.Content.{ColumnState}
 use Rattle.zset_core.specs.SortedSet.{Members}
 use Rattle.zset_core.specs.AbstractCommand.{Meaning}
 use Rattle.zset_core.specs.Semantics.{step}
-use Rattle.zset_core.specs.World.{World, set_at}
+use Rattle.zset_core.specs.SetsByKey.{World, set_at}
 
 -- what a commit will leave and reply, and what was asked for
 pub record Next : Type 0 where

@@ -9,7 +9,7 @@ ghost use Rattle.zset_core.specs.Refusal.{IsRefused};
 ghost use Rattle.zset_core.specs.ExpressibleWorld.{IsBoundedWorld};
 ghost use Rattle.zset_core.specs.SortedSet.{whole};
 ghost use Rattle.zset_core.specs.SetAndOwnerViews.{HasNoSet, IsPreparedAt, IsSetAt};
-ghost use Rattle.zset_core.specs.World.{key_behind, put_set, set_at};
+ghost use Rattle.zset_core.specs.SetsByKey.{key_behind, put_set, set_at};
 ghost use Rattle.zset_core.specs.Semantics.{act};
 
 mod boxed_set;

@@ -24,7 +24,7 @@ pub mod commit;
 pub mod draft;
 pub mod member_removal;
 pub mod members_with_staged_scores;
-pub mod place_marks;
+pub mod place_filter;
 pub mod plan;
 pub mod range_removal;
 pub mod row_edits;

@@ -4,7 +4,7 @@ ghost use Rattle.std.specs.Prelude.{◌≡◌};
 ghost use Rattle.session_core.specs.Interleaved.{StateMoves};
 ghost use Rattle.connections.specs.HeldConnections.{AllGoOn, AllWait};
 
-use crate::held::Moment;
+use crate::held_connection::Moment;
 use crate::many::Connections;
 use crate::watch::Watched;
 use resp_wire::{PolledDrain, PolledSource};

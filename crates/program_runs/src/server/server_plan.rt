@@ -3,7 +3,7 @@
 ghost use Rattle.std.specs.Prelude.{◌≡◌, ◌≤◌, IfSome, IsSome};
 ghost use Rattle.std.specs.Net.Grammar.{IsSocketText};
 ghost use Rattle.std.specs.declared.net.socket_addr.SocketAddr.{SocketAddr};
-ghost use Rattle.program_runs.specs.ServerPlan.{IsInRange};
+ghost use Rattle.program_runs.specs.ServerRanges.{IsInRange};
 ghost use Rattle.command_line.specs.declared.limits.TheConstants.{MAX_CLIENTS, MAX_RECORDS};
 
 use crate::server::settings::Settings;

@@ -1,7 +1,7 @@
 //! How a server is set up.
 
 ghost use Rattle.std.specs.Prelude.{◌≡◌, ◌≤◌, ◌↔◌, IfSome, IsSome};
-ghost use Rattle.program_runs.specs.ServerPlan.{AreSettings};
+ghost use Rattle.program_runs.specs.ServerRanges.{AreSettings};
 ghost use Rattle.command_line.specs.declared.limits.TheConstants.{MAX_CONNECTIONS, MAX_PLACES, MAX_WORKERS};
 
 use command_line::{MAX_CONNECTIONS, MAX_PLACES, MAX_WORKERS};

@@ -3,11 +3,11 @@
 ghost use Rattle.std.specs.Prelude.{◌≡◌, ◌+◌, ◌≤◌, ◌⊎◌, None, Ok, IfOk, IsSome};
 ghost use Rattle.command_line.specs.declared.limits.TheConstants.{MAX_RECORDS};
 ghost use Rattle.command_line.specs.declared.serve.SyncMode.TheVariants.{Each, Group};
-ghost use Rattle.program_runs.specs.ServerExitStatus.{HasNotServed, HasServed};
+ghost use Rattle.program_runs.specs.ServerRun.{HasNotServed, HasServed};
 
-use crate::ending::Ending;
-use crate::file::{open_file, tell_torn};
-use crate::finish::{Finish, Line, Unusable};
+use crate::exit_lines::{Finish, Line, Unusable};
+use crate::explanations::Ending;
+use crate::file_runs::{open_file, tell_torn};
 use crate::logs::new_log;
 use crate::printing::print;
 use crate::server::serve_run;

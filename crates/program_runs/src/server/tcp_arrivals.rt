@@ -2,9 +2,9 @@
 
 ghost use Rattle.std.specs.Prelude.{◌≡◌, Some, IfOk};
 ghost use Rattle.hand_over.specs.Arriving.{came_after, kind_of};
-ghost use Rattle.program_runs.specs.ServerPlan.{IsTimeout};
+ghost use Rattle.program_runs.specs.ServerRanges.{IsTimeout};
 
-use crate::finish::Line;
+use crate::exit_lines::Line;
 use crate::server::seats::{Doorway, Seat};
 use connections::{Watched, keep_alive};
 use hand_over::{Arrival, ArrivalKind, Arrivals};

@@ -1,11 +1,11 @@
 //! The line that a server prints last, and how it ends then.
 
 ghost use Rattle.std.specs.Prelude.{◌≡◌, ◌++◌, decimal, OnOk, IfOk};
-ghost use Rattle.program_runs.specs.ServerExitStatus as server;
+ghost use Rattle.program_runs.specs.ServerRun as server;
 ghost use Rattle.program_runs.specs.ExitStatus.{IsPrinted};
-ghost use Rattle.program_runs.specs.ServerExitStatus.{totals_text};
+ghost use Rattle.program_runs.specs.ServerRun.{totals_text};
 
-use crate::finish::{Finish, Line};
+use crate::exit_lines::{Finish, Line};
 use crate::printing::print;
 use resp_wire::ByteDrain;
 use set_table::Totals;

@@ -3,7 +3,7 @@
 ghost use Rattle.std.specs.Prelude.{◌≡◌, ◌↔◌, length, IsTrue};
 ghost use Rattle.std.specs.FinMap as map;
 ghost use Rattle.set_table.specs.CellStates.{CellIsWhole};
-ghost use Rattle.set_table.specs.Tallies.{total_of};
+ghost use Rattle.set_table.specs.PassTallies.{total_of};
 
 use crate::cell::Cell;
 use crate::counts::Tally;

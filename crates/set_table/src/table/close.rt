@@ -7,7 +7,7 @@ ghost use Rattle.set_table.specs.ClosingSteps.{AddsCell, AddsPlace, HaveShares, 
 ghost use Rattle.set_table.specs.ClosingTotals.{AddsUp, AgreeAt, Agrees, AreNumbered, AreOfCells, HasOtherCell, HaveOnePlace, IsOutOfStep, pass_at, share_at};
 ghost use Rattle.set_table.specs.WorkerPasses.{IsPassOf};
 
-mod agreement;
+mod compare_names;
 mod order;
 mod totals;
 
@@ -15,7 +15,7 @@ use crate::cell::Cell;
 use crate::limits::MAX_PLACES;
 use crate::pass::Pass;
 use crate::table::Table;
-use crate::table::close::agreement::compare_names;
+use crate::table::close::compare_names::compare_names;
 use crate::table::close::order::put_in_order;
 use append_log::{Log, LogSink};
 use std::alloc::Allocator;

@@ -3,7 +3,7 @@ ghost use Rattle.std.specs.Prelude.{◌≡◌, None, Some, IsSome, option_map, s
 ghost use Rattle.std.specs.Map.{keys_of};
 ghost use Rattle.std.specs.Option.{option_copied};
 ghost use Rattle.zset_core.specs.OwnerViewAndInvariant.{names_of, KeysRise, set_in};
-ghost use Rattle.zset_core.specs.World.{key_behind};
+ghost use Rattle.zset_core.specs.SetsByKey.{key_behind};
 
 use crate::owner::set_tree::SetTree;
 use std::alloc::Allocator;

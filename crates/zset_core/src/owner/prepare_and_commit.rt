@@ -6,7 +6,7 @@ ghost use Rattle.zset_core.specs.ChangeOutline.{IsOutline};
 ghost use Rattle.zset_core.specs.OwnerViewAndInvariant.{world_of, set_in, next_at, AllRest, OthersRest};
 ghost use Rattle.zset_core.specs.Refusal.{IsRefused};
 ghost use Rattle.zset_core.specs.SetAndOwnerViews.{IsPreparedAt};
-ghost use Rattle.zset_core.specs.World.{set_at, put_set};
+ghost use Rattle.zset_core.specs.SetsByKey.{set_at, put_set};
 ghost use Rattle.zset_core.specs.Semantics.{act_at};
 
 use crate::command::Command;

@@ -11,7 +11,7 @@ ghost use Rattle.zset_core.specs.Plan.{IsCounted, edited_by, moved_places};
 
 use crate::set::draft::Draft;
 use crate::set::members_with_staged_scores::MemberMap;
-use crate::set::place_marks::{mark_place, stands_among};
+use crate::set::place_filter::{mark_place, stands_among};
 use crate::set::plan::Plan;
 use std::alloc::Allocator;
 use std::hash::BuildHasher;

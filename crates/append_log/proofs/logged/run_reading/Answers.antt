@@ -1,5 +1,5 @@
 use Rattle.std.proofs.Common.{refl, sym, ap}
-use Rattle.zset_core.specs.World.{set_at}
+use Rattle.zset_core.specs.SetsByKey.{set_at}
 use Rattle.resp_wire.specs.Response.{response_of}
 use Rattle.append_log.proofs.LoggedOwnerLemmas.{reading-stays, Replays-stay}
 use Rattle.append_log.proofs.logged.run_reading.Goals as goal

@@ -2,7 +2,7 @@ use Rattle.std.proofs.Common.{◌≡◌, ℕ, List, Option, Some, IfSome, sym, �
 use Rattle.std.specs.Prelude.{◌≢◌}
 use Rattle.zset_core.specs.AbstractCommand.{key_of}
 use Rattle.zset_core.specs.SetAndOwnerViews.{IsPreparedAt, Next}
-use Rattle.zset_core.specs.World.{World, put_set, set_at}
+use Rattle.zset_core.specs.SetsByKey.{World, put_set, set_at}
 use Rattle.resp_wire.specs.RequestEncoding.{request}
 use Rattle.resp_wire.specs.Response.{response_of}
 use Rattle.append_log.specs.EffectRecords.{change_record, prepared_record, record_made, record_of_owner_next}

@@ -1,7 +1,7 @@
 use Rattle.std.proofs.Common.{◌≡◌, [], ◌∷◌, ◌++◌, drop, length, refl, arith, sym, ◌∙◌, ap, length-append, rules}
 use Rattle.std.specs.Option.{option_copied}
 use Rattle.std.specs.FinMap as fin
-use Rattle.zset_core.specs.World.{set_at}
+use Rattle.zset_core.specs.SetsByKey.{set_at}
 use Rattle.append_log.specs.Dump.{set_records, records_at}
 use Rattle.append_log.proofs.RecordPieces.{on_err}
 use Rattle.append_log.proofs.DumpPrefix.{front_of_image, front_in_set, cut_behind, told_set, records_more, all_keys}

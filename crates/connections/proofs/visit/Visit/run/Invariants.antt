@@ -2,7 +2,7 @@ use Rattle.std.proofs.Common.{◌≡◌, drop}
 use Rattle.std.specs.Io.KnownBytes.{append_known}
 use Rattle.session_core.specs.Interleaved.{StateMoves}
 use Rattle.connections.specs.declared.visit.Stage.TheVariants.{Runs}
-use Rattle.connections.specs.VisitSteps.{GoesOn, visit_state}
+use Rattle.connections.specs.VisitState.{GoesOn, visit_state}
 use Rattle.connections.proofs.visit.Visit.run.Given as goal
 
 abbrev pub invariant-loop-count : goal.invariant-loop-count

@@ -3,7 +3,7 @@ use Rattle.std.specs.Io.KnownBytes.{append_known}
 use Rattle.append_log.specs.LoggedOwner.{LoggedView}
 use Rattle.session_core.specs.ServeSteps.{SessionIsBetweenReads}
 use Rattle.session_core.specs.Interleaved.{PartWay}
-use Rattle.session_core.specs.Deferred.{TalkBetweenSyncs}
+use Rattle.session_core.specs.DeferredSession.{TalkBetweenSyncs}
 use Rattle.session_core.proofs.session.Session.answer_deferred.Given as goal
 
 abbrev pub invariant-turns : goal.invariant-turns

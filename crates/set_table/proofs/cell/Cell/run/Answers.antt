@@ -1,7 +1,7 @@
 use Rattle.std.proofs.Common.{◌<◌, ◌∙◌, sym, ap, arith, rules}
 use Rattle.resp_wire.specs.Response.{response_of}
 use Rattle.set_table.specs.declared.counts.Tally.{Tally}
-use Rattle.set_table.specs.Tallies.{runs_of}
+use Rattle.set_table.specs.PassTallies.{runs_of}
 use Rattle.set_table.specs.CellStates.{CellView, counts_of}
 use Rattle.set_table.proofs.TallyLemmas.{lawful, ran_as, ran_by, kept_whole}
 use Rattle.set_table.proofs.cell.Cell.run.Goals as goal

@@ -1,7 +1,7 @@
 use Rattle.std.proofs.Common.{◌∙◌, sym, ap, subst, Some, None, List, ℕ, Option, IfSome, IsSome}
 use Rattle.std.specs.Option.{option_copied}
 use Rattle.std.specs.FinMap as fin
-use Rattle.zset_core.specs.World.{key_behind}
+use Rattle.zset_core.specs.SetsByKey.{key_behind}
 use Rattle.zset_core.proofs.OwnerViews.{names_shown, there_of}
 use Rattle.zset_core.proofs.owner.OneOwner.key_after.Goals as goal
 
