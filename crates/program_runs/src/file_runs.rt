@@ -4,6 +4,7 @@ ghost use Rattle.std.specs.Prelude.{◌≡◌, None, false, IfOk, IfErr, OnOk};
 ghost use Rattle.std.specs.Io.KnownBytes.{append_known};
 ghost use Rattle.resp_wire.specs.Device.{Rose};
 ghost use Rattle.append_log.specs.FileOpening.{Restores};
+ghost use Rattle.program_runs.specs.DeviceStates.{drain_state, source_state};
 ghost use Rattle.program_runs.specs.ExitStatus.{IsPrinted};
 ghost use Rattle.program_runs.specs.FileExitStatus as files;
 ghost use Rattle.program_runs.specs.FileExitStatus.{FailsBy, FileIsOpened, FileIsUnopened, Prints, MakesNewFile, Rewrites, ServesFile, ServesFrom, TellsTorn};
@@ -130,11 +131,11 @@ where
     R::File: LockFile,
     ensures idle { IfOk result (λ opened. opened.owner.next ≡ None) }
     ensures opened { IfOk result (λ opened. FileIsOpened opened.owner.world
-        (record { told = E.told errors.old; flushed = E.flushed errors.old; failures = E.failures errors.old })
-        (record { told = E.told errors.new; flushed = E.flushed errors.new; failures = E.failures errors.new })) }
+        (drain_state E.told E.flushed E.failures errors.old)
+        (drain_state E.told E.flushed E.failures errors.new)) }
     ensures unopened { IfErr result (λ line. FileIsUnopened line
-        (record { told = E.told errors.old; flushed = E.flushed errors.old; failures = E.failures errors.old })
-        (record { told = E.told errors.new; flushed = E.flushed errors.new; failures = E.failures errors.new })) }
+        (drain_state E.told E.flushed E.failures errors.old)
+        (drain_state E.told E.flushed E.failures errors.new)) }
 {
     let mut owner = OneOwner::new(alloc, hasher);
     match open_file(rt, alloc, path, &mut owner) {
@@ -161,10 +162,10 @@ pub fn serve_logged<L: Ledger, R, K: LogSink + Drop, S: ByteSource, D: ByteDrain
     requires two { blank.parts ≡ 2 }
     requires idle { opened.owner.next ≡ None }
     ensures { ServesFrom false opened.owner.world
-        (record { told = S.told source.old; calls = S.calls source.old; failures = S.failures source.old })
-        (record { told = S.told source.new; calls = S.calls source.new; failures = S.failures source.new })
-        (record { told = D.told drain.old; flushed = D.flushed drain.old; failures = D.failures drain.old })
-        (record { told = D.told drain.new; flushed = D.flushed drain.new; failures = D.failures drain.new })
+        (source_state S.told S.calls S.failures source.old)
+        (source_state S.told S.calls S.failures source.new)
+        (drain_state D.told D.flushed D.failures drain.old)
+        (drain_state D.told D.flushed D.failures drain.new)
         result }
 {
     let Opened { owner, sink } = opened;
@@ -176,8 +177,8 @@ pub fn serve_logged<L: Ledger, R, K: LogSink + Drop, S: ByteSource, D: ByteDrain
 /// Prints the notice of a torn end.
 fn print_torn<E: ByteDrain>(alloc: Global, errors: &mut E, bytes: u64) -> Result<(), Line>
     ensures { IsPrinted (files.torn_text bytes) result
-        (record { told = E.told errors.old; flushed = E.flushed errors.old; failures = E.failures errors.old })
-        (record { told = E.told errors.new; flushed = E.flushed errors.new; failures = E.failures errors.new }) }
+        (drain_state E.told E.flushed E.failures errors.old)
+        (drain_state E.told E.flushed E.failures errors.new) }
 {
     let Ok(text) = format!(in alloc; "zcrackd: torn end of {bytes} bytes\n") else {
         return Err(Line::OutOfMemory);
@@ -188,8 +189,8 @@ fn print_torn<E: ByteDrain>(alloc: Global, errors: &mut E, bytes: u64) -> Result
 /// Tells a torn end, where a file has one. That it can't be told changes nothing else.
 pub fn tell_torn<E: ByteDrain>(alloc: Global, errors: &mut E, loaded: &Loaded)
     ensures { TellsTorn loaded.now.torn
-        (record { told = E.told errors.old; flushed = E.flushed errors.old; failures = E.failures errors.old })
-        (record { told = E.told errors.new; flushed = E.flushed errors.new; failures = E.failures errors.new }) }
+        (drain_state E.told E.flushed E.failures errors.old)
+        (drain_state E.told E.flushed E.failures errors.new) }
 {
     if loaded.torn > 0 {
         let _ = print_torn(alloc, errors, loaded.torn);
@@ -210,12 +211,12 @@ pub fn serve_file<R: Files + AllocGlobal, S: ByteSource, D: ByteDrain, E: ByteDr
 where
     R::File: LockFile,
     ensures { ServesFile false
-        (record { told = S.told source.old; calls = S.calls source.old; failures = S.failures source.old })
-        (record { told = S.told source.new; calls = S.calls source.new; failures = S.failures source.new })
-        (record { told = D.told drain.old; flushed = D.flushed drain.old; failures = D.failures drain.old })
-        (record { told = D.told drain.new; flushed = D.flushed drain.new; failures = D.failures drain.new })
-        (record { told = E.told errors.old; flushed = E.flushed errors.old; failures = E.failures errors.old })
-        (record { told = E.told errors.new; flushed = E.flushed errors.new; failures = E.failures errors.new })
+        (source_state S.told S.calls S.failures source.old)
+        (source_state S.told S.calls S.failures source.new)
+        (drain_state D.told D.flushed D.failures drain.old)
+        (drain_state D.told D.flushed D.failures drain.new)
+        (drain_state E.told E.flushed E.failures errors.old)
+        (drain_state E.told E.flushed E.failures errors.new)
         result }
 {
     let alloc = rt.alloc();
@@ -230,8 +231,8 @@ where
 /// Prints the number of records, and gives it.
 fn print_records<D: ByteDrain>(alloc: Global, drain: &mut D, records: u64) -> Result<u64, Line>
     ensures { Prints records result
-        (record { told = D.told drain.old; flushed = D.flushed drain.old; failures = D.failures drain.old })
-        (record { told = D.told drain.new; flushed = D.flushed drain.new; failures = D.failures drain.new }) }
+        (drain_state D.told D.flushed D.failures drain.old)
+        (drain_state D.told D.flushed D.failures drain.new) }
 {
     let Ok(text) = format!(in alloc; "records {records}\n") else {
         return Err(Line::OutOfMemory);
@@ -254,8 +255,8 @@ where
     R::File: LockFile,
     requires { owner.now.next ≡ None }
     ensures { MakesNewFile owner.now.world
-        (record { told = D.told drain.old; flushed = D.flushed drain.old; failures = D.failures drain.old })
-        (record { told = D.told drain.new; flushed = D.flushed drain.new; failures = D.failures drain.new })
+        (drain_state D.told D.flushed D.failures drain.old)
+        (drain_state D.told D.flushed D.failures drain.new)
         result }
 {
     match write_anew(rt, alloc, path, owner) {
@@ -281,8 +282,8 @@ pub fn rewrite_run<R: Files, D: ByteDrain>(
 where
     R::File: LockFile,
     ensures { Rewrites
-        (record { told = D.told drain.old; flushed = D.flushed drain.old; failures = D.failures drain.old })
-        (record { told = D.told drain.new; flushed = D.flushed drain.new; failures = D.failures drain.new })
+        (drain_state D.told D.flushed D.failures drain.old)
+        (drain_state D.told D.flushed D.failures drain.new)
         result }
 {
     let mut owner = OneOwner::new(alloc, hasher);

@@ -2,6 +2,7 @@
 
 ghost use Rattle.std.specs.Prelude.{◌≡◌, true, None};
 ghost use Rattle.resp_wire.specs.Device.{Rose};
+ghost use Rattle.program_runs.specs.DeviceStates.{drain_state, source_state};
 ghost use Rattle.program_runs.specs.FileExitStatus.{ServesFile, ServesFrom};
 
 use crate::exit_lines::Finish;
@@ -30,8 +31,8 @@ fn serve_shared<L: Ledger, R, K: LogSink + Drop, S: ByteSource, D: ByteDrain>(
     requires two { blank.parts ≡ 2 }
     requires idle { opened.owner.next ≡ None }
     ensures { ServesFrom true opened.owner.world
-        (record { told = S.told source.old; calls = S.calls source.old; failures = S.failures source.old })
-        (record { told = S.told source.new; calls = S.calls source.new; failures = S.failures source.new })
+        (source_state S.told S.calls S.failures source.old)
+        (source_state S.told S.calls S.failures source.new)
         (record {
           told = ⟦<HeldReplies<D, Global> as ByteDrain>⟧.told replies.old;
           flushed = D.flushed replies.old.inner;
@@ -64,8 +65,8 @@ pub fn serve_group<R: Files + AllocGlobal, S: ByteSource, D: ByteDrain, E: ByteD
 where
     R::File: LockFile,
     ensures { ServesFile true
-        (record { told = S.told source.old; calls = S.calls source.old; failures = S.failures source.old })
-        (record { told = S.told source.new; calls = S.calls source.new; failures = S.failures source.new })
+        (source_state S.told S.calls S.failures source.old)
+        (source_state S.told S.calls S.failures source.new)
         (record {
           told = ⟦<HeldReplies<D, Global> as ByteDrain>⟧.told replies.old;
           flushed = D.flushed replies.old.inner;
@@ -76,8 +77,8 @@ where
           flushed = D.flushed replies.new.inner;
           failures = replies.new.failures;
         })
-        (record { told = E.told errors.old; flushed = E.flushed errors.old; failures = E.failures errors.old })
-        (record { told = E.told errors.new; flushed = E.flushed errors.new; failures = E.failures errors.new })
+        (drain_state E.told E.flushed E.failures errors.old)
+        (drain_state E.told E.flushed E.failures errors.new)
         result }
 {
     let alloc = rt.alloc();

@@ -3,6 +3,7 @@
 ghost use Rattle.std.specs.Prelude.{◌≡◌, ◌<◌, ◌⊎◌, None, All};
 ghost use Rattle.set_table.specs.ClosingTotals.{AreNumbered};
 ghost use Rattle.set_table.specs.WorkerPasses.{IsPassOf};
+ghost use Rattle.program_runs.specs.DeviceStates.{drain_state};
 ghost use Rattle.program_runs.specs.ServerRun as server;
 ghost use Rattle.program_runs.specs.ServerRun.{HasNotServed, HasServed, HasTotals, IsTold};
 
@@ -83,8 +84,8 @@ fn tell_totals<D: ByteDrain>(
     closed: Result<Totals, CloseFault>,
 ) -> Result<(), Line>
     ensures { IsTold closed connections result
-        (record { told = D.told drain.old; flushed = D.flushed drain.old; failures = D.failures drain.old })
-        (record { told = D.told drain.new; flushed = D.flushed drain.new; failures = D.failures drain.new }) }
+        (drain_state D.told D.flushed D.failures drain.old)
+        (drain_state D.told D.flushed D.failures drain.new) }
 {
     match closed {
         Ok(totals) => print_totals(alloc, drain, connections, &totals),
@@ -128,12 +129,12 @@ where
     requires parts { settings.now.places < journal.log.parts }
     // The connections were served and the passes' totals told, or it did not begin to serve.
     ensures { HasServed A.came A.last arrivals.old arrivals.new owner.world journal.log.appended settings.now
-        (record { told = W.told drain.old; flushed = W.flushed drain.old; failures = W.failures drain.old })
-        (record { told = W.told drain.new; flushed = W.flushed drain.new; failures = W.failures drain.new })
+        (drain_state W.told W.flushed W.failures drain.old)
+        (drain_state W.told W.flushed W.failures drain.new)
         result
         ⊎ HasNotServed arrivals.old arrivals.new owner.world settings.now.places
-        (record { told = W.told drain.old; flushed = W.flushed drain.old; failures = W.failures drain.old })
-        (record { told = W.told drain.new; flushed = W.flushed drain.new; failures = W.failures drain.new })
+        (drain_state W.told W.flushed W.failures drain.old)
+        (drain_state W.told W.flushed W.failures drain.new)
         result }
 {
     let alloc = rt.alloc();

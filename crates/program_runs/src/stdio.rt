@@ -2,6 +2,7 @@
 
 ghost use Rattle.std.specs.Prelude.{◌≡◌, ◌+◌, ◌≤◌};
 ghost use Rattle.session_core.specs.Exchange.{Exchanges};
+ghost use Rattle.program_runs.specs.DeviceStates.{drain_state, source_state};
 ghost use Rattle.program_runs.specs.ExitStatus.{finish_of, Finishes, most_reads};
 
 use crate::exit_lines::{Finish, Line};
@@ -37,10 +38,10 @@ pub fn stdio_run<R, A: Allocator + Copy, S: ByteSource, D: ByteDrain, E: Exec<R,
     requires { E.settled exec.old }
     ensures settled { E.settled exec.new }
     ensures finishes { Finishes (Exchanges E.allows) exec.old
-        (record { told = S.told source.old; calls = S.calls source.old; failures = S.failures source.old })
-        (record { told = S.told source.new; calls = S.calls source.new; failures = S.failures source.new })
-        (record { told = D.told drain.old; flushed = D.flushed drain.old; failures = D.failures drain.old })
-        (record { told = D.told drain.new; flushed = D.flushed drain.new; failures = D.failures drain.new })
+        (source_state S.told S.calls S.failures source.old)
+        (source_state S.told S.calls S.failures source.new)
+        (drain_state D.told D.flushed D.failures drain.old)
+        (drain_state D.told D.flushed D.failures drain.new)
         result exec.new }
     ensures reads { S.calls source.new ≤ S.calls source.old + most_reads }
 {

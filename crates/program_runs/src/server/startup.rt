@@ -3,6 +3,7 @@
 ghost use Rattle.std.specs.Prelude.{◌≡◌, ◌+◌, ◌≤◌, ◌⊎◌, None, Ok, IfOk, IsSome};
 ghost use Rattle.command_line.specs.declared.limits.TheConstants.{MAX_RECORDS};
 ghost use Rattle.command_line.specs.declared.serve.SyncMode.TheVariants.{Each, Group};
+ghost use Rattle.program_runs.specs.DeviceStates.{drain_state};
 ghost use Rattle.program_runs.specs.ServerRun.{HasNotServed, HasServed};
 
 use crate::exit_lines::{Finish, Line, Unusable};
@@ -72,12 +73,12 @@ where
     requires enough { settings.now.places + 2 ≤ blank.parts }
     // As `serve_run` does, with a log of no record.
     ensures { HasServed A.came A.last arrivals.old arrivals.new stock.owner.world 0 settings.now
-        (record { told = W.told drain.old; flushed = W.flushed drain.old; failures = W.failures drain.old })
-        (record { told = W.told drain.new; flushed = W.flushed drain.new; failures = W.failures drain.new })
+        (drain_state W.told W.flushed W.failures drain.old)
+        (drain_state W.told W.flushed W.failures drain.new)
         result
         ⊎ HasNotServed arrivals.old arrivals.new stock.owner.world settings.now.places
-        (record { told = W.told drain.old; flushed = W.flushed drain.old; failures = W.failures drain.old })
-        (record { told = W.told drain.new; flushed = W.flushed drain.new; failures = W.failures drain.new })
+        (drain_state W.told W.flushed W.failures drain.old)
+        (drain_state W.told W.flushed W.failures drain.new)
         result }
 {
     let Stock {

@@ -1,6 +1,7 @@
 //! The line that a server prints last, and how it ends then.
 
 ghost use Rattle.std.specs.Prelude.{◌≡◌, ◌++◌, decimal, OnOk, IfOk};
+ghost use Rattle.program_runs.specs.DeviceStates.{drain_state};
 ghost use Rattle.program_runs.specs.ServerRun as server;
 ghost use Rattle.program_runs.specs.ExitStatus.{IsPrinted};
 ghost use Rattle.program_runs.specs.ServerRun.{totals_text};
@@ -43,8 +44,8 @@ pub fn print_totals<D: ByteDrain>(
     totals: &Totals,
 ) -> Result<(), Line>
     ensures { IsPrinted (totals_text connections totals.now) result
-        (record { told = D.told drain.old; flushed = D.flushed drain.old; failures = D.failures drain.old })
-        (record { told = D.told drain.new; flushed = D.flushed drain.new; failures = D.failures drain.new }) }
+        (drain_state D.told D.flushed D.failures drain.old)
+        (drain_state D.told D.flushed D.failures drain.new) }
 {
     let Ok(text) = totals_line(alloc, connections, totals) else {
         return Err(Line::OutOfMemory);
