@@ -66,7 +66,7 @@ fn refused(rt: &HostRuntime, piece: usize) -> Result<Seen, Fail>
 }
 
 /// The least number of allocations of the session.
-const LEAST: u64 = 24;
+const LEAST: u64 = 23;
 
 #[test]
 fn each_refused_allocation_is_told_over_a_log(rt: HostRuntime) -> Result<(), Fail> {

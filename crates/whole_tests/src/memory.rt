@@ -332,7 +332,7 @@ fn refused(rt: &HostRuntime, script: Script<'_>, piece: usize) -> Result<Seen, F
 /// The scripts, the least number of allocations of a session of each, and whether the drain may fail.
 const SCRIPTS: [(Script<'static>, u64, bool); 3] = [
     (REMOVALS, 30, true),
-    (LISTINGS, 45, true),
+    (LISTINGS, 41, true),
     (FAULT, 25, false),
 ];
 
