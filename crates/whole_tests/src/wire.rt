@@ -1,6 +1,6 @@
 //! The wire, where a session does not show it.
 
-ghost use Rattle.std.specs.Prelude.{◌≡◌, ◌+◌, length};
+ghost use Rattle.std.specs.Prelude.{◌≡◌, ◌+◌, ◌≤◌, length};
 
 use fuse_alloc::Fuse;
 use linked_list_allocator::LocalHeap;
@@ -70,13 +70,19 @@ fn an_announced_length_reserves_nothing(rt: HostRuntime) -> Result<(), Fail> {
     Ok(())
 }
 
-/// Feeds one short request so many times, and takes it: whether each was given.
-fn are_given<A: Allocator + Copy>(decoder: &mut Decoder<A>, times: u64) -> Result<bool, Fail> {
+/// Feeds a piece so many times, and takes a request each time: whether each was given.
+fn are_given<A: Allocator + Copy>(
+    decoder: &mut Decoder<A>,
+    piece: &[u8],
+    times: u64,
+) -> Result<bool, Fail>
+    requires { length piece.now ≤ 100 }
+{
     for _ in 0..times {
         if decoder.taken() > 1 << 20 || decoder.rest_len() > LITTLE {
             return Ok(false);
         }
-        decoder.feed(b"*1\r\n$4\r\nPING\r\n")?;
+        decoder.feed(piece)?;
         if !matches!(decoder.next(), Ok(Some(_))) {
             return Ok(false);
         }
@@ -84,13 +90,23 @@ fn are_given<A: Allocator + Copy>(decoder: &mut Decoder<A>, times: u64) -> Resul
     Ok(true)
 }
 
-// Many times as many bytes as the heap has.
+/// Whether a decoder with a little heap gives a request behind each of ten thousand pieces, which follow a first one.
+/// These are many times as many bytes as the heap has.
+fn keeps_little(alloc: Global, first: &[u8], piece: &[u8]) -> Result<bool, Fail>
+    requires { (length first.now ≤ 100) × (length piece.now ≤ 100) }
+{
+    let heap = LocalHeap::new(alloc, LITTLE)?;
+    let mut decoder = Decoder::new(&heap);
+    decoder.feed(first)?;
+    Ok(are_given(&mut decoder, piece, 10_000)? && decoder.taken() == 140_000)
+}
+
+// Where each piece is a request, and where each has the rest of one and the beginning of the next.
 #[test]
 fn a_decoder_keeps_nothing_that_it_gave(rt: HostRuntime) -> Result<(), Fail> {
-    let heap = LocalHeap::new(rt.alloc(), LITTLE)?;
-    let mut decoder = Decoder::new(&heap);
-    assert!(rt; are_given(&mut decoder, 10_000)?);
-    assert_eq!(rt; decoder.taken(), 140_000);
+    let alloc = rt.alloc();
+    assert!(rt; keeps_little(alloc, b"", b"*1\r\n$4\r\nPING\r\n")?);
+    assert!(rt; keeps_little(alloc, b"*1\r\n$4\r\n", b"PING\r\n*1\r\n$4\r\n")?);
     Ok(())
 }
 
