@@ -14,6 +14,7 @@ pub mod MarkBits
 pub mod CallerLemmas
 pub mod Fours
 pub mod Frames
+pub mod Carried
 pub mod InnerPivots
 pub mod InnerCracks
 pub mod Removal

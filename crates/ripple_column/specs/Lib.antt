@@ -6,6 +6,7 @@ pub mod RangeAnswer
 pub mod RangeEffects
 pub mod MergeGap
 pub mod MergeEffects
+pub mod GapEffects
 pub mod RowHash
 pub mod ScoreSpan
 pub mod PendingBloom

@@ -3,7 +3,6 @@ use Rattle.std.specs.Prelude.{◌≡◌, ◌+◌, ◌-◌, ◌<◌, ◌≤◌, �
 use Rattle.std.specs.List.{AllWithin}
 use Rattle.crack_kernel.specs.RowBag.{Test, IsSubBag}
 use Rattle.crack_kernel.specs.Parts.{IsBelow, IsFrom, IsParted}
-use Rattle.ripple_column.specs.declared.merge_gap.Gap.{Gap}
 
 -- the row that fills a gap
 abbrev pub blank : ℤ × List ℕ
@@ -36,10 +35,6 @@ pub record HasGap (ps : List (ℤ × ℕ)) (rows : List (ℤ × List ℕ)) (i lo
   pub inside : (k : ℕ) (e : ℤ × ℕ) → k < length ps → (slice_index_or ps k e).1 ≤ length rows
   pub parted : (k : ℕ) (e : ℤ × ℕ) → k < length ps → PartsOutside (slice_index_or ps k e).0 (slice_index_or ps k e).1 low high rows
   pub blanks : AllWithin (λ r. r ≡ blank) rows low high
-
--- the gap has its place between the pivots
-abbrev pub HasGapAt : List (ℤ × ℕ) → List (ℤ × List ℕ) → Gap → Type 0
-HasGapAt ps rows gap = HasGap ps rows gap.piece gap.low gap.high
 
 -- the pivots from index i on stand at the place or above it
 abbrev pub StandFrom : List (ℤ × ℕ) → ℕ → ℕ → Type 0

@@ -1,10 +1,10 @@
 -- What the calls that have to do with ranges do to a column.
-use Rattle.std.specs.Prelude.{◌≡◌, ◌≤◌, ℕ, true, false, IsPermutation}
+use Rattle.std.specs.Prelude.{◌≡◌, ◌≤◌, ◌&&◌, ℕ, not, true, false, IsPermutation}
 use Rattle.score_bounds.specs.declared.bounds.Range.{Range}
 use Rattle.crack_kernel.specs.PivotList.{max_pivots}
-use Rattle.crack_kernel.specs.RowBag.{SameBag}
+use Rattle.crack_kernel.specs.RowBag.{SameBag, Test}
 use Rattle.ripple_column.specs.ClosedUp.{closed_up_pivots, closed_up_rows}
-use Rattle.ripple_column.specs.Content.{ColumnState, IsUnchanged, NoneIn, SameOutside}
+use Rattle.ripple_column.specs.Content.{ColumnState, content_count, has_score_in, IsUnchanged, NoneIn, SameOutside}
 use Rattle.ripple_column.specs.CutPivots.{is_before}
 use Rattle.ripple_column.specs.RangeAnswer.{AddsCuts, HasAnswer, IsAnswer, StandsStill, low_cut, high_cut, pivots_with_cuts}
 
@@ -28,6 +28,14 @@ pub record TakesOut (range : Range) (old new : ColumnState) : Type 0 where
   pub deletions : new.deletions ≡ old.deletions
   pub spare_insertions : new.insert_spare ≡ old.insert_spare
   pub spare_deletions : new.delete_spare ≡ old.delete_spare
+
+-- the rows of a range left a column that answered it by places from one place on: the content is what it was, but for the rows with
+-- scores in the range, of which none is left, and the range is answered by no row at that place
+pub record Removes (range : Range) (from : ℕ) (old new : ColumnState) : Type 0 where
+  pub content : (p : Test) → content_count p new ≡ content_count (λ r. p r && not (has_score_in range r)) old
+  pub none_left : (p : Test) → content_count (λ r. p r && has_score_in range r) new ≡ 0
+  pub answer : IsAnswer new range (from, from)
+  pub takes_out : TakesOut range old new
 
 -- pieces are cracked further: rows move between the pivots that are shown, and all else is what it was
 pub record Narrows (old new : ColumnState) : Type 0 where

@@ -164,20 +164,14 @@ fn merge_tails<A: Allocator + Copy>(
             deletions: deletions_from,
             insertions: insertions_from,
         };
-        piece = run_pass(&mut cracked.rows, &mut cracked.pivots, pending, up, &filter);
+        piece = run_pass(cracked, pending, up, &filter);
         if pending.insertions.len() == insertions_from {
             break;
         }
         let down = next_surplus(&cracked.pivots, pending, Pass { piece, ..up });
         pending.deletions.reverse_from(down.deletions);
         pending.insertions.reverse_from(down.insertions);
-        run_pass(
-            &mut cracked.rows,
-            &mut cracked.pivots,
-            pending,
-            down,
-            &filter,
-        );
+        run_pass(cracked, pending, down, &filter);
         piece = down.piece;
     }
 }

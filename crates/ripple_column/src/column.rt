@@ -1,12 +1,12 @@
 //! The column.
 
-ghost use Rattle.std.specs.Prelude.{◌≡◌, ◌+◌, ◌<◌, ◌≤◌, ◌&&◌, ℕ, [], ◌∷◌, not, false, length, count_by, slice_range, IfOk, IfSome, OnOk, OnErr};
+ghost use Rattle.std.specs.Prelude.{◌≡◌, ◌+◌, ◌<◌, ◌≤◌, ℕ, [], ◌∷◌, false, length, count_by, slice_range, IfOk, IfSome, OnOk, OnErr};
 ghost use Rattle.score_bounds.specs.declared.bounds.Range.{Range};
 ghost use Rattle.crack_kernel.specs.RowBag.{IsSubBag, Test};
 ghost use Rattle.crack_kernel.specs.PivotList.{ObeysPivots};
 ghost use Rattle.ripple_column.specs.RangeAnswer.{AnswersSome, HoldsRange, IsAnswer, low_cut, high_cut};
-ghost use Rattle.ripple_column.specs.RangeEffects.{Narrows, Selects, TakesOut};
-ghost use Rattle.ripple_column.specs.Content.{HasRow, IsUnchanged, Pends, SameContent, content_count, has_score_in, most_pending};
+ghost use Rattle.ripple_column.specs.RangeEffects.{Narrows, Removes, Selects};
+ghost use Rattle.ripple_column.specs.Content.{HasRow, IsUnchanged, Pends, SameContent, content_count, most_pending};
 ghost use Rattle.ripple_column.specs.CutPivots.{is_before, values};
 ghost use Rattle.ripple_column.specs.ShownPivots.{IsAmong};
 
@@ -198,31 +198,26 @@ impl<A: Allocator + Copy> Column<A> {
         select_between(&mut self.pieces, &mut self.pending, range, &first, &second)
     }
 
-    /// Takes the rows from the place `from` on and before the place `to` out of the column: those with scores in a range
-    /// of which these places are the answer. The others stay, and change places only between pivots. Pivots stay: a
-    /// place inside the range becomes its start, one behind it moves up. What waits goes on waiting. It takes no memory.
+    /// Takes the rows with scores in a range out of the content. The column's answer for the range has to be the places
+    /// `from` and `to`: from the first on, and before the second, these rows stand. The others stay, and change places
+    /// only between pivots. Pivots stay: a place inside the range becomes its start, one behind it closes up. What waits
+    /// goes on waiting. It takes no memory.
     ///
     /// Its cost grows with the pivots on one side of the range and with the rows that leave, or, where these are fewer,
     /// with the rows on one side of it.
     pub fn remove_rows(&mut self, from: usize, to: usize)
         requires answer { AnswersSome self.old (from, to) }
-        ensures takes_out { (range : Range) → IsAnswer self.old range (from, to) → TakesOut range self.old self.new }
-
-        // The content is what it was, but for the rows with scores in the range.
-        ensures content { (range : Range) → IsAnswer self.old range (from, to) → (p : Test) → content_count p self.new
-            ≡ content_count (λ r. p r && not (has_score_in range r)) self.old }
-        ensures none_left { (range : Range) → IsAnswer self.old range (from, to)
-            → (p : Test) → content_count (λ r. p r && has_score_in range r) self.new ≡ 0 }
-        ensures answer { (range : Range) → IsAnswer self.old range (from, to) → IsAnswer self.new range (from, from) }
+        ensures removes { (range : Range) → IsAnswer self.old range (from, to) → Removes range from self.old self.new }
     {
         remove_between(&mut self.pieces, from, to);
     }
 
-    /// Makes it cheap to list the rows from one place to another: it adds inner pivots near both, so that
-    /// mostly few rows stand between each of them and the pivots around it. That is a hint: no clause says
-    /// how few, and any two places may be given. What is promised is that nothing else moves: the content,
-    /// the shown pivots and what waits are the same, rows only change places between shown pivots, and each
-    /// answer is still right. Where memory is refused, the cracks so far stay and no more come.
+    /// Lets rows change places between the shown pivots, and nothing else: the content, the shown pivots and what waits
+    /// stay, and each range is answered by the same places.
+    ///
+    /// It is for a list of the rows from the place `from` on and before the place `to`. Near both it adds inner pivots,
+    /// so that mostly few rows stand between each of them and the pivots around it. No clause says how few, and any two
+    /// places may be given. Where memory is refused, the cracks so far stay and no more come.
     pub fn narrow(&mut self, from: usize, to: usize)
         ensures content { SameContent self.old self.new }
         ensures narrows { Narrows self.old self.new }

@@ -351,6 +351,11 @@ impl<A: Allocator + Copy> Rows<A> {
         }
     }
 
+    /// Where its memory is taken from.
+    pub fn allocator(&self) -> A {
+        self.rows.allocator()
+    }
+
     /// Drops the rows from the place `from` on and before the place `to`. Those behind them close up.
     pub fn remove_between(&mut self, from: usize, to: usize)
         requires order { from ≤ to }

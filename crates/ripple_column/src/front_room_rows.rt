@@ -179,6 +179,11 @@ impl<A: Allocator + Copy> FrontRoomRows<A> {
         }
     }
 
+    /// Where its memory is taken from.
+    pub fn allocator(&self) -> A {
+        *self.rows.allocator()
+    }
+
     /// Whether the rows before the place `from` move where those up to the place `to` leave, since they are no more than
     /// those behind.
     pub fn moves_front(&self, from: usize, to: usize) -> bool

@@ -3,14 +3,14 @@
 //! Rows leave in the order in which they stand in the column, which is none. A list kept in order would close
 //! up behind each: among 2,000 rows that wait that moves a thousand of them for one.
 
-ghost use Rattle.std.specs.Prelude.{◌≡◌, ◌+◌, ◌-◌, ◌<◌, ◌≤◌, ℕ, ℤ, List, length, replicate, count_by, IfSome, vec_capacity};
+ghost use Rattle.std.specs.Prelude.{◌≡◌, ◌+◌, ◌-◌, ◌<◌, ◌≤◌, length, replicate, count_by, IfSome};
 ghost use Rattle.std.specs.List.{HoldsAt};
 ghost use Rattle.crack_kernel.specs.RowBag.{Test};
-ghost use Rattle.ripple_column.specs.MergeGap.{HasGap, StandFrom, TakenFrom, blank};
+ghost use Rattle.ripple_column.specs.MergeGap.{StandFrom, TakenFrom, blank};
+ghost use Rattle.ripple_column.specs.GapEffects.{IsWidened};
 
 use crate::deletion_bloom::DeletionBloom;
-use crate::fingerprinted_rows::Rows;
-use crate::front_room_rows::blank_row;
+use crate::gapped_rows::GappedRows;
 use crate::pending_lists::PendingList;
 use crate::row_hash::hash_of;
 use crack_kernel::Row;
@@ -106,74 +106,59 @@ fn slot_behind(first: u32, step: usize) -> usize
     (first as usize).wrapping_add(step) % SLOTS
 }
 
-/// Takes the row at the place `at` above the gap out of the column, if the index tells that it waits in the
-/// list from the index `from` on: a blank row takes its place and joins the gap, whose end is answered.
+/// Takes the row at the place `at`, in the piece above the gap, out of the column, if the index tells that it waits in
+/// the list from the index `from` on.
 fn take_out_found<A: Allocator + Copy>(
-    rows: &mut Rows<A>,
-    high: usize,
+    gapped: &mut GappedRows<A>,
     at: usize,
     deletions: &mut PendingList<A>,
     from: usize,
     index: &mut DeletionIndex,
-) -> usize
-    requires above { high ≤ at }
-    requires within { at < length rows.old.items }
+)
+    requires above { gapped.old.high ≤ at }
+    requires within { at < length gapped.old.rows.items }
+    requires ends { StandFrom gapped.old.pivots.list gapped.old.piece (at + 1) }
     requires from { from ≤ length deletions.old.items }
-    ensures gap { (ps : List (ℤ × ℕ)) (i low : ℕ) → HasGap ps rows.old.items i low high → StandFrom ps i (at + 1)
-        → HasGap ps rows.new.items i low result }
-    ensures low { high ≤ result }
-    ensures high { result ≤ at + 1 }
-    ensures content { (p : Test) → count_by p rows.new.items + count_by p deletions.old.items ≡ count_by p rows.old.items
-        + count_by p deletions.new.items + count_by p (replicate (result - high) blank) }
+    ensures widened { IsWidened gapped.old gapped.new }
+    ensures high { gapped.new.high ≤ at + 1 }
+    ensures content { (p : Test) → count_by p gapped.new.rows.items + count_by p deletions.old.items
+        ≡ count_by p gapped.old.rows.items + count_by p deletions.new.items
+        + count_by p (replicate (gapped.new.high - gapped.old.high) blank) }
     ensures taken { TakenFrom from deletions.old.items deletions.new.items }
-    ensures len { length rows.new.items ≡ length rows.old.items }
-    ensures capacity { vec_capacity rows.new ≡ vec_capacity rows.old }
 {
-    match index.find(deletions.list(), from, &rows.list()[at]) {
-        Some(found) => {
-            let _gone = deletions.swap_remove(found);
-            index.follow(deletions.list(), found);
-            let blank = blank_row();
-            rows.set(at, blank);
-            rows.swap(high, at);
-            high + 1
-        }
-        None => high,
+    if let Some(found) = index.find(deletions.list(), from, &gapped.rows.list()[at]) {
+        let _gone = deletions.swap_remove(found);
+        index.follow(deletions.list(), found);
+        gapped.blank_out(at);
     }
 }
 
 /// Takes rows that wait in the list from the index `from` on out of the piece above the gap, which ends at
-/// `end`, and answers where the gap ends then. Blank rows take their places. The rows that go on waiting may
-/// stand in another order.
+/// `end`. Blank rows take their places and join the gap. The rows that go on waiting may stand in another order.
 ///
 /// The filter has these deletions, so that few other rows are looked up.
 pub fn take_out_many<A: Allocator + Copy>(
-    rows: &mut Rows<A>,
-    high: usize,
+    gapped: &mut GappedRows<A>,
     end: usize,
     deletions: &mut PendingList<A>,
     from: usize,
     filter: &DeletionBloom,
-) -> usize
-    requires above { high ≤ end }
-    requires within { end ≤ length rows.old.items }
+)
+    requires above { gapped.old.high ≤ end }
+    requires within { end ≤ length gapped.old.rows.items }
+    requires ends { StandFrom gapped.old.pivots.list gapped.old.piece end }
     requires from { from ≤ length deletions.old.items }
-    ensures gap { (ps : List (ℤ × ℕ)) (i low : ℕ) → HasGap ps rows.old.items i low high → StandFrom ps i end
-        → HasGap ps rows.new.items i low result }
-    ensures low { high ≤ result }
-    ensures high { result ≤ end }
-    ensures content { (p : Test) → count_by p rows.new.items + count_by p deletions.old.items ≡ count_by p rows.old.items
-        + count_by p deletions.new.items + count_by p (replicate (result - high) blank) }
+    ensures widened { IsWidened gapped.old gapped.new }
+    ensures high { gapped.new.high ≤ end }
+    ensures content { (p : Test) → count_by p gapped.new.rows.items + count_by p deletions.old.items
+        ≡ count_by p gapped.old.rows.items + count_by p deletions.new.items
+        + count_by p (replicate (gapped.new.high - gapped.old.high) blank) }
     ensures taken { TakenFrom from deletions.old.items deletions.new.items }
-    ensures len { length rows.new.items ≡ length rows.old.items }
-    ensures capacity { vec_capacity rows.new ≡ vec_capacity rows.old }
 {
     let mut index = DeletionIndex::of(deletions.list(), from);
-    let mut top = high;
-    let mut at = rows.next_within(high, end, filter);
+    let mut at = gapped.rows.next_within(gapped.high, end, filter);
     while at < end && deletions.len() > from {
-        top = take_out_found(rows, top, at, deletions, from, &mut index);
-        at = rows.next_within(at + 1, end, filter);
+        take_out_found(gapped, at, deletions, from, &mut index);
+        at = gapped.rows.next_within(at + 1, end, filter);
     }
-    top
 }

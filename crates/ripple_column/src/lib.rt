@@ -16,6 +16,8 @@ mod deletion_bloom;
 mod fingerprint_walk;
 mod fingerprinted_rows;
 mod front_room_rows;
+mod gap_moves;
+mod gapped_rows;
 mod indexed_deletions;
 mod inner_cracks;
 mod merge;

@@ -1,22 +1,18 @@
 //! Passes over the pieces of a column with a gap: in each piece rows that wait as deletions go out
 //! and widen the gap, and rows that wait as insertions come in and fill it.
 
-ghost use Rattle.std.specs.Prelude.{◌≡◌, ◌+◌, ◌-◌, ◌<◌, ◌≤◌, pos, length, replicate, IfSome, count_by, slice_index_or, IsPermutation, vec_len, vec_capacity};
-ghost use Rattle.crack_kernel.specs.RowBag.{Test};
-ghost use Rattle.crack_kernel.specs.PivotList.{ObeysPivots};
+ghost use Rattle.std.specs.Prelude.{◌≡◌, ◌+◌, ◌-◌, ◌≤◌, length, IfSome, vec_len, vec_capacity};
+ghost use Rattle.crack_kernel.specs.PivotList.{piece_start};
 ghost use Rattle.ripple_column.specs.Content.{KeepsContent};
-ghost use Rattle.ripple_column.specs.MergeGap.{AllParted, HasGapAt, KeepsContentBeside, TakenFrom, blank};
+ghost use Rattle.ripple_column.specs.MergeGap.{KeepsContentBeside, TakenFrom};
 ghost use Rattle.ripple_column.specs.MergeEffects.{KeepsFrame};
-ghost use Rattle.ripple_column.specs.declared.merge_gap.Direction.TheVariants.{Down};
+ghost use Rattle.ripple_column.specs.GapEffects.{IsCarried};
 
+use crate::cracked::Cracked;
 use crate::deletion_bloom::DeletionBloom;
-use crate::fingerprinted_rows::Rows;
-use crate::merge_gap::{
-    Direction, Gap, Tail, close_gap, empty_gap_at, fill_gap, is_in_piece, lift_gap, open_gap,
-    sink_gap, take_out,
-};
+use crate::gapped_rows::GappedRows;
+use crate::merge_gap::{Direction, Tail, is_in_piece};
 use crate::pending_lists::Pending;
-use crate::ripple::place_or;
 use crack_kernel::{Pivots, Row};
 use std::alloc::Allocator;
 
@@ -45,33 +41,30 @@ fn piece_tail<A: Allocator>(pivots: &Pivots<A>, i: usize, list: &[Row<A>], from:
     start
 }
 
-/// Lets rows that wait out of the piece of the gap, and into it, and leaves the gap at the start of
-/// the piece.
+/// Lets rows that wait out of the piece above the gap's own, and into its own, and leaves the gap at the start of
+/// its piece.
 fn change_piece<A: Allocator + Copy>(
-    rows: &mut Rows<A>,
-    pivots: &Pivots<A>,
-    gap: Gap,
+    gapped: &mut GappedRows<A>,
     pending: &mut Pending<A>,
     pass: Pass,
     filter: &DeletionBloom,
-) -> Gap
-    requires gap { HasGapAt pivots.now.list rows.old.items gap }
+)
     requires deletions { pass.deletions ≤ length pending.old.deletions.items }
     requires insertions { pass.insertions ≤ length pending.old.insertions.items }
-    ensures gap { HasGapAt pivots.now.list rows.new.items result }
-    ensures start { 0 < result.piece → (slice_index_or pivots.now.list (result.piece - 1) (pos 0, 0)).1 ≡ result.low }
-    ensures content { KeepsContentBeside (gap.high - gap.low) rows.old.items pending.old.insertions.items
-        pending.old.deletions.items (result.high - result.low) rows.new.items pending.new.insertions.items
-        pending.new.deletions.items }
+    ensures start { gapped.new.low ≡ piece_start gapped.new.pivots.list gapped.new.piece }
+    ensures content { KeepsContentBeside (gapped.old.high - gapped.old.low) gapped.old.rows.items
+        pending.old.insertions.items pending.old.deletions.items (gapped.new.high - gapped.new.low)
+        gapped.new.rows.items pending.new.insertions.items pending.new.deletions.items }
     ensures deletions { TakenFrom pass.deletions pending.old.deletions.items pending.new.deletions.items }
     ensures insertions { TakenFrom pass.insertions pending.old.insertions.items pending.new.insertions.items }
-    ensures capacity { vec_capacity rows.new ≡ vec_capacity rows.old }
+    ensures pivots { gapped.new.pivots ≡ gapped.old.pivots }
+    ensures capacity { vec_capacity gapped.new.rows ≡ vec_capacity gapped.old.rows }
 {
-    let below = sink_gap(rows, pivots, gap);
-    let end = place_or(pivots.list(), below.piece, rows.len());
+    gapped.sink();
+    let (_, end) = gapped.pivots.piece_at(gapped.piece, gapped.rows.len());
     let from = piece_tail(
-        pivots,
-        below.piece,
+        &gapped.pivots,
+        gapped.piece,
         pending.deletions.list(),
         pass.deletions,
     );
@@ -79,10 +72,9 @@ fn change_piece<A: Allocator + Copy>(
         from,
         direction: pass.direction,
     };
-    let high = take_out(rows, below.high, end, &mut pending.deletions, tail, filter);
-    let wide = Gap { high, ..below };
-    let low = fill_gap(rows, pivots, wide, &mut pending.insertions, pass.insertions);
-    sink_gap(rows, pivots, Gap { low, ..wide })
+    gapped.take_out(end, &mut pending.deletions, tail, filter);
+    gapped.fill(&mut pending.insertions, pass.insertions);
+    gapped.sink();
 }
 
 /// The index of the piece to which the last row of a list goes, if one stands there from `from` on.
@@ -97,14 +89,12 @@ fn piece_of_last<A: Allocator>(pivots: &Pivots<A>, list: &[Row<A>], from: usize)
 }
 
 /// Whether a row that waits for the piece of the gap finds no room there: the gap is empty.
-fn is_stuck<A: Allocator>(pivots: &Pivots<A>, gap: Gap, insertions: &[Row<A>], from: usize) -> bool
-    requires { gap.piece ≤ length pivots.now.list }
-{
-    if gap.low < gap.high || insertions.len() <= from {
+fn is_stuck<A: Allocator>(gapped: &GappedRows<A>, insertions: &[Row<A>], from: usize) -> bool {
+    if gapped.low < gapped.high || insertions.len() <= from {
         return false;
     }
     match insertions.last() {
-        Some(row) => is_in_piece(pivots, gap.piece, row.score()),
+        Some(row) => is_in_piece(&gapped.pivots, gapped.piece, row.score()),
         None => false,
     }
 }
@@ -113,125 +103,77 @@ fn is_stuck<A: Allocator>(pivots: &Pivots<A>, gap: Gap, insertions: &[Row<A>], f
 /// the neighbor where that is none of these. There is none where nothing is left for the pass, or a row that
 /// waits has found no room.
 fn next_stop<A: Allocator>(
-    pivots: &Pivots<A>,
-    gap: Gap,
+    gapped: &GappedRows<A>,
     pending: &Pending<A>,
     pass: Pass,
 ) -> Option<usize>
-    requires { gap.piece ≤ length pivots.now.list }
-    ensures { IfSome result (λ i. i ≤ length pivots.now.list) }
+    ensures { IfSome result (λ i. i ≤ length gapped.now.pivots.list) }
 {
     let insertions = pending.insertions.list();
-    if is_stuck(pivots, gap, insertions, pass.insertions) {
+    if is_stuck(gapped, insertions, pass.insertions) {
         return None;
     }
+    let pivots = &gapped.pivots;
     let leaving = piece_of_last(pivots, pending.deletions.list(), pass.deletions);
     let arriving = piece_of_last(pivots, insertions, pass.insertions);
     let one = leaving.or(arriving)?;
     let other = arriving.unwrap_or(one);
     match pass.direction {
-        Direction::Up if gap.piece < pivots.len() => Some(one.min(other).max(gap.piece + 1)),
-        Direction::Down if gap.piece > 0 => Some(one.max(other).min(gap.piece - 1)),
+        Direction::Up if gapped.piece < pivots.len() => Some(one.min(other).max(gapped.piece + 1)),
+        Direction::Down if gapped.piece > 0 => Some(one.max(other).min(gapped.piece - 1)),
         _ => None,
     }
 }
 
 /// Carries the gap from the start of its piece into the next piece. Where there is no next piece,
 /// all stays.
-pub fn next_piece<A: Allocator>(
-    rows: &mut Rows<A>,
-    pivots: &mut Pivots<A>,
-    gap: Gap,
-    direction: Direction,
-) -> Gap
-    requires gap { HasGapAt pivots.old.list rows.old.items gap }
-    requires start { 0 < gap.piece → (slice_index_or pivots.old.list (gap.piece - 1) (pos 0, 0)).1 ≡ gap.low }
-    ensures gap { HasGapAt pivots.new.list rows.new.items result }
-    ensures down { direction ≡ Down → 0 < gap.piece → result.piece + 1 ≡ gap.piece }
-    ensures width { result.high - result.low ≡ gap.high - gap.low }
-    ensures rows { IsPermutation rows.old.items rows.new.items }
-    ensures frame { KeepsFrame rows.old pivots.old rows.new pivots.new }
+fn next_piece<A: Allocator + Copy>(gapped: &mut GappedRows<A>, direction: Direction)
+    requires start { gapped.old.low ≡ piece_start gapped.old.pivots.list gapped.old.piece }
+    ensures carried { IsCarried gapped.old gapped.new }
 {
     match direction {
-        Direction::Up if gap.piece < pivots.len() => lift_gap(rows, pivots, gap),
-        Direction::Down if gap.piece > 0 => {
-            pivots.set_place(gap.piece - 1, gap.high);
-            Gap {
-                piece: gap.piece - 1,
-                ..gap
-            }
-        }
-        _ => gap,
+        Direction::Up if gapped.piece < gapped.pivots.len() => gapped.lift(),
+        Direction::Down if gapped.piece > 0 => gapped.lower(),
+        _ => (),
     }
 }
 
 /// Carries the gap from the start of its piece to that of the index `stop`, over the pieces between.
-fn carry_to<A: Allocator>(
-    rows: &mut Rows<A>,
-    pivots: &mut Pivots<A>,
-    gap: Gap,
-    direction: Direction,
-    stop: usize,
-) -> Gap
-    requires gap { HasGapAt pivots.old.list rows.old.items gap }
-    requires start { 0 < gap.piece → (slice_index_or pivots.old.list (gap.piece - 1) (pos 0, 0)).1 ≡ gap.low }
-    requires stop { stop ≤ length pivots.old.list }
-    ensures gap { HasGapAt pivots.new.list rows.new.items result }
-    ensures width { result.high - result.low ≡ gap.high - gap.low }
-    ensures rows { IsPermutation rows.old.items rows.new.items }
-    ensures frame { KeepsFrame rows.old pivots.old rows.new pivots.new }
+fn carry_to<A: Allocator + Copy>(gapped: &mut GappedRows<A>, direction: Direction, stop: usize)
+    requires start { gapped.old.low ≡ piece_start gapped.old.pivots.list gapped.old.piece }
+    requires stop { stop ≤ length gapped.old.pivots.list }
+    ensures carried { IsCarried gapped.old gapped.new }
 {
-    if gap.low == gap.high {
-        return empty_gap_at(pivots.list(), rows.len(), stop);
-    }
-    let mut carried = gap;
-    for _piece in 0..stop.abs_diff(gap.piece) {
-        carried = next_piece(rows, pivots, carried, direction);
-        carried = sink_gap(rows, pivots, carried);
-    }
-    carried
-}
-
-/// Carries the gap over the pieces above it, and cuts it off.
-pub fn lift_out<A: Allocator>(rows: &mut Rows<A>, pivots: &mut Pivots<A>, gap: Gap)
-    requires gap { HasGapAt pivots.old.list rows.old.items gap }
-    ensures parted { AllParted pivots.new.list rows.new.items }
-    ensures content { (p : Test) → count_by p rows.old.items
-        ≡ count_by p rows.new.items + count_by p (replicate (gap.high - gap.low) blank) }
-    ensures frame { KeepsFrame rows.old pivots.old rows.new pivots.new }
-{
-    if gap.low == gap.high {
+    if gapped.low == gapped.high {
+        gapped.jump(stop);
         return;
     }
-    let mut lifted = gap;
-    for _piece in gap.piece..pivots.len() {
-        lifted = lift_gap(rows, pivots, lifted);
+    for _piece in 0..stop.abs_diff(gapped.piece) {
+        next_piece(gapped, direction);
+        gapped.sink();
     }
-    close_gap(rows, lifted);
 }
 
 /// Goes over the pieces until nothing is left for the pass or a row that is to come in finds no
 /// room; answers the index of the piece at which it ends. A pass that goes down from the last piece
 /// fetches blank rows for as many rows as come more than leave.
 pub fn run_pass<A: Allocator + Copy>(
-    rows: &mut Rows<A>,
-    pivots: &mut Pivots<A>,
+    cracked: &mut Cracked<A>,
     pending: &mut Pending<A>,
     pass: Pass,
     filter: &DeletionBloom,
 ) -> usize
-    requires law { ObeysPivots pivots.old.list rows.old.items }
-    requires piece { pass.piece ≤ length pivots.old.list }
+    requires piece { pass.piece ≤ length cracked.old.pivots.list }
     requires deletions { pass.deletions ≤ length pending.old.deletions.items }
     requires insertions { pass.insertions ≤ length pending.old.insertions.items }
-    requires room { vec_len rows.old + length pending.old.insertions.items ≤ vec_capacity rows.old + pass.insertions }
-    ensures law { ObeysPivots pivots.new.list rows.new.items }
-    ensures piece { result ≤ length pivots.new.list }
-    ensures content { KeepsContent rows.old.items pending.old.insertions.items pending.old.deletions.items
-        rows.new.items pending.new.insertions.items pending.new.deletions.items }
+    requires room { vec_len cracked.old.rows + length pending.old.insertions.items
+        ≤ vec_capacity cracked.old.rows + pass.insertions }
+    ensures piece { result ≤ length cracked.new.pivots.list }
+    ensures content { KeepsContent cracked.old.rows.items pending.old.insertions.items pending.old.deletions.items
+        cracked.new.rows.items pending.new.insertions.items pending.new.deletions.items }
     ensures deletions { TakenFrom pass.deletions pending.old.deletions.items pending.new.deletions.items }
     ensures insertions { TakenFrom pass.insertions pending.old.insertions.items pending.new.insertions.items }
-    ensures frame { KeepsFrame rows.old pivots.old rows.new pivots.new }
+    ensures frame { KeepsFrame cracked.old.rows cracked.old.pivots cracked.new.rows cracked.new.pivots }
 {
     let leaving = pending.deletions.len() - pass.deletions;
     let arriving = pending.insertions.len() - pass.insertions;
@@ -239,15 +181,17 @@ pub fn run_pass<A: Allocator + Copy>(
         Direction::Up => 0,
         Direction::Down => arriving.saturating_sub(leaving),
     };
-    let mut gap = open_gap(rows, pivots, pass.piece, width);
-    gap = change_piece(rows, pivots, gap, pending, pass, filter);
-    for _passed in 0..pivots.len() {
-        let Some(stop) = next_stop(pivots, gap, pending, pass) else {
+    let mut gapped = GappedRows::open(cracked.take(), pass.piece, width);
+    change_piece(&mut gapped, pending, pass, filter);
+    for _passed in 0..gapped.pivots.len() {
+        let Some(stop) = next_stop(&gapped, pending, pass) else {
             break;
         };
-        gap = carry_to(rows, pivots, gap, pass.direction, stop);
-        gap = change_piece(rows, pivots, gap, pending, pass, filter);
+        carry_to(&mut gapped, pass.direction, stop);
+        change_piece(&mut gapped, pending, pass, filter);
     }
-    lift_out(rows, pivots, gap);
-    gap.piece
+    let piece = gapped.piece;
+    let (rows, pivots) = gapped.lift_out();
+    *cracked = Cracked { rows, pivots };
+    piece
 }

@@ -4,21 +4,19 @@
 //! would move many rows: a gap takes their places instead and is carried to the nearer end, over one piece after another,
 //! and in each of them no more rows change places than the gap is wide.
 
-ghost use Rattle.std.specs.Prelude.{◌≡◌, ◌+◌, ◌-◌, ◌<◌, ◌≤◌, ℕ, ℤ, List, length, replicate, count_by, slice_index_or, IfSome, vec_capacity};
+ghost use Rattle.std.specs.Prelude.{◌≡◌, ◌+◌, ◌-◌, ◌<◌, ◌≤◌, ℕ, ℤ, pos, List, length, replicate, count_by, slice_index_or, IfSome, IsFalse, IsTrue};
+ghost use Rattle.crack_kernel.specs.PivotList.{piece_end};
 ghost use Rattle.crack_kernel.specs.RowBag.{SameBag, Test};
 ghost use Rattle.ripple_column.specs.ClosedUp.{closed_up_pivots, closed_up_rows};
 ghost use Rattle.ripple_column.specs.CutPivots.{values};
 ghost use Rattle.ripple_column.specs.InnerCrackEffects.{shown};
 ghost use Rattle.ripple_column.specs.MergeEffects.{KeepsFrame};
-ghost use Rattle.ripple_column.specs.MergeGap.{AllParted, HasGap, HasGapAt, StandFrom, blank};
+ghost use Rattle.ripple_column.specs.MergeGap.{AllParted, StandFrom, blank};
 
 use crate::cracked::Cracked;
 use crate::fingerprinted_rows::Rows;
-use crate::front_room_rows::blank_row;
-use crate::merge_gap::{Direction, Gap, sink_gap};
-use crate::merge_pass::{lift_out, next_piece};
+use crate::gapped_rows::GappedRows;
 use crate::pieces::Pieces;
-use crate::ripple::place_or;
 use crack_kernel::Pivots;
 use std::alloc::Allocator;
 
@@ -33,14 +31,14 @@ fn is_carried(width: usize, pieces: usize, rows: usize) -> bool {
     pieces.saturating_mul(width.saturating_add(PIECE_COST)) < rows / SWAP_COST
 }
 
-/// The empty gap at the place `from`, where a gap in the places of the rows from there on and before `to` had better be
-/// carried to an end. None where the rows beside it had better close up.
-fn gap_to_carry<A: Allocator>(cracked: &Cracked<A>, from: usize, to: usize) -> Option<Gap>
+/// The piece that ends at the place `from`, where a gap in the places of the rows from there on and before `to` had
+/// better be carried to an end. None where the rows beside it had better close up.
+fn piece_to_leave<A: Allocator>(cracked: &Cracked<A>, from: usize, to: usize) -> Option<usize>
     requires order { from ≤ to }
     requires within { to ≤ length cracked.now.rows.items }
-    ensures gap { IfSome result (λ gap. HasGapAt cracked.now.pivots.list cracked.now.rows.items gap) }
-    ensures low { IfSome result (λ gap. gap.low ≡ from) }
-    ensures high { IfSome result (λ gap. gap.high ≡ from) }
+    ensures piece { IfSome result (λ piece. piece ≤ length cracked.now.pivots.list) }
+    ensures end { IfSome result
+        (λ piece. piece_end cracked.now.pivots.list piece (length cracked.now.rows.items) ≡ from) }
 {
     if from == 0 {
         return None;
@@ -49,100 +47,109 @@ fn gap_to_carry<A: Allocator>(cracked: &Cracked<A>, from: usize, to: usize) -> O
     let piece = cracked.pivots.count_upto(rows.list()[from - 1].score());
     let pieces = piece.min(cracked.pivots.len() - piece);
     let closing = from.min(rows.len() - to);
-    let low = place_or(cracked.pivots.list(), piece, rows.len());
-    if low != from || !is_carried(to - from, pieces, closing) {
+    let (_, end) = cracked.pivots.piece_at(piece, rows.len());
+    if end != from || !is_carried(to - from, pieces, closing) {
         return None;
     }
-    Some(Gap {
-        piece,
-        low,
-        high: low,
-    })
+    Some(piece)
 }
 
-/// Lets the gap pass the pivots at its end, those of pieces without rows: they stand at its start then.
-fn pass_ended<A: Allocator>(pivots: &mut Pivots<A>, gap: Gap) -> Gap
-    requires { gap.piece ≤ length pivots.old.list }
-    ensures gap { (rows : List (ℤ × List ℕ)) → HasGapAt pivots.old.list rows gap → HasGapAt pivots.new.list rows result }
-    ensures passed { (rows : List (ℤ × List ℕ)) → HasGapAt pivots.old.list rows gap
-        → StandFrom pivots.new.list result.piece (gap.high + 1) }
-    ensures low { result.low ≡ gap.low }
-    ensures high { result.high ≡ gap.high }
-    ensures values { values pivots.new.list ≡ values pivots.old.list }
-    ensures spare { pivots.new.spare ≡ pivots.old.spare }
-{
-    let mut passed = gap;
-    for _piece in gap.piece..pivots.len() {
-        if pivots.list()[passed.piece].1 > passed.high {
-            break;
+impl<A: Allocator + Copy> GappedRows<A> {
+    /// Lets the pivot at the end of the gap, that of a piece without rows, pass to its start: the gap stands above that
+    /// piece then. False: no pivot stands at the end of the gap.
+    fn pass_pivot(&mut self) -> bool
+        requires piece { self.old.piece < length self.old.pivots.list }
+        ensures passed { IsTrue result → self.new.piece ≡ self.old.piece + 1 }
+        ensures none { IsFalse result → StandFrom self.new.pivots.list self.new.piece (self.new.high + 1) }
+        ensures low { self.new.low ≡ self.old.low }
+        ensures high { self.new.high ≡ self.old.high }
+        ensures rows { self.new.rows ≡ self.old.rows }
+        ensures values { values self.new.pivots.list ≡ values self.old.pivots.list }
+        ensures spare { self.new.pivots.spare ≡ self.old.pivots.spare }
+    {
+        if self.pivots.list()[self.piece].1 > self.high {
+            return false;
         }
-        pivots.set_place(passed.piece, passed.low);
-        passed = Gap {
-            piece: passed.piece + 1,
-            ..passed
-        };
+        self.pivots.set_place(self.piece, self.low);
+        self.piece += 1;
+        true
     }
-    passed
-}
 
-/// Drops the rows from the end of the gap on and before the place `to`. The gap takes their places.
-fn widen<A: Allocator>(rows: &mut Rows<A>, pivots: &mut Pivots<A>, gap: Gap, to: usize) -> Gap
-    requires gap { HasGapAt pivots.old.list rows.old.items gap }
-    requires order { gap.high ≤ to }
-    requires within { to ≤ length rows.old.items }
-    ensures gap { HasGapAt pivots.new.list rows.new.items result }
-    ensures low { result.low ≡ gap.low }
-    ensures high { result.high ≡ to }
-    ensures others { (k : ℕ) (d : ℤ × List ℕ) → (gap.high ≤ k → to ≤ k)
-        → slice_index_or rows.new.items k d ≡ slice_index_or rows.old.items k d }
-    ensures len { length rows.new.items ≡ length rows.old.items }
-    ensures frame { KeepsFrame rows.old pivots.old rows.new pivots.new }
-{
-    let mut wide = gap;
-    for at in gap.high..to {
-        wide = pass_ended(pivots, wide);
-        rows.set(at, blank_row());
-        wide = Gap {
-            high: at + 1,
-            ..wide
-        };
+    /// Lets the gap pass the pivots at its end, those of pieces without rows: they stand at its start then.
+    fn pass_ended(&mut self)
+        ensures passed { StandFrom self.new.pivots.list self.new.piece (self.new.high + 1) }
+        ensures low { self.new.low ≡ self.old.low }
+        ensures high { self.new.high ≡ self.old.high }
+        ensures rows { self.new.rows ≡ self.old.rows }
+        ensures values { values self.new.pivots.list ≡ values self.old.pivots.list }
+        ensures spare { self.new.pivots.spare ≡ self.old.pivots.spare }
+    {
+        for _piece in self.piece..self.pivots.len() {
+            if !self.pass_pivot() {
+                break;
+            }
+        }
     }
-    wide
-}
 
-/// Carries the gap over the pieces below it, and cuts it off.
-fn sink_out<A: Allocator + Copy>(rows: &mut Rows<A>, pivots: &mut Pivots<A>, gap: Gap)
-    requires gap { HasGapAt pivots.old.list rows.old.items gap }
-    ensures parted { AllParted pivots.new.list rows.new.items }
-    ensures content { (p : Test) → count_by p rows.old.items
-        ≡ count_by p rows.new.items + count_by p (replicate (gap.high - gap.low) blank) }
-    ensures values { values pivots.new.list ≡ values pivots.old.list }
-{
-    let mut sunk = sink_gap(rows, pivots, gap);
-    for _piece in 0..gap.piece {
-        sunk = next_piece(rows, pivots, sunk, Direction::Down);
-        sunk = sink_gap(rows, pivots, sunk);
+    /// Drops the rows from the end of the gap on and before the place `to`. The gap takes their places.
+    fn widen(&mut self, to: usize)
+        requires order { self.old.high ≤ to }
+        requires within { to ≤ length self.old.rows.items }
+        ensures low { self.new.low ≡ self.old.low }
+        ensures high { self.new.high ≡ to }
+        ensures others { (k : ℕ) (d : ℤ × List ℕ) → (self.old.high ≤ k → to ≤ k)
+            → slice_index_or self.new.rows.items k d ≡ slice_index_or self.old.rows.items k d }
+        ensures len { length self.new.rows.items ≡ length self.old.rows.items }
+        ensures frame { KeepsFrame self.old.rows self.old.pivots self.new.rows self.new.pivots }
+    {
+        for _at in self.high..to {
+            self.pass_ended();
+            self.blank_out(self.high);
+        }
     }
-    rows.remove_between(0, sunk.high);
-    pivots.close_up(0, sunk.high);
-}
 
-/// Drops the rows from the place of the empty gap on and before the place `to`, and carries the gap that they leave to
-/// the end behind the fewer pieces.
-fn carry_out<A: Allocator + Copy>(rows: &mut Rows<A>, pivots: &mut Pivots<A>, gap: Gap, to: usize)
-    requires gap { HasGapAt pivots.old.list rows.old.items gap }
-    requires empty { gap.high ≡ gap.low }
-    requires order { gap.high ≤ to }
-    requires within { to ≤ length rows.old.items }
-    ensures parted { AllParted pivots.new.list rows.new.items }
-    ensures rows { SameBag rows.new.items (closed_up_rows gap.low to rows.old.items) }
-    ensures values { values pivots.new.list ≡ values pivots.old.list }
-{
-    let wide = widen(rows, pivots, gap, to);
-    if wide.piece < pivots.len() / 2 {
-        sink_out(rows, pivots, wide);
-    } else {
-        lift_out(rows, pivots, wide);
+    /// Carries the gap over the pieces below it, and cuts it off.
+    fn sink_out(self) -> (Rows<A>, Pivots<A>)
+        ensures parted { AllParted result.1.list result.0.items }
+        ensures content { (p : Test) → count_by p self.rows.items
+            ≡ count_by p result.0.items + count_by p (replicate (self.high - self.low) blank) }
+        ensures values { values result.1.list ≡ values self.pivots.list }
+    {
+        let mut sunk = self;
+        sunk.sink();
+        for _piece in 0..sunk.piece {
+            sunk.lower();
+            sunk.sink();
+        }
+        let GappedRows {
+            mut rows,
+            mut pivots,
+            piece: _,
+            low: _,
+            high,
+        } = sunk;
+        rows.remove_between(0, high);
+        pivots.close_up(0, high);
+        (rows, pivots)
+    }
+
+    /// Drops the rows from the place of the empty gap on and before the place `to`, and carries the gap that they leave
+    /// to the end behind the fewer pieces.
+    fn carry_out(self, to: usize) -> (Rows<A>, Pivots<A>)
+        requires empty { self.high ≡ self.low }
+        requires order { self.high ≤ to }
+        requires within { to ≤ length self.rows.items }
+        ensures parted { AllParted result.1.list result.0.items }
+        ensures rows { SameBag result.0.items (closed_up_rows self.low to self.rows.items) }
+        ensures values { values result.1.list ≡ values self.pivots.list }
+    {
+        let mut wide = self;
+        wide.widen(to);
+        if wide.piece < wide.pivots.len() / 2 {
+            wide.sink_out()
+        } else {
+            wide.lift_out()
+        }
     }
 }
 
@@ -153,8 +160,12 @@ fn close_up<A: Allocator + Copy>(cracked: &mut Cracked<A>, from: usize, to: usiz
     ensures rows { SameBag cracked.new.rows.items (closed_up_rows from to cracked.old.rows.items) }
     ensures pivots { cracked.new.pivots.list ≡ closed_up_pivots from to cracked.old.pivots.list }
 {
-    match gap_to_carry(cracked, from, to) {
-        Some(gap) => carry_out(&mut cracked.rows, &mut cracked.pivots, gap, to),
+    match piece_to_leave(cracked, from, to) {
+        Some(piece) => {
+            let gapped = GappedRows::open(cracked.take(), piece, 0);
+            let (rows, pivots) = gapped.carry_out(to);
+            *cracked = Cracked { rows, pivots };
+        }
         None => {
             cracked.rows.remove_between(from, to);
             cracked.pivots.close_up_in_order(from, to);

@@ -10,7 +10,7 @@ pub run_pass-requires-clause-room : goal.run_pass-requires-clause-room
 run_pass-requires-clause-room g c =
     let up = c.run_pass-piece.ensures in
     let kept = length-kept c.loop-turn.cracked.rows.items c.loop-turn.pending.insertions.items c.loop-turn.pending.deletions.items
-    c.run_pass-piece.new.rows.items c.run_pass-piece.new.pending.insertions.items c.run_pass-piece.new.pending.deletions.items up.content up.deletions.less in
+    c.run_pass-piece.new.cracked.rows.items c.run_pass-piece.new.pending.insertions.items c.run_pass-piece.new.pending.deletions.items up.content up.deletions.less in
     let turned = length_permutation _ _ c.reverse_from-in-loop-turn.ensures.rows in
     omega (arith, kept, turned, c.loop-turn.invariant.room, up.frame.capacity, c.next_surplus-down.ensures.insertions_low)
 
@@ -29,9 +29,9 @@ loop-turn-preserved g c =
     let turned_d = TakenFrom-turned _ deletions deletions' high_d c.reverse_from.ensures.rows c.reverse_from.ensures.before in
     let turned_i = TakenFrom-turned _ insertions insertions' high_i c.reverse_from-in-loop-turn.ensures.rows c.reverse_from-in-loop-turn.ensures.before in
     let kept = length-kept c.loop-turn.cracked.rows.items c.loop-turn.pending.insertions.items c.loop-turn.pending.deletions.items
-    c.run_pass-piece.new.rows.items insertions deletions up.content up.deletions.less in
-    let kept' = length-kept c.run_pass-piece.new.rows.items insertions' deletions'
-    c.run_pass.new.rows.items c.run_pass.new.pending.insertions.items c.run_pass.new.pending.deletions.items down.content down.deletions.less in
+    c.run_pass-piece.new.cracked.rows.items insertions deletions up.content up.deletions.less in
+    let kept' = length-kept c.run_pass-piece.new.cracked.rows.items insertions' deletions'
+    c.run_pass.new.cracked.rows.items c.run_pass.new.pending.insertions.items c.run_pass.new.pending.deletions.items down.content down.deletions.less in
     let same_i = length_permutation _ _ c.reverse_from-in-loop-turn.ensures.rows in
     record {
       piece = omega (arith, s.piece, length-values _ _ down.frame.values);

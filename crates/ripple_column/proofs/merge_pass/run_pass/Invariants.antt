@@ -1,14 +1,14 @@
-use Rattle.std.proofs.Common.{◌≡◌, ◌-◌, ◌<◌, pos, get_or}
-use Rattle.ripple_column.specs.MergeGap.{HasGapAt, KeepsContentBeside, TakenFrom}
+use Rattle.std.proofs.Common.{◌≡◌, ◌-◌}
+use Rattle.crack_kernel.specs.PivotList.{piece_start}
+use Rattle.ripple_column.specs.MergeGap.{KeepsContentBeside, TakenFrom}
 use Rattle.ripple_column.specs.MergeEffects.{KeepsFrame}
 use Rattle.ripple_column.proofs.merge_pass.run_pass.Given as goal
 
 abbrev pub invariant-loop-passed : goal.invariant-loop-passed
 invariant-loop-passed g l = record {
-  gap : HasGapAt l.pivots.list l.rows.items l.gap;
-  start : 0 < l.gap.piece → (get_or l.pivots.list (l.gap.piece - 1) (pos 0, 0)).1 ≡ l.gap.low;
-  content : KeepsContentBeside 0 l.fn.rows.items l.fn.pending.insertions.items l.fn.pending.deletions.items (l.gap.high - l.gap.low) l.rows.items l.pending.insertions.items l.pending.deletions.items;
+  start : l.gapped.low ≡ piece_start l.gapped.pivots.list l.gapped.piece;
+  content : KeepsContentBeside 0 l.fn.cracked.rows.items l.fn.pending.insertions.items l.fn.pending.deletions.items (l.gapped.high - l.gapped.low) l.gapped.rows.items l.pending.insertions.items l.pending.deletions.items;
   deletions : TakenFrom l.pass.deletions l.fn.pending.deletions.items l.pending.deletions.items;
   insertions : TakenFrom l.pass.insertions l.fn.pending.insertions.items l.pending.insertions.items;
-  frame : KeepsFrame l.fn.rows l.fn.pivots l.rows l.pivots;
+  frame : KeepsFrame l.fn.cracked.rows l.fn.cracked.pivots l.gapped.rows l.gapped.pivots;
 }

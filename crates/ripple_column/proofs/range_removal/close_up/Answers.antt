@@ -1,34 +1,36 @@
-use Rattle.std.proofs.Common.{ℕ, subst}
+use Rattle.std.proofs.Common.{◌≡◌, ◌≤◌, ◌-◌, ◌∙◌, ◌++◌, ℕ, length, replicate, ap, append-nil, arith}
+use Rattle.crack_kernel.specs.PivotList.{piece_end}
 use Rattle.crack_kernel.specs.RowBag.{SameBag}
 use Rattle.ripple_column.specs.ClosedUp.{closed_up_rows}
+use Rattle.ripple_column.specs.CutPivots.{values}
+use Rattle.ripple_column.specs.MergeGap.{blank}
 use Rattle.ripple_column.proofs.Removal.{ObeysPivots-closed_up, placed_in_order}
 use Rattle.ripple_column.proofs.GapRemoval.{pivots-closed_up}
 use Rattle.ripple_column.proofs.range_removal.close_up.Goals as goal
-
-pub invariant_of-cracked : goal.invariant_of-cracked
-invariant_of-cracked g c =
-    let old = c.args.cracked.now in
-    let left : SameBag c.carry_out.new.rows.items (closed_up_rows c.args.from c.args.to old.rows.items) =
-    subst (λ (m : ℕ). SameBag c.carry_out.new.rows.items (closed_up_rows m c.args.to old.rows.items)) c.in-Some.ensures.low c.carry_out.ensures.rows in
-    record {
-      law = (pivots-closed_up old.pivots.list c.carry_out.new.pivots.list old.rows.items c.carry_out.new.rows.items c.args.from c.args.to c.requires.order c.requires.within old.law
-          c.carry_out.ensures.parted c.carry_out.ensures.values left).0;
-    }
 
 pub close_up_in_order-requires-clause-places : goal.close_up_in_order-requires-clause-places
 close_up_in_order-requires-clause-places g c =
     let old = c.args.cracked.now in
     placed_in_order old.pivots.list old.rows.items old.law
 
-pub invariant_of-cracked-in-None : goal.invariant_of-cracked-in-None
-invariant_of-cracked-in-None g c =
+pub invariant_of-cracked : goal.invariant_of-cracked
+invariant_of-cracked g c =
     let old = c.args.cracked.now in
     record { law = rw (c.remove_between.ensures, c.close_up_in_order.ensures.list) (ObeysPivots-closed_up old.pivots.list old.rows.items c.args.from c.args.to c.requires.order c.requires.within old.law) }
 
 pub returns-in-Some-clause-pivots : goal.returns-in-Some-clause-pivots
 returns-in-Some-clause-pivots g c =
     let old = c.args.cracked.now in
-    let left : SameBag c.carry_out.new.rows.items (closed_up_rows c.args.from c.args.to old.rows.items) =
-    subst (λ (m : ℕ). SameBag c.carry_out.new.rows.items (closed_up_rows m c.args.to old.rows.items)) c.in-Some.ensures.low c.carry_out.ensures.rows in
-    (pivots-closed_up old.pivots.list c.carry_out.new.pivots.list old.rows.items c.carry_out.new.rows.items c.args.from c.args.to c.requires.order c.requires.within old.law
-    c.carry_out.ensures.parted c.carry_out.ensures.values left).1
+    let gapped = c.open-gapped.result in
+    let opened = c.open-gapped.ensures in
+    let out = c.carry_out-rows.ensures in
+    let new = c.carry_out-rows.result in
+    let taken = c.take.ensures in
+    let order : gapped.low ≤ gapped.high = gapped.has_gap.order in
+    let none : gapped.high - gapped.low ≡ 0 = omega (arith, opened.high) in
+    let rows : gapped.rows.items ≡ old.rows.items =
+    opened.rows ∙ ap (λ (n : ℕ). c.take.result.rows.items ++ replicate n blank) none ∙ append-nil c.take.result.rows.items ∙ ap (λ z. z.rows.items) taken in
+    let low : gapped.low ≡ c.args.from = opened.low ∙ ap (λ z. piece_end z.pivots.list c.in-Some.piece (length z.rows.items)) taken ∙ c.in-Some.ensures.end in
+    let left : SameBag new.0.items (closed_up_rows c.args.from c.args.to old.rows.items) = rw (low, rows) at out.rows in
+    let same_values = out.values ∙ opened.frame.values ∙ ap (λ z. values z.pivots.list) taken in
+    (pivots-closed_up old.pivots.list new.1.list old.rows.items new.0.items c.args.from c.args.to c.requires.order c.requires.within old.law out.parted same_values left).1

@@ -3,7 +3,7 @@ use Rattle.score_bounds.specs.declared.bounds.Range.{Range}
 use Rattle.ripple_column.specs.Content.{ColumnState}
 use Rattle.ripple_column.specs.ColumnViewAndInvariant.{ColumnViewAndInvariant, state}
 use Rattle.ripple_column.specs.RangeAnswer.{HoldsRange, IsAnswer}
-use Rattle.ripple_column.specs.RangeEffects.{TakesOut}
+use Rattle.ripple_column.specs.RangeEffects.{Removes, TakesOut}
 use Rattle.ripple_column.specs.declared.column.Column.TheInside.{Inside}
 use Rattle.ripple_column.proofs.InnerPivots.{among_found}
 use Rattle.ripple_column.proofs.Merged.{IsScored-less}
@@ -54,18 +54,6 @@ invariant_of-self g c =
       few_deletions = inv.few_deletions;
     }
 
-pub returns-clause-content : goal.returns-clause-content
-returns-clause-content g c range is p =
-    rw (← c.self.view_is) (content_closed_up (before g c) (after g c) range (places g c) (gone g c) (held g c range is) c.self.invariant.part p)
-
-pub returns-clause-none_left : goal.returns-clause-none_left
-returns-clause-none_left g c range is p =
-    none_closed_up (before g c) (after g c) range (places g c) (gone g c) (held g c range is) c.self.invariant.part p
-
-pub returns-clause-answer : goal.returns-clause-answer
-returns-clause-answer g c range is =
-    IsAnswer-closed_up (before g c) (after g c) range (places g c) (gone g c) (held g c range is) (answered g c range is)
-
 pub remove_between-requires-clause-order : goal.remove_between-requires-clause-order
 remove_between-requires-clause-order g c =
     let range = c.requires.answer.0 in
@@ -78,9 +66,12 @@ remove_between-requires-clause-within g c =
     let places : ℕ × ℕ = (c.args.from, c.args.to) in
     (holds c.self.inside range places c.self.invariant (subst (λ (v : ColumnState). IsAnswer v range places) (sym c.self.view_is) c.requires.answer.1)).within
 
-pub returns-clause-takes_out : goal.returns-clause-takes_out
-returns-clause-takes_out g c range is =
+removed : (g : _) (c : goal.After-remove_between g) (range : Range) → IsAnswer c.args.self.now range (places g c) → Removes range c.args.from (before g c) (after g c)
+removed g c range is =
     let pieces = c.self.inside.pieces in
+    let old = before g c in
+    let new = after g c in
+    let at = places g c in
     let one = λ (answer : ℕ × ℕ) (there : IsAnswer (before g c) range answer).
     IsAnswer-one (before g c) pieces.cracked.pivots.list range answer (places g c) (among_found _ _ pieces.among) pieces.cracked.law.rising there (answered g c range is) in
     let takes : TakesOut range (before g c) (after g c) = record {
@@ -92,4 +83,12 @@ returns-clause-takes_out g c range is =
       spare_insertions = refl;
       spare_deletions = refl;
     } in
-    rw (← c.self.view_is) takes
+    record {
+      content = λ p. content_closed_up old new range at (gone g c) (held g c range is) c.self.invariant.part p;
+      none_left = λ p. none_closed_up old new range at (gone g c) (held g c range is) c.self.invariant.part p;
+      answer = IsAnswer-closed_up old new range at (gone g c) (held g c range is) (answered g c range is);
+      takes_out = takes;
+    }
+
+pub returns : goal.returns
+returns g c = record { removes = λ range is. rw (← c.self.view_is) (removed g c range is) }

@@ -23,7 +23,7 @@ returns-clause-members g c =
 pub returns-clause-content : goal.returns-clause-content
 returns-clause-content g c =
     let range = c.args.leaving.range in
-    Holds-left c.args.column.now c.remove_rows.new.self (members_by current_score c.args.members.now.entries) range c.requires.content (c.remove_rows.ensures.content range c.requires.stands.answer)
+    Holds-left c.args.column.now c.remove_rows.new.self (members_by current_score c.args.members.now.entries) range c.requires.content (c.remove_rows.ensures.removes range c.requires.stands.answer).content
 
 pub returns-clause-column : goal.returns-clause-column
-returns-clause-column g c = c.remove_rows.ensures.takes_out c.args.leaving.range c.requires.stands.answer
+returns-clause-column g c = (c.remove_rows.ensures.removes c.args.leaving.range c.requires.stands.answer).takes_out
