@@ -77,7 +77,7 @@ impl<A: Allocator> Pivots<A> {
         ensures { MatchOption result (IsNewValue v self.now.list) (λ place. Contains self.now.list
             (v, place)) }
     {
-        find(&self.list, v)
+        self.find_at(self.count_upto(v), v)
     }
 
     /// The piece in which a row of the score `v` stands, among `rows_len` rows: where it begins
@@ -85,7 +85,7 @@ impl<A: Allocator> Pivots<A> {
     pub fn piece_of(&self, v: i64, rows_len: usize) -> (usize, usize)
         ensures { IsPieceOf v self.now.list rows_len result }
     {
-        piece_of(&self.list, v, rows_len)
+        self.piece_at(self.count_upto(v), rows_len)
     }
 
     /// The place of the pivot with the value `v`, if there is one, where `index` pivots have a value up to `v`.
@@ -104,7 +104,17 @@ impl<A: Allocator> Pivots<A> {
         ensures start { result.0 ≡ piece_start self.now.list index }
         ensures end { result.1 ≡ piece_end self.now.list index rows_len }
     {
-        piece_at(&self.list, index, rows_len)
+        let start = if index == 0 {
+            0
+        } else {
+            self.list[index - 1].1
+        };
+        let end = if index < self.list.len() {
+            self.list[index].1
+        } else {
+            rows_len
+        };
+        (start, end)
     }
 
     /// Makes room for `n` more pivots.
@@ -213,15 +223,8 @@ fn count_upto(list: &[(i64, usize)], v: i64) -> usize
     list.partition_point(|pivot| pivot.0 <= v)
 }
 
-/// The place of the pivot with the value `v`, if there is one.
-fn find(list: &[(i64, usize)], v: i64) -> Option<usize>
-    requires { IsRising list.now }
-    ensures { MatchOption result (IsNewValue v list.now) (λ place. Contains list.now (v, place)) }
-{
-    find_at(list, count_upto(list, v), v)
-}
-
-/// The same where the first `index` pivots have a value up to `v`, and the others have not.
+/// The place of the pivot with the value `v`, if there is one, where the first `index` pivots have a value up to `v`, and
+/// the others have not.
 fn find_at(list: &[(i64, usize)], index: usize, v: i64) -> Option<usize>
     requires rising { IsRising list.now }
     requires past { RisesPast v list.now index }
@@ -232,29 +235,6 @@ fn find_at(list: &[(i64, usize)], index: usize, v: i64) -> Option<usize>
     }
     let (value, place) = list[index - 1];
     if value == v { Some(place) } else { None }
-}
-
-/// The piece in which a row of the score `v` stands.
-fn piece_of(list: &[(i64, usize)], v: i64, rows_len: usize) -> (usize, usize)
-    requires { IsRising list.now }
-    ensures { IsPieceOf v list.now rows_len result }
-{
-    piece_at(list, count_upto(list, v), rows_len)
-}
-
-/// The piece below the pivot of the index `index`, or behind the last pivot.
-fn piece_at(list: &[(i64, usize)], index: usize, rows_len: usize) -> (usize, usize)
-    requires { index ≤ length list.now }
-    ensures start { result.0 ≡ piece_start list.now index }
-    ensures end { result.1 ≡ piece_end list.now index rows_len }
-{
-    let start = if index == 0 { 0 } else { list[index - 1].1 };
-    let end = if index < list.len() {
-        list[index].1
-    } else {
-        rows_len
-    };
-    (start, end)
 }
 
 /// Adds a pivot behind the first `index` ones, which have values up to its own.

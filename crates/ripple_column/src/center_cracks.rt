@@ -11,7 +11,6 @@ ghost use Rattle.score_bounds.specs.declared.bounds.Cut.TheVariants.{At};
 
 use crate::inner_cracks::{SAMPLE, crack_inside, parting_score_at, sample_of};
 use crate::pieces::Pieces;
-use crate::ripple::{place_or, start_below};
 use crack_kernel::{Pivots, Row};
 use score_bounds::Cut;
 use std::alloc::Allocator;
@@ -38,7 +37,8 @@ fn piece_len<A: Allocator>(pivots: &Pivots<A>, place: usize, rows_len: usize) ->
     if i > list.len() {
         return rows_len;
     }
-    place_or(list, i, rows_len).saturating_sub(start_below(list, i))
+    let (from, to) = pivots.piece_at(i, rows_len);
+    to.saturating_sub(from)
 }
 
 /// Whether pivots part the rows into short pieces, as far as a few of these tell.

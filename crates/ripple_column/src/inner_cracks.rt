@@ -9,7 +9,6 @@ use crate::cracked::Cracked;
 use crate::cracking::crack_at;
 use crate::pending_lists::PendingList;
 use crate::pieces::Pieces;
-use crate::ripple::{place_or, start_below};
 use crack_kernel::{MAX_PIVOTS, Row};
 use std::alloc::Allocator;
 
@@ -139,8 +138,7 @@ fn score_beside<A: Allocator>(cracked: &Cracked<A>, place: usize) -> Option<i64>
     if i > list.len() {
         return None;
     }
-    let from = start_below(list, i);
-    let to = place_or(list, i, cracked.rows.len());
+    let (from, to) = cracked.pivots.piece_at(i, cracked.rows.len());
     if from >= place || place >= to || to > cracked.rows.len() {
         return None;
     }

@@ -4,7 +4,7 @@
 //! The row is carried by swaps, so that all rows are there at each step. The pivots are shifted
 //! once, at the end.
 
-ghost use Rattle.std.specs.Prelude.{◌≡◌, ◌-◌, ◌<◌, ◌≤◌, ◌==◌, ◌++◌, ◌∷◌, [], pos, if◌then◌else◌, length, Contains, IsPermutation, slice_index_or, vec_len, vec_capacity};
+ghost use Rattle.std.specs.Prelude.{◌≡◌, ◌-◌, ◌<◌, ◌≤◌, ◌++◌, ◌∷◌, [], length, Contains, IsPermutation, vec_len, vec_capacity};
 ghost use Rattle.std.specs.List.{HoldsAt};
 ghost use Rattle.crack_kernel.specs.PivotList.{ObeysPivots};
 ghost use Rattle.ripple_column.specs.StandsWithin.{StandsWithin};
@@ -65,9 +65,8 @@ pub fn ripple_remove<A: Allocator>(
 {
     let first = pivots.count_upto(row.score());
     rows.expect_moves(pivots.len() - first, pivots.len());
-    let from = start_below(pivots.list(), first);
-    let to = place_or(pivots.list(), first, rows.len()).min(rows.len());
-    let likely = rows.find_between(from, to, row);
+    let (from, to) = pivots.piece_at(first, rows.len());
+    let likely = rows.find_between(from, to.min(rows.len()), row);
     carry_out(rows, pivots, row, likely)
 }
 
@@ -87,17 +86,16 @@ fn carry_out<A: Allocator>(
 {
     let list = pivots.list();
     let first = pivots.count_upto(row.score());
-    let from = start_below(list, first);
-    let to = place_or(list, first, rows.len());
+    let (from, to) = pivots.piece_at(first, rows.len());
     let at = place_between(rows.list(), likely, from, to, row);
     let mut hole = to - 1;
     rows.swap(hole, at);
     let mut i = first;
     while i < list.len() {
         i += 1;
-        let last = place_or(list, i, rows.len()) - 1;
-        rows.swap(last, hole);
-        hole = last;
+        let (_, end) = pivots.piece_at(i, rows.len());
+        rows.swap(end - 1, hole);
+        hole = end - 1;
     }
     pivots.shift(first, false);
     match rows.pop() {
@@ -143,19 +141,4 @@ fn first_between<A: Allocator>(rows: &[Row<A>], from: usize, to: usize, row: &Ro
         }
     }
     unreachable!()
-}
-
-/// The place of the pivot of index `i`, or `end` where there is none.
-pub fn place_or(list: &[(i64, usize)], i: usize, end: usize) -> usize
-    ensures { result ≡ (slice_index_or list.now i (pos 0, end)).1 }
-{
-    if i < list.len() { list[i].1 } else { end }
-}
-
-/// Where the piece below the pivot of index `i` begins.
-pub fn start_below(list: &[(i64, usize)], i: usize) -> usize
-    requires { i ≤ length list.now }
-    ensures { result ≡ (if i == 0 then 0 else (slice_index_or list.now (i - 1) (pos 0, 0)).1) }
-{
-    if i == 0 { 0 } else { list[i - 1].1 }
 }

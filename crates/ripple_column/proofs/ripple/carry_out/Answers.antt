@@ -1,10 +1,11 @@
-use Rattle.std.proofs.Common.{◌≡◌, ◌<◌, ◌≤◌, ◌+◌, ◌-◌, ℕ, ℤ, List, pos, length, get_or, sym, ap, ◌∙◌, false, arith, vec_len, Some, length-drop}
+use Rattle.std.proofs.Common.{◌≡◌, ◌<◌, ◌≤◌, ◌+◌, ◌-◌, ℕ, ℤ, List, pos, length, get_or, sym, ap, ◌∙◌, false, cond, eqb, arith, vec_len, Some, length-drop}
 use Rattle.std.proofs.lemmas.Int.{ints}
 use Rattle.std.proofs.lemmas.List.{get_or_past, get_or-drop}
 use Rattle.crack_kernel.specs.PivotList.{IsRising, RisesPast, shifted}
 use Rattle.crack_kernel.proofs.PivotOrder.{IsRising-shifted, length-shifted, values-shifted, RisesPast-same}
 use Rattle.ripple_column.specs.StandsWithin.{StandsWithin}
 use Rattle.ripple_column.specs.MergeGap.{AllParted}
+use Rattle.ripple_column.proofs.Carried.{start_is}
 use Rattle.ripple_column.proofs.Hole.{Removing, Removing-start, Removing-step, Removing-end, StandsWithin-piece, start_from, Places, Places-from_law, bound_within, bound_from}
 use Rattle.ripple_column.proofs.ripple.carry_out.Goals as goal
 use Rattle.ripple_column.proofs.ripple.carry_out.Goals.{In-Some}
@@ -18,9 +19,11 @@ place_between-at-requires-clause-there g c =
     let law : AllParted ps rows = rw same c.requires.law.parted in
     let past : RisesPast c.args.row.now.0 ps first = rw same (RisesPast-same _ _ _ _ (omega (arith, ints)) c.count_upto-first.ensures) in
     let long : c.len.result ≡ length rows = omega arith in
-    let to_is : c.place_or-to.result ≡ (get_or ps first (pos 0, length rows)).1 = c.place_or-to.ensures ∙ ap (λ (m : ℕ). (get_or ps first (pos 0, m)).1) long in
-    let s : StandsWithin c.args.row.now rows c.start_below-from.result (get_or ps first (pos 0, length rows)).1 =
-    StandsWithin-piece ps first c.start_below-from.result c.args.row.now rows law past c.requires.there c.start_below-from.ensures in
+    let to_at : c.piece_at-from.result.1 ≡ (get_or ps first (pos 0, c.len.result)).1 = rw same c.piece_at-from.ensures.end in
+    let to_is : c.piece_at-from.result.1 ≡ (get_or ps first (pos 0, length rows)).1 = to_at ∙ ap (λ (m : ℕ). (get_or ps first (pos 0, m)).1) long in
+    let from_is : c.piece_at-from.result.0 ≡ cond (eqb first 0) 0 (get_or ps (first - 1) (pos 0, 0)).1 = rw same (c.piece_at-from.ensures.start ∙ start_is c.args.pivots.now.list first) in
+    let s : StandsWithin c.args.row.now rows c.piece_at-from.result.0 (get_or ps first (pos 0, length rows)).1 =
+    StandsWithin-piece ps first c.piece_at-from.result.0 c.args.row.now rows law past c.requires.there from_is in
     rw (c.list.ensures, to_is) s
 
 pub place_between-at-requires-clause-within : goal.place_between-at-requires-clause-within
@@ -31,7 +34,8 @@ place_between-at-requires-clause-within g c =
     let law : AllParted ps rows = rw same c.requires.law.parted in
     let rising : IsRising ps = rw same c.requires.law.rising in
     let long : c.len.result ≡ length rows = omega arith in
-    let to_is : c.place_or-to.result ≡ (get_or ps c.count_upto-first.result (pos 0, length rows)).1 = c.place_or-to.ensures ∙ ap (λ (m : ℕ). (get_or ps c.count_upto-first.result (pos 0, m)).1) long in
+    let to_at : c.piece_at-from.result.1 ≡ (get_or ps c.count_upto-first.result (pos 0, c.len.result)).1 = rw same c.piece_at-from.ensures.end in
+    let to_is : c.piece_at-from.result.1 ≡ (get_or ps c.count_upto-first.result (pos 0, length rows)).1 = to_at ∙ ap (λ (m : ℕ). (get_or ps c.count_upto-first.result (pos 0, m)).1) long in
     let top = bound_within ps (length rows) c.count_upto-first.result (Places-from_law ps rows rising law) in
     rw (c.list.ensures, to_is) top
 
@@ -43,9 +47,10 @@ swap-requires-clause-i_in_bounds g c =
     let law : AllParted ps rows = rw same c.requires.law.parted in
     let rising : IsRising ps = rw same c.requires.law.rising in
     let long : c.len.result ≡ length rows = omega arith in
-    let to_is : c.place_or-to.result ≡ (get_or ps c.count_upto-first.result (pos 0, length rows)).1 = c.place_or-to.ensures ∙ ap (λ (m : ℕ). (get_or ps c.count_upto-first.result (pos 0, m)).1) long in
+    let to_at : c.piece_at-from.result.1 ≡ (get_or ps c.count_upto-first.result (pos 0, c.len.result)).1 = rw same c.piece_at-from.ensures.end in
+    let to_is : c.piece_at-from.result.1 ≡ (get_or ps c.count_upto-first.result (pos 0, length rows)).1 = to_at ∙ ap (λ (m : ℕ). (get_or ps c.count_upto-first.result (pos 0, m)).1) long in
     let top = bound_within ps (length rows) c.count_upto-first.result (Places-from_law ps rows rising law) in
-    let some : c.place_between-at.result < c.place_or-to.result = c.place_between-at.ensures.high in
+    let some : c.place_between-at.result < c.piece_at-from.result.1 = c.place_between-at.ensures.high in
     omega (arith, top, to_is)
 
 pub swap-requires-clause-j_in_bounds : goal.swap-requires-clause-j_in_bounds
@@ -56,9 +61,10 @@ swap-requires-clause-j_in_bounds g c =
     let law : AllParted ps rows = rw same c.requires.law.parted in
     let rising : IsRising ps = rw same c.requires.law.rising in
     let long : c.len.result ≡ length rows = omega arith in
-    let to_is : c.place_or-to.result ≡ (get_or ps c.count_upto-first.result (pos 0, length rows)).1 = c.place_or-to.ensures ∙ ap (λ (m : ℕ). (get_or ps c.count_upto-first.result (pos 0, m)).1) long in
+    let to_at : c.piece_at-from.result.1 ≡ (get_or ps c.count_upto-first.result (pos 0, c.len.result)).1 = rw same c.piece_at-from.ensures.end in
+    let to_is : c.piece_at-from.result.1 ≡ (get_or ps c.count_upto-first.result (pos 0, length rows)).1 = to_at ∙ ap (λ (m : ℕ). (get_or ps c.count_upto-first.result (pos 0, m)).1) long in
     let top = bound_within ps (length rows) c.count_upto-first.result (Places-from_law ps rows rising law) in
-    let some : c.place_between-at.result < c.place_or-to.result = c.place_between-at.ensures.high in
+    let some : c.place_between-at.result < c.piece_at-from.result.1 = c.place_between-at.ensures.high in
     omega (arith, top, to_is)
 
 pub loop-i-init : goal.loop-i-init
@@ -71,15 +77,17 @@ loop-i-init g c =
     let law : AllParted ps rows = rw same c.requires.law.parted in
     let rising : IsRising ps = rw same c.requires.law.rising in
     let long : c.len.result ≡ length rows = omega arith in
-    let to_is : c.place_or-to.result ≡ (get_or ps first (pos 0, length rows)).1 = c.place_or-to.ensures ∙ ap (λ (m : ℕ). (get_or ps first (pos 0, m)).1) long in
+    let to_at : c.piece_at-from.result.1 ≡ (get_or ps first (pos 0, c.len.result)).1 = rw same c.piece_at-from.ensures.end in
+    let to_is : c.piece_at-from.result.1 ≡ (get_or ps first (pos 0, length rows)).1 = to_at ∙ ap (λ (m : ℕ). (get_or ps first (pos 0, m)).1) long in
+    let from_is : c.piece_at-from.result.0 ≡ cond (eqb first 0) 0 (get_or ps (first - 1) (pos 0, 0)).1 = rw same (c.piece_at-from.ensures.start ∙ start_is c.args.pivots.now.list first) in
     let o : Places ps (length rows) = Places-from_law ps rows rising law in
     let fit : first ≤ length ps = rw same c.count_upto-first.ensures.within in
-    let high : at < c.place_or-to.result = c.place_between-at.ensures.high in
-    let low : c.start_below-from.result ≤ at = c.place_between-at.ensures.low in
-    let up : c.place_or-to.result - 1 + 1 ≡ c.place_or-to.result = omega arith in
+    let high : at < c.piece_at-from.result.1 = c.place_between-at.ensures.high in
+    let low : c.piece_at-from.result.0 ≤ at = c.place_between-at.ensures.low in
+    let up : c.piece_at-from.result.1 - 1 + 1 ≡ c.piece_at-from.result.1 = omega arith in
     record {
-      removing = Removing-start ps first at (c.place_or-to.result - 1) c.args.row.now rows c.swap.new.self.items o law fit
-          (λ k e lt. let h : (get_or ps k e).1 ≤ c.start_below-from.result = start_from ps (length rows) first c.start_below-from.result o fit c.start_below-from.ensures k e lt in omega arith)
+      removing = Removing-start ps first at (c.piece_at-from.result.1 - 1) c.args.row.now rows c.swap.new.self.items o law fit
+          (λ k e lt. let h : (get_or ps k e).1 ≤ c.piece_at-from.result.0 = start_from ps (length rows) first c.piece_at-from.result.0 o fit from_is k e lt in omega arith)
           (omega arith) (up ∙ to_is)
           (λ d. ap (λ (xs : List (ℤ × List ℕ)). get_or xs at d) (sym c.list.ensures) ∙ c.place_between-at.ensures.here d)
           c.swap.ensures.by_index c.swap.ensures.items;
@@ -92,7 +100,9 @@ swap-requires-in-loop-i-clause-i_in_bounds g c =
     let n : ℕ = length c.args.rows.now.items in
     let s = c.loop-i.invariant.removing in
     let lens : c.len-in-loop-i.result ≡ n = omega (arith, s.long) in
-    let last_is : c.place_or-last.result ≡ (get_or ps (c.loop-i.i + 1) (pos 0, n)).1 = c.place_or-last.ensures ∙ ap (λ (m : ℕ). (get_or ps (c.loop-i.i + 1) (pos 0, m)).1) lens in
+    let same : ps ≡ c.args.pivots.now.list = c.list-list.ensures.value in
+    let end_at : c.piece_at-end.result.1 ≡ (get_or ps (c.loop-i.i + 1) (pos 0, c.len-in-loop-i.result)).1 = rw same c.piece_at-end.ensures.end in
+    let last_is : c.piece_at-end.result.1 ≡ (get_or ps (c.loop-i.i + 1) (pos 0, n)).1 = end_at ∙ ap (λ (m : ℕ). (get_or ps (c.loop-i.i + 1) (pos 0, m)).1) lens in
     let top : (get_or ps (c.loop-i.i + 1) (pos 0, n)).1 ≤ n = bound_within ps n (c.loop-i.i + 1) s.places in
     let here : (get_or ps c.loop-i.i (pos 0, n)).1 ≤ n = bound_within ps n c.loop-i.i s.places in
     omega (arith, s.at, s.long)
@@ -103,11 +113,13 @@ loop-i-preserved g c =
     let n : ℕ = length c.args.rows.now.items in
     let s = c.loop-i.invariant.removing in
     let lens : c.len-in-loop-i.result ≡ n = omega (arith, s.long) in
-    let last_is : c.place_or-last.result ≡ (get_or ps (c.loop-i.i + 1) (pos 0, n)).1 = c.place_or-last.ensures ∙ ap (λ (m : ℕ). (get_or ps (c.loop-i.i + 1) (pos 0, m)).1) lens in
+    let same : ps ≡ c.args.pivots.now.list = c.list-list.ensures.value in
+    let end_at : c.piece_at-end.result.1 ≡ (get_or ps (c.loop-i.i + 1) (pos 0, c.len-in-loop-i.result)).1 = rw same c.piece_at-end.ensures.end in
+    let last_is : c.piece_at-end.result.1 ≡ (get_or ps (c.loop-i.i + 1) (pos 0, n)).1 = end_at ∙ ap (λ (m : ℕ). (get_or ps (c.loop-i.i + 1) (pos 0, m)).1) lens in
     let low : (get_or ps c.loop-i.i (pos 0, n)).1 ≤ (get_or ps (c.loop-i.i + 1) (pos 0, n)).1 = bound_from ps n c.loop-i.i (c.loop-i.i + 1) (pos 0, n) s.places (omega arith) c.loop-i-test.true in
-    let up : c.place_or-last.result - 1 + 1 ≡ c.place_or-last.result = omega (arith, s.at) in
+    let up : c.piece_at-end.result.1 - 1 + 1 ≡ c.piece_at-end.result.1 = omega (arith, s.at) in
     record {
-      removing = Removing-step ps n c.count_upto-first.result c.loop-i.i c.loop-i.hole (c.place_or-last.result - 1) c.args.row.now _ c.loop-i.rows.items c.swap-in-loop-i.new.self.items
+      removing = Removing-step ps n c.count_upto-first.result c.loop-i.i c.loop-i.hole (c.piece_at-end.result.1 - 1) c.args.row.now _ c.loop-i.rows.items c.swap-in-loop-i.new.self.items
           s c.loop-i-test.true (up ∙ last_is) c.swap-in-loop-i.ensures.by_index c.swap-in-loop-i.ensures.items;
       capacity = c.swap-in-loop-i.ensures.capacity ∙ c.loop-i.invariant.capacity;
     }
