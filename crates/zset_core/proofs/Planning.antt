@@ -1,16 +1,17 @@
 -- What a set keeps of its column as it prepares a command.
-use Rattle.std.proofs.Common.{◌≡◌, ◌≤◌, ◌+◌, inl, inr, max, true, ℕ, ℤ, List, [], ◌∷◌, map, length, take, count_by, Option, None, Some, refl, sym, ap, subst, ◌∙◌, arith}
+use Rattle.std.proofs.Common.{◌≡◌, ◌≤◌, ◌+◌, inl, inr, max, true, false, ℕ, ℤ, List, [], ◌∷◌, map, length, take, count_by, Option, None, Some, Result, Ok, Err, is_ok, refl, sym, ap, subst, ◌∙◌, arith}
+use Rattle.std.proofs.lemmas.Bool.{true≢false}
 use Rattle.std.specs.FinMap as fin
 use Rattle.resp_wire.specs.Response.{Response}
-use Rattle.ripple_column.specs.Content.{ColumnState, Holds, SameContent, IsUnchanged, most_pending}
+use Rattle.ripple_column.specs.Content.{ColumnState, Holds, SameContent}
 use Rattle.zset_core.specs.SortedSet.{Members, pairs}
 use Rattle.zset_core.specs.MembersWithStagedScores.{Entry, current_score, staged_score, rows_by, members_by, names_at, IsBack, IsSettled}
 use Rattle.zset_core.specs.RowEdits.{most_edits}
 use Rattle.zset_core.specs.ChangeEffect.{moved_names, names_in}
 use Rattle.zset_core.specs.Plan.{Moves, MovesTo, NeedsAtMost, Plans, Prepares, edited_by, left_by, range_of, rows_coming, rows_leaving}
 use Rattle.zset_core.specs.ChangeOutline.{IsOutline}
-use Rattle.zset_core.specs.CommandEffectsOnColumn.{changes_named, edit_count, edits_of, names_members}
-use Rattle.zset_core.specs.AbstractCommand.{Change, Changes, Meaning, range_to_remove}
+use Rattle.zset_core.specs.CommandEffectsOnColumn.{MakesReady, MakesRoom, PreparesColumn}
+use Rattle.zset_core.specs.AbstractCommand.{Change, Add, Increase, Remove, RemoveRange, Changes, Meaning, range_to_remove}
 use Rattle.zset_core.specs.SetAndOwnerViews.{SetView, Next}
 use Rattle.zset_core.specs.SetViewAndInvariant.{view_of, next_of, IsIdle, IsPlanned, IsReadyForPlan, IsSound}
 use Rattle.zset_core.specs.declared.set.plan.Plan.{Plan}
@@ -61,8 +62,8 @@ module _ {A : Type 0} where
       ]
 
   -- a column with room for so many rows has room for these
-  pub room_fits : (old new : ColumnState) (plan : Plan A) (n room : ℕ) → NeedsAtMost n plan → (most_pending old + max (rows_coming plan) (rows_leaving plan) ≤ room → IsUnchanged old new) → most_pending old + n ≤ room → IsUnchanged old new
-  room_fits old new plan n room most still fits = still (omega (arith, most.coming, most.leaving, fits))
+  pub room_fits : (old new : ColumnState) (plan : Plan A) (n : ℕ) → NeedsAtMost n plan → MakesRoom (max (rows_coming plan) (rows_leaving plan)) old new → MakesRoom n old new
+  room_fits old new plan n most room = record { pivots = room.pivots; still = λ fits. room.still (omega (arith, most.coming, most.leaving, fits)) }
 
   pub column_shown : (es : List Entry) (c : ColumnState) (p : Option (Prepared A)) (v : SetView) → view_of es c p ≡ v → c ≡ v.column
   column_shown es c None v is = ap (λ (w : SetView). w.column) is
@@ -120,16 +121,27 @@ module _ {A : Type 0} where
     content = λ t. p.content t ∙ ap (λ (rows : List (List ℕ × ℤ)). count_by t (pairs (fin.from_entries rows))) (sym is);
   }
 
--- the same of the column and the members that show
-pub still_shown : (a b new : ColumnState) (m n : Members) (meaning : Meaning) (room : ℕ) → a ≡ b → m ≡ n → (most_pending a + edit_count m meaning ≤ room → IsUnchanged a new) → most_pending b + edit_count n meaning ≤ room → IsUnchanged b new
-still_shown a b new m n meaning room columns sets still =
-    subst (λ (c : ColumnState). most_pending c + edit_count n meaning ≤ room → IsUnchanged c new) columns
-    (subst (λ (k : Members). most_pending a + edit_count k meaning ≤ room → IsUnchanged a new) sets still)
+-- a column that is left needs no room
+pub room_left : (c : ColumnState) (n : ℕ) → MakesRoom n c c
+room_left c n = record { pivots = refl; still = λ fits. record { rows = refl; pivots = refl; insertions = refl; deletions = refl } }
 
--- and of the command that a change is of
-pub still_asked : (a new : ColumnState) (m : Members) (meaning : Meaning) (key : List ℕ) (change : Change) (room : ℕ) → meaning ≡ Changes key change
-    → (names_members change ≡ true → most_pending a + edits_of m change ≤ room → IsUnchanged a new) → changes_named meaning ≡ true → most_pending a + edit_count m meaning ≤ room → IsUnchanged a new
-still_asked a new m meaning key change room is still = subst (λ (k : Meaning). changes_named k ≡ true → most_pending a + edit_count m k ≤ room → IsUnchanged a new) (sym is) still
+-- a change is prepared, whatever is told of it then
+pub ready_told : {T U E F : Type 0} (change : Change) (m : Members) (r : Result T E) (s : Result U F) (old new : ColumnState) → is_ok r ≡ is_ok s → MakesReady change m r old new → MakesReady change m s old new
+ready_told (Add flags changed pairs) m r s old new alike h = h
+ready_told (Increase flags given member) m r s old new alike h = h
+ready_told (Remove names) m r s old new alike h = h
+ready_told (RemoveRange range) m (Ok t) (Ok u) old new alike h = h
+ready_told (RemoveRange range) m (Err e) (Err f) old new alike h = h
+ready_told (RemoveRange range) m (Ok t) (Err f) old new alike h = absurd (true≢false alike)
+ready_told (RemoveRange range) m (Err e) (Ok u) old new alike h = absurd (true≢false (sym alike))
+
+-- the same of the column and the members that show, and of the command that a change is of
+pub ready_shown : {T U E F : Type 0} (a b new : ColumnState) (m n : Members) (meaning : Meaning) (key : List ℕ) (change : Change) (r : Result T E) (s : Result U F)
+    → a ≡ b → m ≡ n → meaning ≡ Changes key change → is_ok r ≡ is_ok s → MakesReady change m r a new → PreparesColumn meaning n s b new
+ready_shown a b new m n meaning key change r s columns sets is alike h =
+    subst (λ (k : Meaning). PreparesColumn k n s b new) (sym is)
+    (subst (λ (c : ColumnState). MakesReady change n s c new) columns
+    (subst (λ (k : Members). MakesReady change k s a new) sets (ready_told change m r s a new alike h)))
 
 pub empty_list : {X : Type 0} (xs : List X) → length xs ≡ 0 → xs ≡ []
 empty_list [] h = refl

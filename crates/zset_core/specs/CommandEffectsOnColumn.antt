@@ -1,11 +1,11 @@
 -- What commands do to the column of a set.
-use Rattle.std.specs.Prelude.{Option, None, Some, ◌≡◌, ℕ, ◌-◌, Bool, true, false, List, ℤ, option_map, unwrap_or}
+use Rattle.std.specs.Prelude.{Option, None, Some, Result, MatchResult, ◌≡◌, ℕ, ◌+◌, ◌-◌, ◌≤◌, Bool, true, false, List, ℤ, option_map, unwrap_or}
 use Rattle.std.specs.FinMap as fin
 use Rattle.score_bounds.specs.declared.bounds.Range.{Range}
 use Rattle.ripple_column.specs.RangeAnswer.{AddsCuts, HasAnswer, low_cut, high_cut}
 use Rattle.ripple_column.specs.RangeEffects.{Selects}
-use Rattle.ripple_column.specs.Content.{ColumnState, IsUnchanged, SameOutside}
-use Rattle.ripple_column.specs.CutPivots.{is_before}
+use Rattle.ripple_column.specs.Content.{ColumnState, IsUnchanged, SameOutside, max_pending, most_pending}
+use Rattle.ripple_column.specs.CutPivots.{is_before, values}
 use Rattle.zset_core.specs.SortedSet.{Members}
 use Rattle.zset_core.specs.AbstractCommand.{Meaning, Ping, Asks, Changes, Question, Score, Card, Count, ListRange, Change, Add, Increase, Remove, RemoveRange}
 use Rattle.zset_core.specs.Semantics.{outcome_of, counted, count_all, sum_of, remove_all}
@@ -37,10 +37,25 @@ edits_of members (Increase flags given member) = increase_edits flags members me
 edits_of members (Remove names) = fin.len members - fin.len (remove_all members names)
 edits_of members (RemoveRange range) = 0
 
-abbrev pub edit_count : Members → Meaning → ℕ
-edit_count members (Ping text) = 0
-edit_count members (Asks key question) = 0
-edit_count members (Changes key change) = edits_of members change
+-- room is made for edits: what waits is merged only where so many edits would not fit beside the longer of the two lists that
+-- wait, and a merge moves the pivots' places and not their values
+pub record MakesRoom (edits : ℕ) (old new : ColumnState) : Type 0 where
+  pub pivots : values new.pivots ≡ values old.pivots
+  pub still : most_pending old + edits ≤ max_pending → IsUnchanged old new
+
+-- a change of a set with these members is prepared, or refused. ZADD and ZREM make room for their edits, refused too;
+-- ZREMRANGEBYSCORE asks the column for its range, which merges and cracks there alone, and refused it changes nothing
+abbrev pub MakesReady : {T E : Type 0} → Change → Members → Result T E → ColumnState → ColumnState → Type 0
+MakesReady (Add flags changed pairs) members result old new = MakesRoom (edits_of members (Add flags changed pairs)) old new
+MakesReady (Increase flags given member) members result old new = MakesRoom (edits_of members (Increase flags given member)) old new
+MakesReady (Remove names) members result old new = MakesRoom (edits_of members (Remove names)) old new
+MakesReady (RemoveRange range) members result old new = MatchResult result (λ _. Selects range old new) (λ _. IsUnchanged old new)
+
+-- what becomes of the column of a set as a command is prepared in it
+abbrev pub PreparesColumn : {T E : Type 0} → Meaning → Members → Result T E → ColumnState → ColumnState → Type 0
+PreparesColumn (Ping text) members result old new = IsUnchanged old new
+PreparesColumn (Asks key question) members result old new = IsUnchanged old new
+PreparesColumn (Changes key change) members result old new = MakesReady change members result old new
 
 -- a window of a range is to be listed: the column gets its answer for the range, as where the range alone is asked for, and rows
 -- may move between the pivots

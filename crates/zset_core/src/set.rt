@@ -8,10 +8,9 @@ ghost use Rattle.zset_core.specs.AbstractCommand.{is_writing, range_to_remove};
 ghost use Rattle.zset_core.specs.ChangeEffect.{prepared_effect};
 ghost use Rattle.zset_core.specs.ChangeOutline.{IsOutline};
 ghost use Rattle.zset_core.specs.Refusal.{IsRefused};
-ghost use Rattle.ripple_column.specs.Content.{Holds, IsUnchanged, most_pending};
-ghost use Rattle.ripple_column.specs.CutPivots.{values};
-ghost use Rattle.ripple_column.specs.RangeEffects.{Selects, TakesOut};
-ghost use Rattle.zset_core.specs.CommandEffectsOnColumn.{changes_named, edit_count};
+ghost use Rattle.ripple_column.specs.Content.{Holds};
+ghost use Rattle.ripple_column.specs.RangeEffects.{TakesOut};
+ghost use Rattle.zset_core.specs.CommandEffectsOnColumn.{PreparesColumn, changes_named};
 ghost use Rattle.zset_core.specs.RowEdits.{most_edits};
 ghost use Rattle.zset_core.specs.SortedSet.{pairs};
 ghost use Rattle.zset_core.specs.Semantics.{step};
@@ -39,7 +38,7 @@ use crate::set::members_with_staged_scores::MemberMap;
 use crate::set::plan::{Plan, make_plan};
 use indexmap::IndexMap;
 use resp_wire::Reply;
-use ripple_column::{Column, MAX_PENDING};
+use ripple_column::Column;
 use std::alloc::{AllocError, Allocator};
 use std::hash::BuildHasher;
 use std::marker::Model;
@@ -132,36 +131,28 @@ impl<H: BuildHasher, A: Allocator + Copy> ZSet<H, A> {
 
     /// Prepares a command that changes sets: takes all the memory that it needs, and leaves the
     /// members as they are until `commit` or `drop_prepared`. The outline tells how many members it
-    /// will add and take out, and whether it changes the set. The column may merge what waits, to make
-    /// room, and is cracked for ZREMRANGEBYSCORE, which takes no memory for the members that leave.
-    /// Refused when out of memory, or where a sum of INCR is no score; nothing is prepared then.
+    /// will add and take out, and whether it changes the set. ZREMRANGEBYSCORE takes no memory for the
+    /// members that leave. Refused when out of memory, or where a sum of INCR is no score; nothing is
+    /// prepared then.
     pub fn prepare(&mut self, command: &Command<A>) -> Result<Outline, Refusal>
         requires idle { self.old.next ≡ None }
         requires writing { IsTrue (is_writing command.now.meaning) }
-        ensures members { self.new.members ≡ self.old.members }
         ensures ok { OnOk result (IsPreparedFor self.old.members command.now.meaning self.new.next) }
         ensures outline { IfOk result
             (λ outline. IfSome self.new.next
             (λ next. IsOutline outline self.old.members next.members)) }
         ensures few { IfOk result (λ outline. outline.added ≤ most_edits) }
+
+        // Prepared or refused, the members stay. The column merges what waits where ZADD or ZREM needs
+        // room, and is cracked at the range of ZREMRANGEBYSCORE, unless that is refused.
+        ensures members { self.new.members ≡ self.old.members }
+        ensures column { PreparesColumn command.now.meaning self.old.members result
+            self.old.column self.new.column }
+
+        // Refused.
         ensures refused { IfErr result
             (λ refusal. IsRefused refusal (step self.old.members command.now.meaning)) }
         ensures err { OnErr result (self.new.next ≡ None) }
-
-        // ZADD and ZREM, which name members (`changes_named`), merge what waits only where their own edits,
-        // `edit_count` of them, would not fit beside the longer of the two lists that wait
-        // (`most_pending`). A merge moves the pivots' places, and not their `values`.
-        ensures values { changes_named command.now.meaning ≡ true
-            → values self.new.column.pivots ≡ values self.old.column.pivots }
-        ensures still { changes_named command.now.meaning ≡ true → most_pending self.old.column
-            + edit_count self.old.members command.now.meaning ≤ MAX_PENDING
-            → IsUnchanged self.old.column self.new.column }
-
-        // ZREMRANGEBYSCORE asks the column for its range, which merges and cracks there alone.
-        ensures selected { OnOk result (IfSome (range_to_remove command.now.meaning)
-            (λ range. Selects range self.old.column self.new.column)) }
-        ensures unselected { OnErr result (IfSome (range_to_remove command.now.meaning)
-            (λ range. IsUnchanged self.old.column self.new.column)) }
     {
         let words = command.request().words();
         let Form::Changes(change) = command.form() else {

@@ -1,15 +1,13 @@
 //! What is prepared in a set, and how the plan for it is made.
-ghost use Rattle.std.specs.Prelude.{◌≡◌, ◌+◌, ◌-◌, ◌<◌, ◌≤◌, ◌∷◌, [], true, max, length, take, pos, IfOk, IfErr, IfSome, None, OnOk, OnErr, IsTrue};
+ghost use Rattle.std.specs.Prelude.{◌≡◌, ◌+◌, ◌-◌, ◌<◌, ◌≤◌, ◌∷◌, [], true, max, length, take, pos, IfOk, IfErr, None, OnOk, OnErr, IsTrue};
 ghost use Rattle.std.specs.FinMap as map;
 ghost use Rattle.resp_wire.specs.Response.{Integer, response_of};
-ghost use Rattle.ripple_column.specs.RangeEffects.{Selects};
-ghost use Rattle.zset_core.specs.CommandEffectsOnColumn.{names_members, edits_of, increase_edits};
+ghost use Rattle.zset_core.specs.CommandEffectsOnColumn.{MakesReady, MakesRoom, edits_of, increase_edits, names_members};
 ghost use Rattle.zset_core.specs.Semantics.{counted, outcome_of, put_one, put_all, count_all, remove_all, increase_reply, increase, changed_by};
 ghost use Rattle.zset_core.specs.AbstractCommand.{range_of_change};
 ghost use Rattle.zset_core.specs.CommandGrammar.{most_arguments};
 ghost use Rattle.zset_core.specs.ParsedArguments.{change_of, given_pairs, IsWholeChange};
-ghost use Rattle.ripple_column.specs.Content.{Holds, IsUnchanged, SameContent, most_pending};
-ghost use Rattle.ripple_column.specs.CutPivots.{values};
+ghost use Rattle.ripple_column.specs.Content.{Holds, SameContent};
 ghost use Rattle.zset_core.specs.RowEdits.{most_edits};
 ghost use Rattle.zset_core.specs.MembersWithStagedScores.{current_score, staged_score, rows_by, members_by, IsSettled, IsBack, IsWaiting, Grows};
 ghost use Rattle.zset_core.specs.SortedSet.{names_of, pairs};
@@ -29,7 +27,7 @@ use crate::set::member_removal::plan_remove;
 use crate::set::members_with_staged_scores::{MemberMap, score_of};
 use crate::set::range_removal::plan_range;
 use resp_wire::{Bytes, Reply};
-use ripple_column::{Column, MAX_PENDING};
+use ripple_column::Column;
 use score_bounds::Range;
 use std::alloc::{AllocError, Allocator};
 use std::collections::BTreeSet;
@@ -269,10 +267,7 @@ fn make_room<H: BuildHasher, A: Allocator + Copy>(
     ensures content { SameContent column.old column.new }
     ensures ok { IfOk result (λ kept. (kept ≡ plan) × (members.new ≡ members.old)) }
     ensures room { OnOk result (HasRoom column.new plan) }
-    ensures values { values column.new.pivots ≡ values column.old.pivots }
-    ensures still { most_pending column.old
-        + max (rows_coming plan) (rows_leaving plan) ≤ MAX_PENDING
-        → IsUnchanged column.old column.new }
+    ensures column { MakesRoom (max (rows_coming plan) (rows_leaving plan)) column.old column.new }
     ensures current { OnErr result (rows_by current_score members.new.entries
         ≡ take plan.draft.kept (rows_by current_score members.old.entries)) }
     ensures settled { OnErr result (IsSettled members.new.entries) }
@@ -307,10 +302,9 @@ fn plan_named<H: BuildHasher, A: Allocator + Copy>(
         (names_of_change (change_of words.now change.now))
         (changed_by (members_by current_score members.old.entries) (change_of words.now change.now))) }
     ensures content { SameContent column.old column.new }
-    ensures values { values column.new.pivots ≡ values column.old.pivots }
-    ensures still { most_pending column.old
-        + edits_of (members_by current_score members.old.entries) (change_of words.now change.now) ≤ MAX_PENDING
-        → IsUnchanged column.old column.new }
+    ensures column { MakesRoom
+        (edits_of (members_by current_score members.old.entries) (change_of words.now change.now))
+        column.old column.new }
     ensures err { OnErr result (IsBack members.old.entries members.new.entries) }
     ensures refused { IfErr result
         (λ refusal. IsRefused refusal
@@ -341,15 +335,8 @@ pub fn make_plan<H: BuildHasher, A: Allocator + Copy>(
         (names_of_change (change_of words.now change.now))
         (changed_by (members_by current_score members.old.entries) (change_of words.now change.now))) }
     ensures content { SameContent column.old column.new }
-    ensures values { names_members (change_of words.now change.now) ≡ true
-        → values column.new.pivots ≡ values column.old.pivots }
-    ensures still { names_members (change_of words.now change.now) ≡ true → most_pending column.old
-        + edits_of (members_by current_score members.old.entries) (change_of words.now change.now) ≤ MAX_PENDING
-        → IsUnchanged column.old column.new }
-    ensures selected { OnOk result (IfSome (range_of_change (change_of words.now change.now))
-        (λ range. Selects range column.old column.new)) }
-    ensures unselected { OnErr result (IfSome (range_of_change (change_of words.now change.now))
-        (λ range. IsUnchanged column.old column.new)) }
+    ensures column { MakesReady (change_of words.now change.now)
+        (members_by current_score members.old.entries) result column.old column.new }
     ensures err { OnErr result (IsBack members.old.entries members.new.entries) }
     ensures refused { IfErr result
         (λ refusal. IsRefused refusal

@@ -1,12 +1,13 @@
-use Rattle.std.proofs.Common.{◌∙◌, refl, sym, ap, subst, List, ℕ}
-use Rattle.ripple_column.specs.Content.{ColumnState, IsUnchanged}
+use Rattle.std.proofs.Common.{◌∙◌, refl, sym, ap, subst, is_ok, List, ℕ}
+use Rattle.std.proofs.lemmas.Result.{err_from_is_err_and}
+use Rattle.zset_core.specs.CommandEffectsOnColumn.{PreparesColumn}
 use Rattle.zset_core.specs.AbstractCommand.{Asked, Changes, Meaning, range_to_remove}
 use Rattle.zset_core.specs.ChangeEffect.{names_in}
 use Rattle.zset_core.specs.ParsedArguments.{change_of, meaning_of, word_at}
 use Rattle.zset_core.specs.Plan.{Moves}
 use Rattle.zset_core.specs.MembersWithStagedScores.{current_score, members_by}
 use Rattle.zset_core.specs.Semantics.{changed_by}
-use Rattle.zset_core.proofs.Planning.{IsIdle-of, IsPlanned-made, members_idle, outline_left, few_added, column_shown, still_asked, still_shown, IsSound-back}
+use Rattle.zset_core.proofs.Planning.{IsIdle-of, IsPlanned-made, members_idle, outline_left, few_added, column_shown, ready_shown, IsSound-back}
 use Rattle.zset_core.proofs.set.ZSet.prepare.Goals as goal
 
 pub invariant_of-self-2 : goal.invariant_of-self-2
@@ -38,8 +39,8 @@ invariant_of-self g c =
     IsSound-back c.self.inside.members.entries c.make_plan.new.members.entries c.self.inside.column c.make_plan.new.column c.self.inside.prepared c.args.self.now c.self.view_is c.requires.idle c.self.invariant
     c.in_err-plan.ensures.err c.in_err-plan.ensures.content
 
-pub returns-in_err-plan-clause-still : goal.returns-in_err-plan-clause-still
-returns-in_err-plan-clause-still g c named fits =
+pub returns-in_err-plan-clause-column : goal.returns-in_err-plan-clause-column
+returns-in_err-plan-clause-column g c =
     let es = c.self.inside.members.entries in
     let column = c.self.inside.column in
     let shown = c.args.self.now in
@@ -47,13 +48,13 @@ returns-in_err-plan-clause-still g c named fits =
     let change = change_of c.words-words.result.now c.in-Changes.change in
     let same = c.words-words.ensures.words ∙ c.request.ensures.request in
     let is = c.form.ensures.meaning ∙ ap (meaning_of words) c.in-Changes.is ∙ ap (λ (read : List (List ℕ)). Changes (word_at words 1) (change_of read c.in-Changes.change)) (sym same) in
-    subst (λ (new : ColumnState). IsUnchanged shown.column new) (column_shown c.make_plan.new.members.entries c.make_plan.new.column c.self.inside.prepared _ refl)
-    (still_shown column shown.column c.make_plan.new.column (members_by current_score es) shown.members c.args.command.now.meaning _
-    (column_shown es column c.self.inside.prepared shown c.self.view_is) (members_idle es column c.self.inside.prepared shown c.self.view_is c.requires.idle)
-    (still_asked column c.make_plan.new.column (members_by current_score es) c.args.command.now.meaning (word_at words 1) change _ is c.in_err-plan.ensures.still named) fits)
+    let p = err_from_is_err_and c.from_residual.result c.from_residual.ensures.1 in
+    subst (PreparesColumn c.args.command.now.meaning shown.members c.from_residual.result shown.column) (column_shown c.make_plan.new.members.entries c.make_plan.new.column c.self.inside.prepared _ refl)
+    (ready_shown column shown.column c.make_plan.new.column (members_by current_score es) shown.members c.args.command.now.meaning (word_at words 1) change _ c.from_residual.result
+    (column_shown es column c.self.inside.prepared shown c.self.view_is) (members_idle es column c.self.inside.prepared shown c.self.view_is c.requires.idle) is (sym (ap is_ok p.1)) c.in_err-plan.ensures.column)
 
-pub returns-clause-still : goal.returns-clause-still
-returns-clause-still g c named =
+pub returns-clause-column : goal.returns-clause-column
+returns-clause-column g c =
     let es = c.self.inside.members.entries in
     let column = c.self.inside.column in
     let shown = c.args.self.now in
@@ -61,6 +62,5 @@ returns-clause-still g c named =
     let change = change_of c.words-words.result.now c.in-Changes.change in
     let same = c.words-words.ensures.words ∙ c.request.ensures.request in
     let is = c.form.ensures.meaning ∙ ap (meaning_of words) c.in-Changes.is ∙ ap (λ (read : List (List ℕ)). Changes (word_at words 1) (change_of read c.in-Changes.change)) (sym same) in
-    still_shown column shown.column c.make_plan.new.column (members_by current_score es) shown.members c.args.command.now.meaning _
-    (column_shown es column c.self.inside.prepared shown c.self.view_is) (members_idle es column c.self.inside.prepared shown c.self.view_is c.requires.idle)
-    (still_asked column c.make_plan.new.column (members_by current_score es) c.args.command.now.meaning (word_at words 1) change _ is c.make_plan.ensures.still named)
+    ready_shown column shown.column c.make_plan.new.column (members_by current_score es) shown.members c.args.command.now.meaning (word_at words 1) change _ _
+    (column_shown es column c.self.inside.prepared shown c.self.view_is) (members_idle es column c.self.inside.prepared shown c.self.view_is c.requires.idle) is refl c.in_ok-plan.ensures.column
