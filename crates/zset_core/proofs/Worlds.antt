@@ -17,7 +17,7 @@ use Rattle.zset_core.specs.SetAndOwnerViews.{SetView, Next, Shows, IsPreparedFor
 use Rattle.zset_core.specs.ChangeOutline.{IsOutline}
 use Rattle.zset_core.specs.declared.set.change_outline.Outline.{Outline}
 use Rattle.zset_core.specs.SetsByKey.{World, is_empty, set_at, put_set}
-use Rattle.zset_core.specs.OwnerViewAndInvariant.{Keyed, world_of, set_in, IsResting, AllRest, OthersRest, next_at, IsAfter}
+use Rattle.zset_core.specs.OwnerViewAndInvariant.{Keyed, world_of, set_in, IsResting, AllRest, OthersRest, next_at, IsAfter, RunsAt, PreparesAt}
 use Rattle.zset_core.proofs.Bridge.{total, exact}
 use Rattle.std.proofs.Common.{IfOk, IfErr}
 use Rattle.resp_wire.specs.Response.{Response}
@@ -256,3 +256,11 @@ module _ {A : Type 0} where
       by : (o : Option Next) → IfSome o (λ next. (w.members ≡ next.members) × (reply ≡ next.reply)) → IfSome (option_map (keyed k) o) (λ next. (end ≡ put_set (world_of es) k next.1.members) × (reply ≡ next.1.reply))
       by None h = tt
       by (Some next) h = (after ∙ ap (put_set (world_of es) k) h.0, h.1)
+
+-- ---- a refusal that leaves the entries
+module _ {B : Type 0} where
+  pub prepares_not : (es : List (Keyed B)) (k : List ℕ) (c : Meaning) (r : Refusal) → AllRest es → IsRefused r (act_at (world_of es) (Some k) c) → PreparesAt k c (Err r) es es
+  prepares_not es k c r rest h = record { world = refl; ready = tt; outline = tt; others = others_of es k rest; refused = h; err = rest }
+
+  pub runs_not : {A : Type 0} (es : List (Keyed B)) (k : List ℕ) (c : Meaning) (r : Refusal) → AllRest es → IsRefused r (act_at (world_of es) (Some k) c) → RunsAt {A = A} k c (Err r) es es
+  runs_not es k c r rest h = record { ok = tt; err = refl; refused = h; rest = rest }

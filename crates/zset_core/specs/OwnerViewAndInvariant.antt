@@ -1,5 +1,5 @@
 -- The entries of an owner's tree, and what callers see of them.
-use Rattle.std.specs.Prelude.{◌≡◌, ℕ, false, List, [], ◌∷◌, map, Option, None, Some, IfSome, IsSome, if◌then◌else◌, option_map, option_and_then}
+use Rattle.std.specs.Prelude.{◌≡◌, ℕ, false, List, [], ◌∷◌, map, Option, None, Some, IfSome, IsSome, if◌then◌else◌, option_map, option_and_then, Result, IfOk, IfErr, OnOk, OnErr}
 use Rattle.std.specs.Map.{lookup, keys_of}
 use Rattle.std.specs.List.Sorted.{IsStrictlySortedBy}
 use Rattle.std.specs.Ordering.{is_eq}
@@ -8,9 +8,16 @@ use Rattle.std.specs.FinMap as fin
 use Rattle.std.specs.declared.vec.Vec.{Vec}
 use Rattle.std.specs.declared.snapshot.Snapshot.{Snapshot}
 use Rattle.zset_core.specs.SortedSet.{bytes_cmp}
-use Rattle.zset_core.specs.AbstractCommand.{Asked, key_of}
-use Rattle.zset_core.specs.SetAndOwnerViews.{SetView, Next, OwnerView}
-use Rattle.zset_core.specs.SetsByKey.{World, is_empty, put_set}
+use Rattle.resp_wire.specs.Response.{response_of}
+use Rattle.resp_wire.specs.declared.reply.Reply.{Reply}
+use Rattle.zset_core.specs.AbstractCommand.{Asked, Meaning, key_of}
+use Rattle.zset_core.specs.ChangeOutline.{IsOutline}
+use Rattle.zset_core.specs.Refusal.{IsRefused}
+use Rattle.zset_core.specs.Semantics.{act_at}
+use Rattle.zset_core.specs.SetAndOwnerViews.{SetView, Next, OwnerView, IsPreparedAt}
+use Rattle.zset_core.specs.SetsByKey.{World, is_empty, put_set, set_at}
+use Rattle.zset_core.specs.declared.refusal.Refusal.{Refusal}
+use Rattle.zset_core.specs.declared.set.change_outline.Outline.{Outline}
 
 abbrev pub Keyed : Type 0 → Type 0
 Keyed A = Vec ℕ A × SetView
@@ -67,3 +74,19 @@ owner_view entries (Some asked) = record { world = world_of entries; next = next
 abbrev pub IsOwned : {A : Type 0} → List (Keyed A) → Option (Snapshot Asked) → Type 0
 IsOwned entries None = AllRest entries
 IsOwned entries (Some asked) = IsHeld entries (key_of asked.value.meaning)
+
+-- a command was run on the set at a key, or refused
+pub record RunsAt {A B : Type 0} (key : List ℕ) (meaning : Meaning) (result : Result (Reply A) Refusal) (old new : List (Keyed B)) : Type 0 where
+  pub ok : IfOk result (λ reply. act_at (world_of old) (Some key) meaning ≡ Some (world_of new, response_of reply))
+  pub err : OnErr result (world_of new ≡ world_of old)
+  pub refused : IfErr result (λ refusal. IsRefused refusal (act_at (world_of old) (Some key) meaning))
+  pub rest : AllRest new
+
+-- a command was prepared in the set at a key, or refused
+pub record PreparesAt {B : Type 0} (key : List ℕ) (meaning : Meaning) (result : Result Outline Refusal) (old new : List (Keyed B)) : Type 0 where
+  pub world : world_of new ≡ world_of old
+  pub ready : OnOk result (IsPreparedAt (world_of old) (Some key) meaning (next_at new (Some key)))
+  pub outline : IfOk result (λ outline. IfSome (next_at new (Some key)) (λ next. IsOutline outline (set_at (world_of old) next.0) next.1.members))
+  pub others : OthersRest key new
+  pub refused : IfErr result (λ refusal. IsRefused refusal (act_at (world_of old) (Some key) meaning))
+  pub err : OnErr result (AllRest new)

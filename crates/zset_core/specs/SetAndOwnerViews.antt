@@ -1,12 +1,15 @@
 -- What callers see of a set and of an owner: the members, and, while a command is prepared, what it asks for and what its commit will leave and reply; of a set also its column.
-use Rattle.std.specs.Prelude.{◌≡◌, ℕ, if◌then◌else◌, List, Option, None, Some}
+use Rattle.std.specs.Prelude.{◌≡◌, ℕ, if◌then◌else◌, List, Option, None, Some, Result, IfOk, IfErr, OnErr}
 use Rattle.std.specs.Coded.{Coded, coded_ℕ, coded_ℤ, coded_list}
 use Rattle.std.specs.Str.{bytes_eq}
 use Rattle.std.specs.FinMap as fin
-use Rattle.resp_wire.specs.Response.{Response}
+use Rattle.resp_wire.specs.Response.{Response, response_of}
+use Rattle.resp_wire.specs.declared.reply.Reply.{Reply}
 use Rattle.ripple_column.specs.Content.{ColumnState}
 use Rattle.zset_core.specs.SortedSet.{Members}
 use Rattle.zset_core.specs.AbstractCommand.{Meaning}
+use Rattle.zset_core.specs.Refusal.{IsRefused}
+use Rattle.zset_core.specs.declared.refusal.Refusal.{Refusal}
 use Rattle.zset_core.specs.Semantics.{step}
 use Rattle.zset_core.specs.SetsByKey.{World, set_at}
 
@@ -29,6 +32,13 @@ Shows (Some result) meaning shown = shown ≡ Some (record { meaning = meaning; 
 
 abbrev pub IsPreparedFor : Members → Meaning → Option Next → Type 0
 IsPreparedFor members meaning shown = Shows (step members meaning) meaning shown
+
+-- a command was run on a set, or refused
+pub record RunsOn {A : Type 0} (meaning : Meaning) (result : Result (Reply A) Refusal) (old new : SetView) : Type 0 where
+  pub ok : IfOk result (λ reply. step old.members meaning ≡ Some (new.members, response_of reply))
+  pub err : OnErr result (new.members ≡ old.members)
+  pub refused : IfErr result (λ refusal. IsRefused refusal (step old.members meaning))
+  pub idle : new.next ≡ None
 
 -- sets by key; `next` is there while one of them is prepared, with its key
 pub record OwnerView : Type 0 where

@@ -6,7 +6,7 @@ ghost use Rattle.zset_core.specs.AbstractCommand.{is_writing, key_of};
 ghost use Rattle.zset_core.specs.ChangeOutline.{IsOutline};
 ghost use Rattle.zset_core.specs.Refusal.{IsRefused};
 ghost use Rattle.zset_core.specs.Semantics.{step};
-ghost use Rattle.zset_core.specs.SetAndOwnerViews.{IsPreparedFor};
+ghost use Rattle.zset_core.specs.SetAndOwnerViews.{IsPreparedFor, RunsOn};
 
 use crate::command::Command;
 use crate::owner::run::run_set;
@@ -80,12 +80,7 @@ impl<H: BuildHasher, A: Allocator + Copy> BoxedSet<H, A> {
     pub fn run(&mut self, command: &Command<A>) -> Result<Reply<A>, Refusal>
         requires idle { self.old.next ≡ None }
         requires keyed { IsSome (key_of command.now.meaning) }
-        ensures ok { IfOk result (λ reply. step self.old.members command.now.meaning
-            ≡ Some (self.new.members, response_of reply)) }
-        ensures err { OnErr result (self.new.members ≡ self.old.members) }
-        ensures refused { IfErr result
-            (λ refusal. IsRefused refusal (step self.old.members command.now.meaning)) }
-        ensures idle { self.new.next ≡ None }
+        ensures { RunsOn command.now.meaning result self.old self.new }
     {
         run_set(&mut self.set, command)
     }

@@ -1,13 +1,9 @@
 //! A command prepared in the set of its key, and what becomes of it.
-ghost use Rattle.std.specs.Prelude.{◌≡◌, None, Some, IfOk, IfErr, IfSome, OnOk, OnErr, IsSome, IsTrue};
+ghost use Rattle.std.specs.Prelude.{◌≡◌, None, Some, IfSome, IsSome, IsTrue};
 ghost use Rattle.resp_wire.specs.Response.{response_of};
 ghost use Rattle.zset_core.specs.AbstractCommand.{is_writing};
-ghost use Rattle.zset_core.specs.ChangeOutline.{IsOutline};
-ghost use Rattle.zset_core.specs.OwnerViewAndInvariant.{world_of, set_in, next_at, AllRest, OthersRest};
-ghost use Rattle.zset_core.specs.Refusal.{IsRefused};
-ghost use Rattle.zset_core.specs.SetAndOwnerViews.{IsPreparedAt};
-ghost use Rattle.zset_core.specs.SetsByKey.{set_at, put_set};
-ghost use Rattle.zset_core.specs.Semantics.{act_at};
+ghost use Rattle.zset_core.specs.OwnerViewAndInvariant.{world_of, set_in, next_at, AllRest, OthersRest, PreparesAt};
+ghost use Rattle.zset_core.specs.SetsByKey.{put_set};
 
 use crate::command::Command;
 use crate::owner::set_tree::{SetTree, insert_set};
@@ -30,17 +26,7 @@ fn prepare_absent<H: BuildHasher + Clone + Drop, A: Allocator + Copy>(
     requires writing { IsTrue (is_writing command.now.meaning) }
     requires absent { set_in sets.old.entries key.now ≡ None }
     requires rest { AllRest sets.old.entries }
-    ensures world { world_of sets.new.entries ≡ world_of sets.old.entries }
-    ensures ready { OnOk result (IsPreparedAt (world_of sets.old.entries) (Some key.now)
-        command.now.meaning (next_at sets.new.entries (Some key.now))) }
-    ensures outline { IfOk result
-        (λ outline. IfSome (next_at sets.new.entries (Some key.now))
-        (λ next. IsOutline outline (set_at (world_of sets.old.entries) next.0) next.1.members)) }
-    ensures others { OthersRest key.now sets.new.entries }
-    ensures refused { IfErr result
-        (λ refusal. IsRefused refusal
-        (act_at (world_of sets.old.entries) (Some key.now) command.now.meaning)) }
-    ensures err { OnErr result (AllRest sets.new.entries) }
+    ensures { PreparesAt key.now command.now.meaning result sets.old.entries sets.new.entries }
 {
     let mut set = ZSet::with_hasher(alloc, hasher.clone()?);
     let outline = set.prepare(command)?;
@@ -58,17 +44,7 @@ fn prepare_once_at<H: BuildHasher + Clone + Drop, A: Allocator + Copy>(
 ) -> Result<Outline, Refusal>
     requires writing { IsTrue (is_writing command.now.meaning) }
     requires rest { AllRest sets.old.entries }
-    ensures world { world_of sets.new.entries ≡ world_of sets.old.entries }
-    ensures ready { OnOk result (IsPreparedAt (world_of sets.old.entries) (Some key.now)
-        command.now.meaning (next_at sets.new.entries (Some key.now))) }
-    ensures outline { IfOk result
-        (λ outline. IfSome (next_at sets.new.entries (Some key.now))
-        (λ next. IsOutline outline (set_at (world_of sets.old.entries) next.0) next.1.members)) }
-    ensures others { OthersRest key.now sets.new.entries }
-    ensures refused { IfErr result
-        (λ refusal. IsRefused refusal
-        (act_at (world_of sets.old.entries) (Some key.now) command.now.meaning)) }
-    ensures err { OnErr result (AllRest sets.new.entries) }
+    ensures { PreparesAt key.now command.now.meaning result sets.old.entries sets.new.entries }
 {
     match sets.get_mut(key) {
         None => prepare_absent(alloc, hasher, sets, key, command),
@@ -88,17 +64,7 @@ pub fn prepare_at<H: BuildHasher + Clone + Drop, A: Allocator + Copy>(
 ) -> Result<Outline, Refusal>
     requires writing { IsTrue (is_writing command.now.meaning) }
     requires rest { AllRest sets.old.entries }
-    ensures world { world_of sets.new.entries ≡ world_of sets.old.entries }
-    ensures ready { OnOk result (IsPreparedAt (world_of sets.old.entries) (Some key.now)
-        command.now.meaning (next_at sets.new.entries (Some key.now))) }
-    ensures outline { IfOk result
-        (λ outline. IfSome (next_at sets.new.entries (Some key.now))
-        (λ next. IsOutline outline (set_at (world_of sets.old.entries) next.0) next.1.members)) }
-    ensures others { OthersRest key.now sets.new.entries }
-    ensures refused { IfErr result
-        (λ refusal. IsRefused refusal
-        (act_at (world_of sets.old.entries) (Some key.now) command.now.meaning)) }
-    ensures err { OnErr result (AllRest sets.new.entries) }
+    ensures { PreparesAt key.now command.now.meaning result sets.old.entries sets.new.entries }
 {
     if command.creates() {
         spare.keep()?;

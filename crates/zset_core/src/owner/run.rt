@@ -1,10 +1,8 @@
 //! A command run on the set of its key.
-ghost use Rattle.std.specs.Prelude.{◌≡◌, None, Some, IfOk, IfErr, OnErr, IsSome};
-ghost use Rattle.resp_wire.specs.Response.{response_of};
+ghost use Rattle.std.specs.Prelude.{◌≡◌, None, Some, IsSome};
 ghost use Rattle.zset_core.specs.AbstractCommand.{key_of};
-ghost use Rattle.zset_core.specs.OwnerViewAndInvariant.{world_of, set_in, AllRest};
-ghost use Rattle.zset_core.specs.Refusal.{IsRefused};
-ghost use Rattle.zset_core.specs.Semantics.{step, act_at};
+ghost use Rattle.zset_core.specs.OwnerViewAndInvariant.{set_in, AllRest, RunsAt};
+ghost use Rattle.zset_core.specs.SetAndOwnerViews.{RunsOn};
 
 use crate::command::Command;
 use crate::owner::set_tree::{SetTree, insert_set};
@@ -22,12 +20,7 @@ pub fn run_set<H: BuildHasher, A: Allocator + Copy>(
 ) -> Result<Reply<A>, Refusal>
     requires idle { set.old.next ≡ None }
     requires keyed { IsSome (key_of command.now.meaning) }
-    ensures ok { IfOk result (λ reply. step set.old.members command.now.meaning
-        ≡ Some (set.new.members, response_of reply)) }
-    ensures err { OnErr result (set.new.members ≡ set.old.members) }
-    ensures refused { IfErr result
-        (λ refusal. IsRefused refusal (step set.old.members command.now.meaning)) }
-    ensures idle { set.new.next ≡ None }
+    ensures { RunsOn command.now.meaning result set.old set.new }
 {
     if command.writes() {
         set.prepare(command)?;
@@ -47,13 +40,7 @@ fn run_absent<H: BuildHasher + Clone + Drop, A: Allocator + Copy>(
     requires keyed { key_of command.now.meaning ≡ Some key.now }
     requires absent { set_in sets.old.entries key.now ≡ None }
     requires rest { AllRest sets.old.entries }
-    ensures ok { IfOk result (λ reply. act_at (world_of sets.old.entries) (Some key.now)
-        command.now.meaning ≡ Some (world_of sets.new.entries, response_of reply)) }
-    ensures err { OnErr result (world_of sets.new.entries ≡ world_of sets.old.entries) }
-    ensures refused { IfErr result
-        (λ refusal. IsRefused refusal
-        (act_at (world_of sets.old.entries) (Some key.now) command.now.meaning)) }
-    ensures rest { AllRest sets.new.entries }
+    ensures { RunsAt key.now command.now.meaning result sets.old.entries sets.new.entries }
 {
     let mut set = ZSet::with_hasher(alloc, hasher.clone()?);
     let reply = run_set(&mut set, command)?;
@@ -74,13 +61,7 @@ fn run_once_at<H: BuildHasher + Clone + Drop, A: Allocator + Copy>(
 ) -> Result<Reply<A>, Refusal>
     requires keyed { key_of command.now.meaning ≡ Some key.now }
     requires rest { AllRest sets.old.entries }
-    ensures ok { IfOk result (λ reply. act_at (world_of sets.old.entries) (Some key.now)
-        command.now.meaning ≡ Some (world_of sets.new.entries, response_of reply)) }
-    ensures err { OnErr result (world_of sets.new.entries ≡ world_of sets.old.entries) }
-    ensures refused { IfErr result
-        (λ refusal. IsRefused refusal
-        (act_at (world_of sets.old.entries) (Some key.now) command.now.meaning)) }
-    ensures rest { AllRest sets.new.entries }
+    ensures { RunsAt key.now command.now.meaning result sets.old.entries sets.new.entries }
 {
     match sets.get_mut(key) {
         None => run_absent(alloc, hasher, sets, key, command),
@@ -106,13 +87,7 @@ pub fn run_at<H: BuildHasher + Clone + Drop, A: Allocator + Copy>(
 ) -> Result<Reply<A>, Refusal>
     requires keyed { key_of command.now.meaning ≡ Some key.now }
     requires rest { AllRest sets.old.entries }
-    ensures ok { IfOk result (λ reply. act_at (world_of sets.old.entries) (Some key.now)
-        command.now.meaning ≡ Some (world_of sets.new.entries, response_of reply)) }
-    ensures err { OnErr result (world_of sets.new.entries ≡ world_of sets.old.entries) }
-    ensures refused { IfErr result
-        (λ refusal. IsRefused refusal
-        (act_at (world_of sets.old.entries) (Some key.now) command.now.meaning)) }
-    ensures rest { AllRest sets.new.entries }
+    ensures { RunsAt key.now command.now.meaning result sets.old.entries sets.new.entries }
 {
     if command.creates() {
         spare.keep()?;
