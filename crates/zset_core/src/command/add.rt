@@ -1,6 +1,6 @@
 //! Reading the arguments of ZADD.
 
-ghost use Rattle.std.specs.Prelude.{◌≡◌, ◌≢◌, ◌+◌, ◌*◌, ◌%◌, ◌<◌, ◌≤◌, true, false, ℕ, List, [], ◌∷◌, ◌++◌, length, codes, OnOk, IfOk, IfErr};
+ghost use Rattle.std.specs.Prelude.{◌≡◌, ◌≢◌, ◌+◌, ◌*◌, ◌%◌, ◌<◌, ◌≤◌, ℕ, List, [], ◌∷◌, ◌++◌, length, OnOk, IfOk, IfErr};
 ghost use Rattle.std.specs.List.{take_while};
 ghost use Rattle.zset_core.specs.CommandGrammar.{most_arguments, add_options, add_pairs, asked_flags, has_option, has_two_of_gt_lt_nx, is_add_option, command_conditions, command_meaning, pairs_value};
 ghost use Rattle.zset_core.specs.ReadingMatchesGrammar.{AreAddParts, AreScores, IsReading, given_value};
@@ -34,36 +34,11 @@ pub fn read_add<A: Allocator + Copy>(alloc: A, words: &[Bytes<A>]) -> Result<For
     if has_two_of_gt_lt_nx(flags) {
         return Err(Refusal::GtLtNx);
     }
-    if has_option(options, b"INCR") {
-        read_increase(options, pairs, flags)
-    } else {
-        read_pairs(alloc, options, pairs, flags)
-    }
+    read_parts(alloc, options, pairs, flags)
 }
 
-// Reads ZADD with INCR, once its options and pairs are told apart.
-fn read_increase<A: Allocator>(
-    options: &[Bytes<A>],
-    pairs: &[Bytes<A>],
-    flags: Flags,
-) -> Result<Form<A>, Refusal>
-    requires few { length options.now ≤ most_arguments }
-    requires parts { AreAddParts options.now pairs.now flags }
-    requires increases { has_option (codes "INCR") options.now ≡ true }
-    ensures { (words : List (List ℕ)) → options.now ≡ add_options words → pairs.now
-        ≡ add_pairs words → IsReading words (command_conditions names.Add words)
-        (command_meaning names.Add words) result }
-{
-    let given = read_given(pairs)?;
-    Ok(Form::Changes(ChangeForm::Increase {
-        flags,
-        given,
-        member: 2 + options.len() + 1,
-    }))
-}
-
-// Reads ZADD without INCR, once its options and pairs are told apart.
-fn read_pairs<A: Allocator + Copy>(
+// Reads ZADD, once its options and pairs are told apart.
+fn read_parts<A: Allocator + Copy>(
     alloc: A,
     options: &[Bytes<A>],
     pairs: &[Bytes<A>],
@@ -71,11 +46,19 @@ fn read_pairs<A: Allocator + Copy>(
 ) -> Result<Form<A>, Refusal>
     requires few { length options.now ≤ most_arguments }
     requires parts { AreAddParts options.now pairs.now flags }
-    requires puts { has_option (codes "INCR") options.now ≡ false }
     ensures { (words : List (List ℕ)) → options.now ≡ add_options words → pairs.now
         ≡ add_pairs words → IsReading words (command_conditions names.Add words)
         (command_meaning names.Add words) result }
 {
+    let increases = has_option(options, b"INCR");
+    if increases {
+        let given = read_given(pairs)?;
+        return Ok(Form::Changes(ChangeForm::Increase {
+            flags,
+            given,
+            member: 2 + options.len() + 1,
+        }));
+    }
     let scores = read_scores(alloc, pairs)?;
     Ok(Form::Changes(ChangeForm::Add {
         flags,
