@@ -1,5 +1,5 @@
 -- What a set keeps of its column as it prepares a command.
-use Rattle.std.proofs.Common.{◌≡◌, ◌≤◌, ◌+◌, inl, inr, max, true, false, ℕ, ℤ, List, [], ◌∷◌, map, length, take, count_by, Option, None, Some, Result, Ok, Err, is_ok, refl, sym, ap, subst, ◌∙◌, arith}
+use Rattle.std.proofs.Common.{◌≡◌, ◌≤◌, inl, inr, max, true, ℕ, ℤ, List, [], ◌∷◌, map, length, take, count_by, Option, None, Some, Result, Ok, Err, is_ok, refl, sym, ap, subst, ◌∙◌, arith}
 use Rattle.std.proofs.lemmas.Bool.{true≢false}
 use Rattle.std.specs.FinMap as fin
 use Rattle.resp_wire.specs.Response.{Response}

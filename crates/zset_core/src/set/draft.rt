@@ -4,20 +4,17 @@ ghost use Rattle.std.specs.Prelude.{◌≡◌, ℕ, ◌<◌, ◌≤◌, ◌+◌,
 ghost use Rattle.zset_core.specs.NotedNames.{IsLed, mention, mentions, noted_places};
 ghost use Rattle.std.specs.FinMap as map;
 ghost use Rattle.zset_core.specs.declared.set.members_with_staged_scores.ScoreSlot.{ScoreSlot as SlotType};
-ghost use Rattle.zset_core.specs.Semantics.{outcome_of, counted, put_one, put_all, count_all, increase_reply};
+ghost use Rattle.zset_core.specs.Semantics.{outcome_of, counted, put_one, put_all, count_all};
 ghost use Rattle.zset_core.specs.ParsedArguments.{given_pairs};
 ghost use Rattle.zset_core.specs.RowEdits.{Notes};
 ghost use Rattle.zset_core.specs.MembersWithStagedScores.{Entry, current_score, staged_score, rows_by, members_by, name_at, names_at, slot_at, slots, IsSettled, IsWaiting, Grows};
-ghost use Rattle.resp_wire.specs.Response.{response_of};
 
 use crate::command::given_pairs::GivenPairs;
 use crate::command::pair_outcome::{Flags, Outcome};
-use crate::score_and_count_replies::increase_reply;
 use crate::set::members_with_staged_scores::{
     MemberMap, ScoreSlot, discard_staged, find_slot, share_name,
 };
 use crate::set::row_edits::Edits;
-use resp_wire::Reply;
 use short_bytes::ShortBytes;
 use std::alloc::{AllocError, Allocator};
 use std::hash::BuildHasher;
@@ -167,38 +164,6 @@ impl<A: Allocator + Copy> Draft<A> {
             count += what.counted_in(changed);
         }
         Ok(count)
-    }
-
-    /// Stages the pair of INCR, and makes its reply.
-    pub fn stage_increase<H: BuildHasher>(
-        &mut self,
-        members: &mut MemberMap<H, A>,
-        flags: Flags,
-        score: i64,
-        member: &[u8],
-    ) -> Result<Reply<A>, AllocError>
-        requires waiting { IsWaiting self.old.touched.items members.old.entries }
-        requires led { IsLed self.old (length members.old.entries) }
-        ensures reply { IfOk result (λ reply. response_of reply
-            ≡ increase_reply (outcome_of flags
-            (map.get (members_by staged_score members.old.entries) member.now) score) score) }
-        ensures staged { OnOk result (members_by staged_score members.new.entries
-            ≡ put_one flags (members_by staged_score members.old.entries) member.now score) }
-        ensures edits { OnOk result
-            (Notes (counted true (outcome_of flags
-            (map.get (members_by staged_score members.old.entries) member.now) score))
-            (members_by staged_score members.old.entries)
-            (members_by staged_score members.new.entries) self.old.edits self.new.edits) }
-        ensures grows { Grows members.old.entries members.new.entries }
-        ensures waiting { IsWaiting self.new.touched.items members.new.entries }
-        ensures kept { self.new.kept ≡ self.old.kept }
-        ensures led { OnOk result (IsLed self.new (length members.new.entries)) }
-        ensures named { OnOk result (names_at members.new.entries (noted_places self.new)
-            ≡ names_at members.old.entries (noted_places self.old)
-            ++ mention flags (members_by staged_score members.old.entries) member.now) }
-    {
-        let what = self.stage_one(members, flags, score, member)?;
-        increase_reply(self.alloc, what, score)
     }
 
     /// Discards the draft: the entries become what they were before it. It takes no memory.

@@ -3,7 +3,7 @@ ghost use Rattle.std.specs.Prelude.{◌≡◌, ◌+◌, ◌-◌, ◌<◌, ◌≤
 ghost use Rattle.std.specs.FinMap as map;
 ghost use Rattle.resp_wire.specs.Response.{Integer, response_of};
 ghost use Rattle.zset_core.specs.CommandEffectsOnColumn.{MakesReady, MakesRoom, edits_of, increase_edits, names_members};
-ghost use Rattle.zset_core.specs.Semantics.{counted, outcome_of, put_one, put_all, count_all, remove_all, increase_reply, increase, changed_by};
+ghost use Rattle.zset_core.specs.Semantics.{counted, outcome_of, put_one, put_all, count_all, remove_all, increase, changed_by};
 ghost use Rattle.zset_core.specs.AbstractCommand.{range_of_change};
 ghost use Rattle.zset_core.specs.CommandGrammar.{most_arguments};
 ghost use Rattle.zset_core.specs.ParsedArguments.{change_of, given_pairs, IsWholeChange};
@@ -17,9 +17,10 @@ ghost use Rattle.zset_core.specs.SetViewAndInvariant.{HasRoom, IsReadyForPlan};
 ghost use Rattle.zset_core.specs.Refusal.{IsRefused};
 
 use crate::command::given_pairs::GivenPairs;
-use crate::command::pair_outcome::{Flags, sum};
+use crate::command::pair_outcome::{Flags, Outcome, sum};
 use crate::command::parsed_arguments::ChangeForm;
 use crate::refusal::Refusal;
+use crate::score_and_count_replies::increase_reply;
 use crate::set::change_outline::{Outline, outline_staged};
 use crate::set::commit::discard;
 use crate::set::draft::Draft;
@@ -106,19 +107,19 @@ pub fn plan_add<H: BuildHasher, A: Allocator + Copy>(
     }
 }
 
-/// The plan that gives a member a score, as ZADD with INCR does once the sum is formed.
+/// The plan that gives a member a score, as ZADD with INCR does once the sum is formed, with this reply.
 fn plan_score<H: BuildHasher, A: Allocator + Copy>(
     alloc: A,
     members: &mut MemberMap<H, A>,
     flags: Flags,
     score: i64,
     member: &[u8],
+    reply: Reply<A>,
 ) -> Result<Plan<A>, AllocError>
     requires { IsSettled members.old.entries }
     ensures ok { IfOk result (λ plan. Prepares members.old.entries members.new.entries plan
         (put_one flags (members_by current_score members.old.entries) member.now score)
-        (increase_reply (outcome_of flags (map.get (members_by current_score members.old.entries) member.now) score)
-        score)) }
+        (response_of reply)) }
     ensures rows { IfOk result
         (λ plan. NeedsAtMost (counted true (outcome_of flags
         (map.get (members_by current_score members.old.entries) member.now) score)) plan) }
@@ -129,8 +130,8 @@ fn plan_score<H: BuildHasher, A: Allocator + Copy>(
     ensures err { OnErr result (IsBack members.old.entries members.new.entries) }
 {
     let mut draft = Draft::new(alloc, members.len());
-    match draft.stage_increase(members, flags, score, member) {
-        Ok(reply) => {
+    match draft.stage_one(members, flags, score, member) {
+        Ok(_) => {
             draft.settle_moved(members);
             let outline = outline_staged(members, &draft);
             Ok(Plan {
@@ -203,7 +204,10 @@ pub fn plan_increase<H: BuildHasher, A: Allocator + Copy>(
     }
     match sum(old, given) {
         None => Err(Refusal::ScoreOverflow),
-        Some(score) => Ok(plan_score(alloc, members, flags, score, member)?),
+        Some(score) => {
+            let reply = increase_reply(alloc, Outcome::of(flags, old, score), score)?;
+            Ok(plan_score(alloc, members, flags, score, member, reply)?)
+        }
     }
 }
 
