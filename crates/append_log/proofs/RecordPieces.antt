@@ -1,6 +1,5 @@
 -- Pieces of pairs.
 use Rattle.std.proofs.Common.{◌≡◌, ℕ, zero, suc, ◌+◌, ◌<◌, ◌≤◌, List, [], ◌∷◌, ◌++◌, length, take, drop, map, refl, sym, ◌∙◌, ap, subst, arith, append_assoc, length-drop, min, ◌⊎◌, inl, inr, get_or, Option, Result, Ok, Err}
-use Rattle.std.specs.Prelude.{OnErr}
 use Rattle.score_bounds.specs.Scores.{score_text}
 use Rattle.std.proofs.lemmas.List.{append-nil, map-append, take_more, take-append-drop, take_all, append_cancel_left}
 use Rattle.std.proofs.lemmas.Grind.{flat_map-append}
@@ -10,7 +9,8 @@ use Rattle.resp_wire.specs.RequestEncoding.{request}
 use Rattle.zset_core.specs.SortedSet.{Pair}
 use Rattle.append_log.specs.Records.{Record, text_of_records}
 use Rattle.append_log.specs.Dump.{cut_pieces, pieces, add_record, piece_records}
-use Rattle.append_log.specs.Rewrite.{TakesPrefix}
+use Rattle.append_log.specs.Rewrite.{SinkFailed, TakesPrefix, Writes}
+use Rattle.append_log.specs.declared.rewriting.RewriteFault.{RewriteFault}
 use Rattle.resp_wire.proofs.CallerLemmas.{append_known-append_known, append_known-nil}
 
 enough : (n m : ℕ) (pairs : List Pair) → length pairs ≤ n → length pairs ≤ m → cut_pieces n pairs ≡ cut_pieces m pairs
@@ -77,9 +77,13 @@ front_taken old new bytes n told = record { out = take n bytes; more = drop n by
 pub taken_whole : (old new : Option (List ℕ)) (bytes text : List ℕ) (n : ℕ) → new ≡ append_known old (take n bytes) → n ≡ length bytes → bytes ≡ text → new ≡ append_known old text
 taken_whole old new bytes text n told all is = told ∙ ap (append_known old) (take_all n bytes (omega (arith, all)) ∙ is)
 
-pub on_err : {T E P : Type 0} (result : Result T E) → P → OnErr result P
-on_err (Ok value) p = tt
-on_err (Err e) p = p
+-- bytes were written, and then others
+pub written_behind : {T : Type 0} (result : Result T RewriteFault) (first old new : Option (List ℕ)) (failures₀ failures₁ failures₂ : ℕ) (bytes behind : List ℕ) → old ≡ append_known first bytes → failures₁ ≡ failures₀
+    → Writes result old new failures₁ failures₂ behind → Writes result first new failures₀ failures₂ (bytes ++ behind)
+written_behind (Ok value) first old new failures₀ failures₁ failures₂ bytes behind was good wrote =
+    (wrote.0 ∙ ap (λ (k : Option (List ℕ)). append_known k behind) was ∙ append_known-append_known first bytes behind, wrote.1 ∙ good)
+written_behind (Err fault) first old new failures₀ failures₁ failures₂ bytes behind was good wrote =
+    (front_behind first old new bytes behind was wrote.0, subst (λ (f : ℕ). SinkFailed fault f failures₂) good wrote.1)
 
 lt_or_le : (a b : ℕ) → (a < b) ⊎ (b ≤ a)
 lt_or_le zero zero = inr (omega arith)

@@ -5,6 +5,7 @@ use Rattle.resp_wire.specs.Device.{Rose}
 use Rattle.zset_core.specs.declared.refusal.Refusal.{Refusal}
 use Rattle.zset_core.specs.declared.refusal.Refusal.TheVariants.{LogBroken, LogFull, LogRefused}
 use Rattle.append_log.specs.Records.{Record, text_of_records, AreRecords, IsRecordPrefix, ReadsPrefix}
+use Rattle.append_log.specs.declared.log.Out.{Out}
 
 -- a log, without the types of its sink and its ledger
 pub record LogView : Type 0 where
@@ -25,6 +26,10 @@ pub record LogView : Type 0 where
   pub broken : Bool
   -- how many shares it can still give away
   pub parts : ℕ
+
+-- a log of no records, behind whatever its sink holds
+abbrev pub empty_log : Option (List ℕ) → ℕ → ℕ → ℕ → ℕ → Bool → ℕ → LogView
+empty_log told synced calls failures limit deferred parts = record { told = told; synced = synced; calls = calls; failures = failures; appended = 0; settled = 0; written = 0; limit = limit; deferred = deferred; broken = false; parts = parts }
 
 -- what stands behind the last record: nothing, or in a broken log a prefix of one more
 abbrev pub IsTail : Bool → List ℕ → Type 0
@@ -63,6 +68,14 @@ pub record IsLog (log : LogView) : Type 0 where
 -- how many records are settled once one more was appended
 abbrev pub settled_with : Bool → ℕ → ℕ → ℕ
 settled_with deferred settled appended = if deferred then settled else appended
+
+-- bytes came into a sink as far as `out` says: all of them; or a front of them, perhaps none or all, and the sink failed
+pub record WroteOut (told₀ told₁ : Option (List ℕ)) (failures₀ failures₁ : ℕ) (bytes : List ℕ) (out : Out) : Type 0 where
+  pub at_most : out.taken ≤ length bytes
+  pub told : told₁ ≡ append_known told₀ (take out.taken bytes)
+  pub whole : out.whole ≡ true → out.taken ≡ length bytes
+  pub good : out.whole ≡ true → failures₁ ≡ failures₀
+  pub cause : out.whole ≡ false → Rose failures₀ failures₁
 
 -- a log that was neither broken nor full: bytes were written out, and synced unless that is deferred
 pub record Appends (old new : LogView) (bytes : List ℕ) : Type 0 where

@@ -1,5 +1,5 @@
 -- How far a rewrite came, and what its bytes replay to.
-use Rattle.std.specs.Prelude.{◌≡◌, ℕ, List, [], ◌++◌, Option}
+use Rattle.std.specs.Prelude.{◌≡◌, ℕ, List, [], ◌++◌, Option, Result, Ok, Err}
 use Rattle.std.specs.FinMap as fin
 use Rattle.std.specs.Io.KnownBytes.{append_known}
 use Rattle.resp_wire.specs.Device.{Rose}
@@ -20,6 +20,11 @@ pub record TakesPrefix (old new : Option (List ℕ)) (bytes : List ℕ) : Type 0
 abbrev pub SinkFailed : RewriteFault → ℕ → ℕ → Type 0
 SinkFailed NoMemory old new = new ≡ old
 SinkFailed Sink old new = Rose old new
+
+-- these bytes were written; or a front of them, before the memory or the sink gave out
+abbrev pub Writes : {T : Type 0} → Result T RewriteFault → Option (List ℕ) → Option (List ℕ) → ℕ → ℕ → List ℕ → Type 0
+Writes (Ok _) told₀ told₁ failures₀ failures₁ bytes = (told₁ ≡ append_known told₀ bytes) × (failures₁ ≡ failures₀)
+Writes (Err fault) told₀ told₁ failures₀ failures₁ bytes = TakesPrefix told₀ told₁ bytes × SinkFailed fault failures₀ failures₁
 
 -- a reload of these bytes alone ends without a fault and with no torn end, and replays from no sets to this world
 pub record ReplaysTo (bytes : List ℕ) (world : World) : Type 0 where

@@ -1,10 +1,8 @@
 //! The log: records one behind the other, each synced before the next, or many by one sync.
 
-ghost use Rattle.std.specs.Prelude.{◌≡◌, ◌≢◌, ℕ, ◌+◌, ◌≤◌, ◌^◌, ◌↔◌, length, take, true, false, OnOk, IfErr, IfSome, IsTrue};
-ghost use Rattle.std.specs.Io.KnownBytes.{append_known};
-ghost use Rattle.resp_wire.specs.Device.{Rose};
+ghost use Rattle.std.specs.Prelude.{◌≡◌, ◌≢◌, ℕ, ◌+◌, ◌≤◌, ◌^◌, ◌↔◌, length, true, false, OnOk, IfErr, IfSome, IsTrue};
 ghost use Rattle.resp_wire.specs.RequestEncoding.{request};
-ghost use Rattle.append_log.specs.Log.{Appends, HasRecords, IsLog, NotAppended, NotSettled, Readable, Settles, settled_with, share_after, records_after};
+ghost use Rattle.append_log.specs.Log.{Appends, HasRecords, IsLog, NotAppended, NotSettled, Readable, Settles, WroteOut, empty_log, settled_with, share_after, records_after};
 
 use crate::record::Record;
 use crate::record_share::RecordShare;
@@ -77,12 +75,9 @@ pub(crate) struct Out {
 
 /// Writes until all is out, or the sink fails.
 pub(crate) fn write_out<S: LogSink>(sink: &mut S, bytes: &[u8]) -> Out
-    ensures at_most { result.taken ≤ length bytes.now }
-    ensures told { S.told sink.new ≡ append_known (S.told sink.old) (take result.taken bytes.now) }
+    ensures out { WroteOut (S.told sink.old) (S.told sink.new) (S.failures sink.old)
+        (S.failures sink.new) bytes.now result }
     ensures synced { S.synced sink.new ≡ S.synced sink.old }
-    ensures whole { result.whole ≡ true → result.taken ≡ length bytes.now }
-    ensures good { result.whole ≡ true → S.failures sink.new ≡ S.failures sink.old }
-    ensures cause { result.whole ≡ false → Rose (S.failures sink.old) (S.failures sink.new) }
 {
     let mut taken = 0;
     while taken < bytes.len() {
@@ -97,43 +92,23 @@ pub(crate) fn write_out<S: LogSink>(sink: &mut S, bytes: &[u8]) -> Out
     Out { taken, whole: true }
 }
 
-/// Writes all, and then syncs.
-pub(crate) fn write_and_sync<S: LogSink>(sink: &mut S, bytes: &[u8]) -> Out
-    ensures at_most { result.taken ≤ length bytes.now }
-    ensures told { S.told sink.new ≡ append_known (S.told sink.old) (take result.taken bytes.now) }
-    ensures whole { result.whole ≡ true → result.taken ≡ length bytes.now }
-    ensures synced { result.whole ≡ true
+/// Writes all, and then syncs, unless that is deferred.
+fn put<S: LogSink>(sink: &mut S, bytes: &[u8], deferred: bool) -> Out
+    ensures out { WroteOut (S.told sink.old) (S.told sink.new) (S.failures sink.old)
+        (S.failures sink.new) bytes.now result }
+    ensures synced { result.whole ≡ true → deferred ≡ false
         → IfSome (S.told sink.new) (λ all. S.synced sink.new ≡ length all) }
+    ensures unsynced { deferred ≡ true → S.synced sink.new ≡ S.synced sink.old }
     ensures not_synced { result.whole ≡ false → S.synced sink.new ≡ S.synced sink.old }
-    ensures good { result.whole ≡ true → S.failures sink.new ≡ S.failures sink.old }
-    ensures cause { result.whole ≡ false → Rose (S.failures sink.old) (S.failures sink.new) }
 {
     let out = write_out(sink, bytes);
-    if out.whole && sink.sync().is_err() {
+    if !deferred && out.whole && sink.sync().is_err() {
         return Out {
             taken: out.taken,
             whole: false,
         };
     }
     out
-}
-
-/// Writes all, and then syncs, unless that is deferred.
-fn put<S: LogSink>(sink: &mut S, bytes: &[u8], deferred: bool) -> Out
-    ensures at_most { result.taken ≤ length bytes.now }
-    ensures told { S.told sink.new ≡ append_known (S.told sink.old) (take result.taken bytes.now) }
-    ensures whole { result.whole ≡ true → result.taken ≡ length bytes.now }
-    ensures synced { result.whole ≡ true → deferred ≡ false
-        → IfSome (S.told sink.new) (λ all. S.synced sink.new ≡ length all) }
-    ensures unsynced { deferred ≡ true → S.synced sink.new ≡ S.synced sink.old }
-    ensures not_synced { result.whole ≡ false → S.synced sink.new ≡ S.synced sink.old }
-    ensures good { result.whole ≡ true → S.failures sink.new ≡ S.failures sink.old }
-    ensures cause { result.whole ≡ false → Rose (S.failures sink.old) (S.failures sink.new) }
-{
-    if deferred {
-        return write_out(sink, bytes);
-    }
-    write_and_sync(sink, bytes)
 }
 
 /// How many records are settled once one more was appended.
@@ -151,65 +126,8 @@ impl<S: LogSink, L: Ledger> Log<S, L> {
         requires two { 2 ≤ blank.parts }
         requires some { 1 ≤ max_records }
         requires limited { max_records ≤ 2 ^ 40 }
-        ensures { result ≡ record {
-          told = S.told sink;
-          synced = S.synced sink;
-          calls = S.calls sink;
-          failures = S.failures sink;
-          appended = 0;
-          settled = 0;
-          written = 0;
-          limit = max_records;
-          deferred = false;
-          broken = false;
-          parts = blank.parts;
-        } }
-    {
-        Self::begun(blank, sink, max_records, false)
-    }
-
-    /// The same, but deferred: its appends leave their records unsynced until [`Log::sync`].
-    pub fn deferred(blank: Blank, sink: S, max_records: u64) -> Self
-        requires name { blank.name ≡ L.name }
-        requires parts { blank.parts ≡ L.parts }
-        requires two { 2 ≤ blank.parts }
-        requires some { 1 ≤ max_records }
-        requires limited { max_records ≤ 2 ^ 40 }
-        ensures { result ≡ record {
-          told = S.told sink;
-          synced = S.synced sink;
-          calls = S.calls sink;
-          failures = S.failures sink;
-          appended = 0;
-          settled = 0;
-          written = 0;
-          limit = max_records;
-          deferred = true;
-          broken = false;
-          parts = blank.parts;
-        } }
-    {
-        Self::begun(blank, sink, max_records, true)
-    }
-
-    fn begun(blank: Blank, sink: S, max_records: u64, deferred: bool) -> Self
-        requires name { blank.name ≡ L.name }
-        requires parts { blank.parts ≡ L.parts }
-        requires two { 2 ≤ blank.parts }
-        requires limited { max_records ≤ 2 ^ 40 }
-        ensures { result ≡ record {
-          told = S.told sink;
-          synced = S.synced sink;
-          calls = S.calls sink;
-          failures = S.failures sink;
-          appended = 0;
-          settled = 0;
-          written = 0;
-          limit = max_records;
-          deferred = deferred;
-          broken = false;
-          parts = blank.parts;
-        } }
+        ensures { result ≡ empty_log (S.told sink) (S.synced sink) (S.calls sink) (S.failures sink)
+            max_records false blank.parts }
     {
         let (book, rest) = blank.open::<L>();
         Log {
@@ -220,9 +138,24 @@ impl<S: LogSink, L: Ledger> Log<S, L> {
             settled: 0,
             written: 0,
             limit: max_records,
-            deferred,
+            deferred: false,
             broken: false,
         }
+    }
+
+    /// The same, but deferred: its appends leave their records unsynced until [`Log::sync`].
+    pub fn deferred(blank: Blank, sink: S, max_records: u64) -> Self
+        requires name { blank.name ≡ L.name }
+        requires parts { blank.parts ≡ L.parts }
+        requires two { 2 ≤ blank.parts }
+        requires some { 1 ≤ max_records }
+        requires limited { max_records ≤ 2 ^ 40 }
+        ensures { result ≡ empty_log (S.told sink) (S.synced sink) (S.calls sink) (S.failures sink)
+            max_records true blank.parts }
+    {
+        let mut log = Self::new(blank, sink, max_records);
+        log.deferred = true;
+        log
     }
 
     /// One share, of no record yet.

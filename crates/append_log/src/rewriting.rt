@@ -1,13 +1,10 @@
 //! Writing an append file anew.
 
-ghost use Rattle.std.specs.Prelude.{◌≡◌, ◌≤◌, [], ◌∷◌, ◌++◌, length, min, ◌-◌, ◌^◌, IfOk, IfErr, IfSome, OnOk, OnErr, MatchResult};
-ghost use Rattle.std.specs.Io.KnownBytes.{append_known};
-ghost use Rattle.resp_wire.specs.Device.{Rose};
+ghost use Rattle.std.specs.Prelude.{◌≡◌, ◌≤◌, [], ◌∷◌, ◌++◌, length, min, ◌-◌, ◌^◌, IfOk, IfErr, IfSome, OnOk};
 ghost use Rattle.resp_wire.specs.RequestEncoding.{request};
 ghost use Rattle.append_log.specs.Dump.{add_record, pieces, piece_records, set_records, dump, image};
-ghost use Rattle.append_log.specs.Replay.{header};
 ghost use Rattle.append_log.specs.Records.{text_of_records};
-ghost use Rattle.append_log.specs.Rewrite.{ReplaysTo, TakesPrefix, SinkFailed};
+ghost use Rattle.append_log.specs.Rewrite.{ReplaysTo, Writes};
 ghost use Rattle.append_log.specs.declared.rewriting.RewriteFault.TheVariants as faults;
 ghost use Rattle.score_bounds.specs.Scores.{score_text};
 
@@ -100,6 +97,18 @@ fn text_of<A: Allocator + Copy>(
     Ok(text)
 }
 
+/// Writes bytes.
+fn put_bytes<S: LogSink>(sink: &mut S, bytes: &[u8]) -> Result<(), RewriteFault>
+    ensures { Writes result (S.told sink.old) (S.told sink.new) (S.failures sink.old)
+        (S.failures sink.new) bytes.now }
+{
+    if write_out(sink, bytes).whole {
+        Ok(())
+    } else {
+        Err(RewriteFault::Sink)
+    }
+}
+
 /// Writes a record of these pairs.
 fn put_record<S: LogSink, A: Allocator + Copy>(
     alloc: A,
@@ -107,19 +116,11 @@ fn put_record<S: LogSink, A: Allocator + Copy>(
     key: &[u8],
     pairs: &[Row<A>],
 ) -> Result<(), RewriteFault>
-    ensures ok { OnOk result (S.told sink.new
-        ≡ append_known (S.told sink.old) (request (add_record key.now pairs.now))) }
-    ensures err { OnErr result (TakesPrefix (S.told sink.old) (S.told sink.new)
-        (request (add_record key.now pairs.now))) }
-    ensures failures { MatchResult result (λ _. S.failures sink.new ≡ S.failures sink.old)
-        (λ fault. SinkFailed fault (S.failures sink.old) (S.failures sink.new)) }
+    ensures { Writes result (S.told sink.old) (S.told sink.new) (S.failures sink.old)
+        (S.failures sink.new) (request (add_record key.now pairs.now)) }
 {
     let text = text_of(alloc, key, pairs)?;
-    if write_out(sink, &text).whole {
-        Ok(())
-    } else {
-        Err(RewriteFault::Sink)
-    }
+    put_bytes(sink, &text)
 }
 
 /// Writes the records of one set, and gives their number.
@@ -131,12 +132,8 @@ fn put_set<S: LogSink, A: Allocator + Copy>(
 ) -> Result<usize, RewriteFault>
     ensures count { IfOk result (λ n. n ≡ length (piece_records key.now rows.now)) }
     ensures few { IfOk result (λ n. n ≤ length rows.now) }
-    ensures ok { OnOk result (S.told sink.new
-        ≡ append_known (S.told sink.old) (text_of_records (piece_records key.now rows.now))) }
-    ensures err { OnErr result (TakesPrefix (S.told sink.old) (S.told sink.new)
-        (text_of_records (piece_records key.now rows.now))) }
-    ensures failures { MatchResult result (λ _. S.failures sink.new ≡ S.failures sink.old)
-        (λ fault. SinkFailed fault (S.failures sink.old) (S.failures sink.new)) }
+    ensures written { Writes result (S.told sink.old) (S.told sink.new) (S.failures sink.old)
+        (S.failures sink.new) (text_of_records (piece_records key.now rows.now)) }
 {
     let mut count = 0;
     let mut rest = rows;
@@ -147,21 +144,6 @@ fn put_set<S: LogSink, A: Allocator + Copy>(
         rest = behind;
     }
     Ok(count)
-}
-
-/// Writes the header.
-fn put_header<S: LogSink>(sink: &mut S) -> Result<(), RewriteFault>
-    ensures ok { OnOk result (S.told sink.new
-        ≡ append_known (S.told sink.old) (request header)) }
-    ensures err { OnErr result (TakesPrefix (S.told sink.old) (S.told sink.new) (request header)) }
-    ensures failures { MatchResult result (λ _. S.failures sink.new ≡ S.failures sink.old)
-        (λ fault. SinkFailed fault (S.failures sink.old) (S.failures sink.new)) }
-{
-    if write_out(sink, HEADER).whole {
-        Ok(())
-    } else {
-        Err(RewriteFault::Sink)
-    }
 }
 
 /// A law: the text of an owner's records, behind the header, replays to its sets. The body does nothing.
@@ -183,13 +165,9 @@ fn put_sets<H: BuildHasher + Clone + Drop, S: LogSink, A: Allocator + Copy>(
 ) -> Result<u64, RewriteFault>
     requires idle { owner.now.next ≡ None }
     ensures count { IfOk result (λ n. n ≡ min (length (dump owner.now.world)) (2 ^ 64 - 1)) }
-    ensures told { OnOk result (S.told sink.new
-        ≡ append_known (S.told sink.old) (text_of_records (dump owner.now.world))) }
+    ensures written { Writes result (S.told sink.old) (S.told sink.new) (S.failures sink.old)
+        (S.failures sink.new) (text_of_records (dump owner.now.world)) }
     ensures synced { OnOk result (IfSome (S.told sink.new) (λ all. S.synced sink.new ≡ length all)) }
-    ensures refused { OnErr result
-        (TakesPrefix (S.told sink.old) (S.told sink.new) (text_of_records (dump owner.now.world))) }
-    ensures failures { MatchResult result (λ _. S.failures sink.new ≡ S.failures sink.old)
-        (λ fault. SinkFailed fault (S.failures sink.old) (S.failures sink.new)) }
 {
     let mut count: u64 = 0;
     let mut next = owner.key_after(None);
@@ -220,16 +198,12 @@ pub fn rewrite<H: BuildHasher + Clone + Drop, S: LogSink, A: Allocator + Copy>(
 ) -> Result<u64, RewriteFault>
     requires idle { owner.now.next ≡ None }
     ensures count { IfOk result (λ n. n ≡ min (length (dump owner.now.world)) (2 ^ 64 - 1)) }
-    ensures told { OnOk result (S.told sink.new
-        ≡ append_known (S.told sink.old) (text_of_records (image owner.now.world))) }
+    ensures written { Writes result (S.told sink.old) (S.told sink.new) (S.failures sink.old)
+        (S.failures sink.new) (text_of_records (image owner.now.world)) }
     ensures replays_back { ReplaysTo (text_of_records (image owner.now.world)) owner.now.world }
     ensures synced { OnOk result (IfSome (S.told sink.new) (λ all. S.synced sink.new ≡ length all)) }
-    ensures refused { OnErr result
-        (TakesPrefix (S.told sink.old) (S.told sink.new) (text_of_records (image owner.now.world))) }
-    ensures failures { MatchResult result (λ _. S.failures sink.new ≡ S.failures sink.old)
-        (λ fault. SinkFailed fault (S.failures sink.old) (S.failures sink.new)) }
 {
     replays_back(owner);
-    put_header(sink)?;
+    put_bytes(sink, HEADER)?;
     put_sets(alloc, owner, sink)
 }

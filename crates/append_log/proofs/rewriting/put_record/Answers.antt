@@ -1,9 +1,12 @@
-use Rattle.std.proofs.Common.{◌∙◌}
-use Rattle.append_log.proofs.RecordPieces.{front_none, front_taken, on_err}
+use Rattle.std.proofs.Common.{◌∙◌, refl}
+use Rattle.std.proofs.lemmas.Result.{err_from_is_err_and}
+use Rattle.append_log.proofs.RecordPieces.{front_none}
 use Rattle.append_log.proofs.rewriting.put_record.Goals as goal
 
-pub returns-in_err-text-clause-err : goal.returns-in_err-text-clause-err
-returns-in_err-text-clause-err g c = on_err c.from_residual.result (front_none _ _)
+pub returns-in_err-text : goal.returns-in_err-text
+returns-in_err-text g c =
+    let p = err_from_is_err_and c.from_residual.result c.from_residual.ensures.1 in
+    rw (p.1, p.2) (front_none _ _, refl)
 
-pub returns-clause-err : goal.returns-clause-err
-returns-clause-err g c = rw (c.deref.ensures.value ∙ c.in_ok-text.ensures) at (front_taken _ _ c.deref.result.now _ c.write_out.ensures.told)
+pub returns : goal.returns
+returns g c = rw (c.deref.ensures.value ∙ c.in_ok-text.ensures) at c.put_bytes.ensures

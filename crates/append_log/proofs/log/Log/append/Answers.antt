@@ -18,8 +18,8 @@ invariant_of-self g c =
         unbroken = c.if-self.false;
         room = c.if-self-2.false;
         out = c.put-out.result.taken;
-        at_most = wrote.at_most;
-        told = wrote.told;
+        at_most = wrote.out.at_most;
+        told = wrote.out.told;
         synced = wrote.not_synced not_whole;
         appended = refl;
         settled = refl;
@@ -28,7 +28,7 @@ invariant_of-self g c =
         limit = refl;
         broken = refl;
         parts = refl;
-        failures = wrote.cause not_whole;
+        failures = wrote.out.cause not_whole;
       },
       c.self.invariant.1,
     )
@@ -41,8 +41,8 @@ returns-then-not-out-clause-err g c =
       unbroken = c.if-self.false;
       room = c.if-self-2.false;
       out = c.put-out.result.taken;
-      at_most = wrote.at_most;
-      told = wrote.told;
+      at_most = wrote.out.at_most;
+      told = wrote.out.told;
       synced = wrote.not_synced not_whole;
       appended = refl;
       settled = refl;
@@ -51,21 +51,21 @@ returns-then-not-out-clause-err g c =
       limit = refl;
       broken = refl;
       parts = refl;
-      failures = wrote.cause not_whole;
+      failures = wrote.out.cause not_whole;
     })
 
 pub invariant_of-self-2 : goal.invariant_of-self-2
 invariant_of-self-2 g c =
     let wrote = rw c.text.ensures.text at c.put-out.ensures in
     let whole : c.put-out.result.whole ≡ true = search rules in
-    let all = wrote.whole whole in
+    let all = wrote.out.whole whole in
     let fits : length (request c.args.entry.now) < 2 ^ 64 = omega (arith, c.text.type_inv.0, ap length c.text.ensures.text) in
     let text = request c.args.entry.now in
     let sink = c.self.inside.sink in (
       is_log_appends _ _ c.args.entry.now c.self.invariant.0 c.text.ensures.is_record fits record {
         unbroken = c.if-self.false;
         room = c.if-self-2.false;
-        told = wrote.told ∙ ap (λ n. append_known (g.S.LogSink.told sink) (take n text)) all ∙ ap (append_known (g.S.LogSink.told sink)) (take_all (length text) text (omega arith));
+        told = wrote.out.told ∙ ap (λ n. append_known (g.S.LogSink.told sink) (take n text)) all ∙ ap (append_known (g.S.LogSink.told sink)) (take_all (length text) text (omega arith));
         synced = wrote.synced whole;
         unsynced = wrote.unsynced;
         appended = refl;
@@ -75,7 +75,7 @@ invariant_of-self-2 g c =
         limit = refl;
         broken = refl;
         parts = refl;
-        failures = wrote.good whole;
+        failures = wrote.out.good whole;
       },
       c.rise.ensures.book ∙ ap (λ n. n + 1) c.self.invariant.1,
     )
@@ -94,8 +94,8 @@ returns-then-not-out-clause-records g c =
       unbroken = c.if-self.false;
       room = c.if-self-2.false;
       out = out;
-      at_most = wrote.at_most;
-      told = wrote.told;
+      at_most = wrote.out.at_most;
+      told = wrote.out.told;
       synced = wrote.not_synced not_whole;
       appended = refl;
       settled = refl;
@@ -104,7 +104,7 @@ returns-then-not-out-clause-records g c =
       limit = refl;
       broken = refl;
       parts = refl;
-      failures = wrote.cause not_whole;
+      failures = wrote.out.cause not_whole;
     }) (rw (← c.self.view_is) at has)
 
 pub returns-clause-records : goal.returns-clause-records
@@ -116,13 +116,13 @@ returns-clause-records g c =
     let text = request c.args.entry.now in
     let wrote = rw c.text.ensures.text at c.put-out.ensures in
     let whole : c.put-out.result.whole ≡ true = search rules in
-    let all = wrote.whole whole in
+    let all = wrote.out.whole whole in
     let old : LogView = record { told = S.told from.sink; synced = S.synced from.sink; calls = S.calls from.sink; failures = S.failures from.sink; appended = from.appended; settled = from.settled; written = from.written; limit = from.limit; deferred = from.deferred; broken = from.broken; parts = from.rest.parts } in
     let new : LogView = record { told = S.told to; synced = S.synced to; calls = S.calls to; failures = S.failures to; appended = from.appended + 1; settled = c.settled_after-self-inside.result; written = from.written + out; limit = from.limit; deferred = from.deferred; broken = from.broken; parts = from.rest.parts } in
     λ records has. has_appends old new c.args.entry.now records c.self.invariant.0.settled_within c.text.ensures.is_record (record {
       unbroken = c.if-self.false;
       room = c.if-self-2.false;
-      told = wrote.told ∙ ap (λ n. append_known (S.told from.sink) (take n text)) all ∙ ap (append_known (S.told from.sink)) (take_all (length text) text (omega arith));
+      told = wrote.out.told ∙ ap (λ n. append_known (S.told from.sink) (take n text)) all ∙ ap (append_known (S.told from.sink)) (take_all (length text) text (omega arith));
       synced = wrote.synced whole;
       unsynced = wrote.unsynced;
       appended = refl;
@@ -132,5 +132,5 @@ returns-clause-records g c =
       limit = refl;
       broken = refl;
       parts = refl;
-      failures = wrote.good whole;
+      failures = wrote.out.good whole;
     }) (rw (← c.self.view_is) at has)
