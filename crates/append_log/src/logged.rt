@@ -116,37 +116,6 @@ fn run_writing_once<H: BuildHasher + Clone + Drop, S: LogSink, L: Ledger, A: All
     Ok(owner.commit(command))
 }
 
-/// Runs a command that changes sets. A removal that finds no memory lets go what the owner keeps back, and is run
-/// again.
-fn run_writing<H: BuildHasher + Clone + Drop, S: LogSink, L: Ledger, A: Allocator + Copy>(
-    alloc: A,
-    owner: &mut OneOwner<H, A>,
-    log: &mut Log<S, L>,
-    share: &mut RecordShare<L>,
-    command: &Command<A>,
-) -> Result<Reply<A>, Refusal>
-    requires idle { owner.old.next ≡ None }
-    requires writing { IsTrue (is_writing command.now.meaning) }
-    ensures idle { owner.new.next ≡ None }
-    ensures ok { IfOk result (λ reply. Ran
-        (record { world = owner.old.world; log = log.old; share = share.old })
-        (record { world = owner.new.world; log = log.new; share = share.new }) command.now
-        (response_of reply)) }
-    ensures err { IfErr result (λ refusal. Refused
-        (record { world = owner.old.world; log = log.old; share = share.old })
-        (record { world = owner.new.world; log = log.new; share = share.new }) command.now refusal) }
-    ensures unbroken { OnOk result (log.old.broken ≡ true → AreSame owner.old.world owner.new.world) }
-    ensures replays { (start : WorldType)
-        → Replays start (record { world = owner.old.world; log = log.old; share = share.old })
-        → Replays start (record { world = owner.new.world; log = log.new; share = share.new }) }
-{
-    let ran = run_writing_once(alloc, owner, log, share, command);
-    if matches!(ran, Err(Refusal::NoMemory)) && owner.lets_go(command) {
-        return run_writing_once(alloc, owner, log, share, command);
-    }
-    ran
-}
-
 /// Runs a command that reads.
 fn run_reading<H: BuildHasher + Clone + Drop, A: Allocator + Copy>(
     owner: &mut OneOwner<H, A>,
@@ -251,17 +220,27 @@ impl<H: BuildHasher + Clone + Drop, S: LogSink, L: Ledger, A: Allocator + Copy> 
         // the file's.
         ensures replays { (start : WorldType) → Replays start self.old → Replays start self.new }
     {
-        if command.writes() {
-            run_writing(
+        if !command.writes() {
+            return run_reading(&mut self.owner, command);
+        }
+        let ran = run_writing_once(
+            self.alloc,
+            &mut self.owner,
+            &mut self.log,
+            &mut self.share,
+            command,
+        );
+        // A removal that finds no memory lets go what the owner keeps back, and is run again.
+        if matches!(ran, Err(Refusal::NoMemory)) && self.owner.lets_go(command) {
+            return run_writing_once(
                 self.alloc,
                 &mut self.owner,
                 &mut self.log,
                 &mut self.share,
                 command,
-            )
-        } else {
-            run_reading(&mut self.owner, command)
+            );
         }
+        ran
     }
 
     /// Settles the records of a deferred log, as [`Log::sync`] does. No set changes.
