@@ -16,8 +16,8 @@ use std::sync::ledger::Ledger;
 use std::sync::{Mutex, Wait};
 use zset_core::{Command, Refusal, ZSet};
 
-/// Runs a command on a set. Where the set becomes another, its record is appended first, under the
-/// log's lock. Refused: set and share stay.
+/// Runs a command on a set. One that changes sets is prepared, its record is appended where the set will change, under
+/// the log's lock, and then it is committed. Refused: set and share stay.
 pub(crate) fn take_step<R: Wait, H: BuildHasher, S: LogSink, L: Ledger, A: Allocator + Copy>(
     rt: &R,
     alloc: A,
@@ -35,32 +35,9 @@ pub(crate) fn take_step<R: Wait, H: BuildHasher, S: LogSink, L: Ledger, A: Alloc
     ensures err { OnErr result ((set.new.members ≡ set.old.members) × (share.new ≡ share.old)) }
     ensures cause { IfErr result (λ refusal. IsHindered refusal set.old.members command.now) }
 {
-    if command.writes() {
-        change(rt, alloc, set, share, log, command)
-    } else {
-        Ok(read(set, command)?)
+    if !command.writes() {
+        return Ok(read(set, command)?);
     }
-}
-
-/// Runs a command that changes sets: prepares it, appends its record where the set will change,
-/// commits it.
-fn change<R: Wait, H: BuildHasher, S: LogSink, L: Ledger, A: Allocator + Copy>(
-    rt: &R,
-    alloc: A,
-    set: &mut ZSet<H, A>,
-    share: &mut RecordShare<L>,
-    log: &Mutex<Log<S, L>>,
-    command: &Command<A>,
-) -> Result<(Reply<A>, OwnCounts), Refusal>
-    requires idle { set.old.next ≡ None }
-    requires writing { IsTrue (is_writing command.now.meaning) }
-    ensures idle { set.new.next ≡ None }
-    ensures ok { IfOk result (λ done. SetStepped set.old.members set.new.members command.now
-        (response_of done.0) done.1) }
-    ensures logged { OnOk result (IsLogged set.old.members set.new.members share.old share.new) }
-    ensures err { OnErr result ((set.new.members ≡ set.old.members) × (share.new ≡ share.old)) }
-    ensures cause { IfErr result (λ refusal. IsHindered refusal set.old.members command.now) }
-{
     let outline = set.prepare(command)?;
     if outline.changed {
         if let Err(refusal) = append(rt, alloc, set, share, log, command) {
@@ -69,13 +46,11 @@ fn change<R: Wait, H: BuildHasher, S: LogSink, L: Ledger, A: Allocator + Copy>(
         }
     }
     let reply = set.commit();
-    Ok((
-        reply,
-        OwnCounts {
-            added: outline.added as u64,
-            removed: outline.removed as u64,
-        },
-    ))
+    let own = OwnCounts {
+        added: outline.added as u64,
+        removed: outline.removed as u64,
+    };
+    Ok((reply, own))
 }
 
 /// Appends the record of the change that a set has prepared, under the log's lock.

@@ -1,12 +1,12 @@
-use Rattle.std.proofs.Common.{◌≡◌, ◌∙◌}
+use Rattle.std.proofs.Common.{◌≡◌, ◌∙◌, rules}
 use Rattle.resp_wire.specs.Response.{response_of}
 use Rattle.set_table.proofs.StepLemmas.{becomes_other, hinders, moved, stayed}
-use Rattle.set_table.proofs.cell.step.change.Goals as goal
-use Rattle.set_table.proofs.cell.step.change.Goals.{then-outline+in_default, else-outline}
+use Rattle.set_table.proofs.cell.step.take_step.Goals as goal
+use Rattle.set_table.proofs.cell.step.take_step.Goals.{then-outline+in_default, else-outline}
 
 pub returns-in-Err-clause-cause : goal.returns-in-Err-clause-cause
 returns-in-Err-clause-cause g c =
-    hinders c.args.set.now.members c.args.command.now c.in_ok-outline.outline c.prepare.new.self.next c.in-Err.refusal c.requires.writing c.in_ok-outline.ensures.ok c.in_ok-outline.ensures.outline c.if-outline.true c.in-Err.ensures.err
+    hinders c.args.set.now.members c.args.command.now c.in_ok-outline.outline c.prepare.new.self.next c.in-Err.refusal (search rules) c.in_ok-outline.ensures.ok c.in_ok-outline.ensures.outline c.if-outline.true c.in-Err.ensures.err
 
 pub returns-clause-logged : goal.returns-clause-logged
 returns-clause-logged g c =
