@@ -1,13 +1,15 @@
 -- A run more keeps a cell whole.
-use Rattle.std.proofs.Common.{◌≡◌, ℕ, ◌+◌, ◌*◌, ◌^◌, ◌<◌, ◌≤◌, ◌∙◌, false, List, length, replicate, get_or, set, Option, None, Some, Result, Ok, Err, IfSome, IfOk, MatchResult, inr, sym, ap, subst, refl, arith, length-set, get_or-set_same}
+use Rattle.std.proofs.Common.{◌≡◌, ℕ, ◌+◌, ◌*◌, ◌^◌, ◌<◌, ◌≤◌, ◌∙◌, false, List, length, replicate, get_or, set, Option, None, Some, Result, Ok, Err, IfSome, IfOk, IfErr, MatchResult, inl, inr, sym, ap, subst, refl, arith, length-set, get_or-set_same}
 use Rattle.std.specs.FinMap as fin
-use Rattle.std.proofs.lemmas.List.{get_or_default}
+use Rattle.std.specs.Prelude.{OnErr}
+use Rattle.std.proofs.lemmas.List.{get_or_default, set-get_or}
 use Rattle.std.proofs.lemmas.List.Folds.{sum_by-replicate}
 use Rattle.std.proofs.lemmas.List.Sums.{sum_by-set, get_or-le-sum_by}
 use Rattle.resp_wire.specs.Response.{Response}
-use Rattle.zset_core.specs.AbstractCommand.{Asked, is_writing}
+use Rattle.zset_core.specs.AbstractCommand.{Asked, Meaning, is_writing}
 use Rattle.zset_core.specs.SetAndOwnerViews.{SetView}
 use Rattle.zset_core.specs.declared.refusal.Refusal.{Refusal}
+use Rattle.zset_core.specs.declared.refusal.Refusal.TheVariants.{NoMemory, OutOfStep}
 use Rattle.set_table.specs.declared.counts.Tally.{Tally}
 use Rattle.set_table.specs.declared.limits.TheConstants.{MAX_RUNS}
 use Rattle.set_table.specs.declared.counts.Counts.{Counts}
@@ -16,6 +18,7 @@ use Rattle.set_table.specs.PassTallies.{ShareView, empty_tally, tally_after, tot
 use Rattle.set_table.specs.SetSteps.{SetStepped, IsLawful, IsLogged, AnswerView}
 use Rattle.set_table.specs.CellStates.{CellView, CellIsWhole, InStep, HasRun, HasRead, HasNoReading, WasRun, counts_of, new_cell}
 use Rattle.set_table.specs.WorkerPasses.{AreSharesOf, WasAnswered, no_share}
+use Rattle.set_table.specs.TableAnswers.{IsAnsweredAt, IsSetRefusal}
 
 -- what one pass was told is within the totals
 record Within (t : Tally) (records : List Tally) : Type 0 where
@@ -178,15 +181,40 @@ read_by opened shares number place c command a are here reads h =
       told = inr (reads, refl, h.own_is);
     }
 
+-- why a cell refuses a reading is why a set and its place refuse
+refused_reading : (refusal : Refusal) (c : CellView) (s : ShareView) (meaning : Meaning) → HasNoReading refusal c s → IsSetRefusal meaning refusal
+refused_reading NoMemory c s meaning h = tt
+refused_reading OutOfStep c s meaning h = tt
+refused_reading _ c s meaning h = absurd h
+
 -- the same of what a cell answers to the share that stands at the place, if it answers
 pub if_read_by : (opened : List ℕ) (shares own : List ShareView) (number place : ℕ) (c : CellView) (s : ShareView) (command : Asked) (r : Option (Result AnswerView Refusal)) → AreSharesOf opened number shares → place < length opened → is_writing command.meaning ≡ false
-    → own ≡ shares → s ≡ get_or own place s → IfSome r (λ read. MatchResult read (λ a. HasRead c s command a) (λ refusal. HasNoReading refusal c s)) → IfSome r (λ read. IfOk read (λ a. WasAnswered opened shares shares place command a))
+    → own ≡ shares → s ≡ get_or own place s → IfSome r (λ read. MatchResult read (λ a. HasRead c s command a) (λ refusal. HasNoReading refusal c s)) → IfSome r (IsAnsweredAt opened shares shares place command)
 if_read_by opened shares own number place c s command None are here reads same is h = tt
-if_read_by opened shares own number place c s command (Some (Err refusal)) are here reads same is h = tt
+if_read_by opened shares own number place c s command (Some (Err refusal)) are here reads same is h = (refl, refused_reading refusal c s command.meaning h)
 if_read_by opened shares own number place c s command (Some (Ok a)) are here reads same is h =
     let at : s ≡ get_or shares place no_share =
     is ∙ ap (λ (list : List ShareView). get_or list place s) same ∙ get_or_default shares place s no_share (omega (arith, are.places, here)) in
     read_by opened shares number place c command a are here reads (subst (λ (t : ShareView). HasRead c t command a) at h)
+
+-- what a run answers, or why it is refused, to such a caller
+pub run_by : (opened : List ℕ) (shares own after : List ShareView) (number place : ℕ) (command : Asked) (s t : ShareView) (r : Result AnswerView Refusal) → AreSharesOf opened number shares → place < length opened
+    → own ≡ shares → s ≡ get_or own place s → after ≡ set own place t → IfOk r (λ a. WasRun s t command a) → OnErr r (t ≡ s) → IfErr r (IsSetRefusal command.meaning) → IsAnsweredAt opened shares after place command r
+run_by opened shares own after number place command s t (Err refusal) are here same is put ran stays refused =
+    (put ∙ ap (λ (u : ShareView). set own place u) (stays ∙ is) ∙ set-get_or own place s ∙ same, refused)
+run_by opened shares own after number place command s t (Ok a) are here same is put ran stays refused =
+    let at : s ≡ get_or shares place no_share =
+    is ∙ ap (λ (list : List ShareView). get_or list place s) same ∙ get_or_default shares place s no_share (omega (arith, are.places, here)) in
+    let mine = are.each place here in
+    record {
+      command_is = ran.command_is;
+      place_is = ran.place_is ∙ ap (λ (u : ShareView). u.place) at ∙ mine.place_is;
+      lawful = ran.lawful;
+      opened_is = ran.opened_is ∙ ap (λ (u : ShareView). u.opened) at ∙ mine.opened_is;
+      added = omega (arith, ran.added, ap (λ (u : ShareView). u.tally.added) at);
+      removed = omega (arith, ran.removed, ap (λ (u : ShareView). u.tally.removed) at);
+      told = inl (put ∙ ap (λ (list : List ShareView). set list place t) same ∙ ap (λ (u : ShareView). set shares place u) (ran.share ∙ ap (λ (u : ShareView). share_after_run u a.own) at));
+    }
 
 -- a new cell
 pub whole_new : (place : ℕ) (kept : SetView) (opened max_runs appended passes : ℕ) (tallies : List Tally) → kept.next ≡ None → opened ≡ fin.len kept.members → opened < 2 ^ 63 → max_runs ≤ MAX_RUNS → tallies ≡ replicate passes empty_tally

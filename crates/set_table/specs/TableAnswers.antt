@@ -1,5 +1,5 @@
 -- What a table answers.
-use Rattle.std.specs.Prelude.{◌≡◌, ℕ, ◌⊎◌, Bool, true, false, List, None, Some, IsTrue}
+use Rattle.std.specs.Prelude.{◌≡◌, ℕ, ◌<◌, ◌⊎◌, Bool, true, false, List, length, None, Some, IsSome, Result, Ok, Err, IsTrue}
 use Rattle.std.specs.FinMap as fin
 use Rattle.resp_wire.specs.Response.{response_of}
 use Rattle.zset_core.specs.AbstractCommand.{Asked, Meaning, Ping, Asks, Changes, Change, Increase, key_of, is_creating, is_writing}
@@ -8,7 +8,9 @@ use Rattle.zset_core.specs.SortedSet.{Members}
 use Rattle.zset_core.specs.declared.refusal.Refusal.{Refusal}
 use Rattle.zset_core.specs.declared.refusal.Refusal.TheVariants.{NoMemory, TableFull, ScoreOverflow, LogBroken, LogFull, LogRefused, Spent, OutOfStep}
 use Rattle.set_table.specs.Naming.{IsPlace, IsFull}
-use Rattle.set_table.specs.WorkerPasses.{TableView, PassView, WasAnswered}
+use Rattle.set_table.specs.PassTallies.{ShareView}
+use Rattle.set_table.specs.SetSteps.{AnswerView}
+use Rattle.set_table.specs.WorkerPasses.{TableView, PassView, IsPassOf, WasAnswered}
 use Rattle.set_table.specs.declared.table.Answered.{Answered}
 use Rattle.set_table.specs.declared.table.Answered.TheVariants.{Ran, NoPlace}
 
@@ -63,3 +65,20 @@ IsSetRefusal meaning _ = ⊥
 abbrev pub IsTableRefusal : Meaning → PassView → Refusal → Type 0
 IsTableRefusal meaning pass TableFull = (key : List ℕ) × (key_of meaning ≡ Some key) × IsFull pass.notes.known key
 IsTableRefusal meaning pass e = IsSetRefusal meaning e
+
+-- a command may be asked at a place: the pass is the table's, the place one of its places, and the command has a key
+pub record MayBeAskedAt (table : TableView) (pass : PassView) (place : ℕ) (command : Asked) : Type 0 where
+  pub own : IsPassOf table pass
+  pub within : place < length table.opened
+  pub keyed : IsSome (key_of command.meaning)
+
+-- a pass is the table's after an answer too, and its number and notes stay
+pub record KeepsPass (table : TableView) (old new : PassView) : Type 0 where
+  pub own : IsPassOf table new
+  pub number : new.number ≡ old.number
+  pub notes : new.notes ≡ old.notes
+
+-- a place's answer, by a pass's shares before and after; or a refusal, at which they stay
+abbrev pub IsAnsweredAt : List ℕ → List ShareView → List ShareView → ℕ → Asked → Result AnswerView Refusal → Type 0
+IsAnsweredAt opened before after place command (Ok a) = WasAnswered opened before after place command a
+IsAnsweredAt opened before after place command (Err refusal) = (after ≡ before) × IsSetRefusal command.meaning refusal

@@ -1,10 +1,10 @@
 //! Sets behind locks of their own, found by names that are set once.
 
-ghost use Rattle.std.specs.Prelude.{◌≡◌, ◌<◌, ◌≤◌, false, length, IfOk, IfErr, IfSome, OnErr, OnOk, IsSome, IsTrue, MatchOption};
-ghost use Rattle.zset_core.specs.AbstractCommand.{is_creating, is_writing, key_of};
+ghost use Rattle.std.specs.Prelude.{◌≡◌, ◌<◌, ◌≤◌, false, length, IfOk, IfErr, IfSome, OnErr, OnOk, IsTrue, MatchOption};
+ghost use Rattle.zset_core.specs.AbstractCommand.{is_creating, is_writing};
 ghost use Rattle.set_table.specs.Naming.{NamingGrows, IsPlace};
-ghost use Rattle.set_table.specs.WorkerPasses.{IsPassOf, WasAnswered, kept_back};
-ghost use Rattle.set_table.specs.TableAnswers.{HasNoPlace, IsAnswered, IsClaimRefusal, IsSetRefusal, IsTableRefusal};
+ghost use Rattle.set_table.specs.WorkerPasses.{IsPassOf, kept_back};
+ghost use Rattle.set_table.specs.TableAnswers.{HasNoPlace, IsAnswered, IsAnsweredAt, IsClaimRefusal, IsTableRefusal, KeepsPass, MayBeAskedAt};
 
 mod close;
 
@@ -49,6 +49,15 @@ impl<H: BuildHasher, S: LogSink, L: Ledger, A: Allocator + Copy> Model for Table
     ghost view = { λ t. record { names = t.names; opened = t.opened.items; passes = t.passes; max_runs = t.max_runs; records_before = t.records_before } };
 
     ghost invariant = { λ t. (length t.names ≡ length t.opened.items) × (length t.cells.items ≡ length t.opened.items) × (0 < length t.names) × (length t.names ≤ MAX_PLACES) };
+}
+
+/// A command at a place, with what its worker waits by for the lock, and the gate that is called inside.
+#[derive(Drop)]
+struct AtPlace<'a, 'c, R, G, A: Allocator> {
+    rt: &'a R,
+    gate: &'a G,
+    place: usize,
+    command: &'c Command<A>,
 }
 
 /// What a table answers to a command.
@@ -135,10 +144,19 @@ impl<H: BuildHasher, S: LogSink, L: Ledger, A: Allocator + Copy> Table<H, S, L, 
         let Some(key) = command.key() else {
             return Ok(Answered::NoPlace(command.reply_without_set(self.alloc)?));
         };
-        match self.place_of(pass, key, command.creates())? {
-            Some(place) => Ok(Answered::Ran(self.answer_at(rt, pass, place, command, gate)?)),
-            None => Ok(Answered::NoPlace(command.reply_without_set(self.alloc)?)),
+        let at = match self.place_of(pass, key, command.creates())? {
+            Some(place) => AtPlace {
+                rt,
+                gate,
+                place,
+                command,
+            },
+            None => return Ok(Answered::NoPlace(command.reply_without_set(self.alloc)?)),
+        };
+        if command.writes() {
+            return Ok(Answered::Ran(self.change_at(pass, &at)?));
         }
+        Ok(Answered::Ran(self.ask_at(pass, &at)?))
     }
 
     /// Settles the log's record of this number and those before it, by the syncer of the log. Gives how many records are
@@ -176,37 +194,50 @@ impl<H: BuildHasher, S: LogSink, L: Ledger, A: Allocator + Copy> Table<H, S, L, 
         Ok(self.find(pass, key))
     }
 
-    /// Answers at a place: under the shared lock where the set can as it stands and reads few rows for
-    /// it, else under the exclusive one.
-    fn answer_at<'c, R: Wait, G: TestGate>(
+    /// Runs a command that changes sets. An addition keeps memory back, which a removal that finds none lets go and is
+    /// tried again.
+    fn change_at<'c, R: Wait, G: TestGate>(
         &self,
-        rt: &R,
         pass: &mut Pass<A>,
-        place: usize,
-        command: &'c Command<A>,
-        gate: &G,
+        at: &AtPlace<'_, 'c, R, G, A>,
     ) -> Result<Answer<'c, A>, Refusal>
-        requires own { IsPassOf self.now pass.old }
-        requires within { place < length self.now.opened }
-        requires keyed { IsSome (key_of command.now.meaning) }
-        ensures own { IsPassOf self.now pass.new }
-        ensures rest { (pass.new.number ≡ pass.old.number) × (pass.new.notes ≡ pass.old.notes) }
-        ensures ok { IfOk result (λ answer. WasAnswered self.now.opened pass.old.shares
-            pass.new.shares place command.now answer) }
-        ensures err { OnErr result (pass.new.shares ≡ pass.old.shares) }
-        ensures refused { IfErr result (IsSetRefusal command.now.meaning) }
-        ensures kept { IsTrue (is_creating command.now.meaning)
+        requires { MayBeAskedAt self.now pass.old at.now.place at.now.command.now }
+        ensures pass { KeepsPass self.now pass.old pass.new }
+        ensures answer { IsAnsweredAt self.now.opened pass.old.shares pass.new.shares at.now.place
+            at.now.command.now result }
+        ensures kept { IsTrue (is_creating at.now.command.now.meaning)
             → OnOk result (kept_back ≤ pass.new.kept) }
     {
-        if command.writes() {
-            return self.change_at(rt, pass, place, command, gate);
+        if at.command.creates() {
+            pass.spare.keep()?;
+            return self.run_at(pass, at);
         }
-        if let Some(answer) = self.read_at(rt, pass, place, command, gate) {
+        let ran = self.run_at(pass, at);
+        if matches!(ran, Err(Refusal::NoMemory)) && at.command.removes() && pass.spare.let_go() {
+            return self.run_at(pass, at);
+        }
+        ran
+    }
+
+    /// Answers a command that reads: under the shared lock where the set can as it stands and reads few rows for it,
+    /// else under the exclusive one.
+    fn ask_at<'c, R: Wait, G: TestGate>(
+        &self,
+        pass: &mut Pass<A>,
+        at: &AtPlace<'_, 'c, R, G, A>,
+    ) -> Result<Answer<'c, A>, Refusal>
+        requires may { MayBeAskedAt self.now pass.old at.now.place at.now.command.now }
+        requires reading { is_writing at.now.command.now.meaning ≡ false }
+        ensures pass { KeepsPass self.now pass.old pass.new }
+        ensures answer { IsAnsweredAt self.now.opened pass.old.shares pass.new.shares at.now.place
+            at.now.command.now result }
+    {
+        if let Some(answer) = self.read_at(pass, at) {
             return answer;
         }
-        match self.run_at(rt, pass, place, command, gate) {
+        match self.run_at(pass, at) {
             // Another worker may have taken the place's last run since. Then the cell answers whatever it has to read.
-            Err(Refusal::Spent) => match self.read_at(rt, pass, place, command, gate) {
+            Err(Refusal::Spent) => match self.read_at(pass, at) {
                 Some(answer) => answer,
                 None => Err(Refusal::Spent),
             },
@@ -214,87 +245,38 @@ impl<H: BuildHasher, S: LogSink, L: Ledger, A: Allocator + Copy> Table<H, S, L, 
         }
     }
 
-    /// Runs a command that changes sets. An addition keeps memory back, which a removal that finds none lets go and is
-    /// tried again.
-    fn change_at<'c, R: Wait, G: TestGate>(
-        &self,
-        rt: &R,
-        pass: &mut Pass<A>,
-        place: usize,
-        command: &'c Command<A>,
-        gate: &G,
-    ) -> Result<Answer<'c, A>, Refusal>
-        requires own { IsPassOf self.now pass.old }
-        requires within { place < length self.now.opened }
-        requires keyed { IsSome (key_of command.now.meaning) }
-        ensures own { IsPassOf self.now pass.new }
-        ensures rest { (pass.new.number ≡ pass.old.number) × (pass.new.notes ≡ pass.old.notes) }
-        ensures ok { IfOk result (λ answer. WasAnswered self.now.opened pass.old.shares
-            pass.new.shares place command.now answer) }
-        ensures err { OnErr result (pass.new.shares ≡ pass.old.shares) }
-        ensures refused { IfErr result (IsSetRefusal command.now.meaning) }
-        ensures kept { IsTrue (is_creating command.now.meaning)
-            → OnOk result (kept_back ≤ pass.new.kept) }
-    {
-        if command.creates() {
-            pass.spare.keep()?;
-            return self.run_at(rt, pass, place, command, gate);
-        }
-        let ran = self.run_at(rt, pass, place, command, gate);
-        if matches!(ran, Err(Refusal::NoMemory)) && command.removes() && pass.spare.let_go() {
-            return self.run_at(rt, pass, place, command, gate);
-        }
-        ran
-    }
-
     /// Asks a place's cell under its shared lock, unless it had better be run.
     fn read_at<'c, R: Wait, G: TestGate>(
         &self,
-        rt: &R,
         pass: &Pass<A>,
-        place: usize,
-        command: &'c Command<A>,
-        gate: &G,
+        at: &AtPlace<'_, 'c, R, G, A>,
     ) -> Option<Result<Answer<'c, A>, Refusal>>
-        requires own { IsPassOf self.now pass.now }
-        requires within { place < length self.now.opened }
-        requires keyed { IsSome (key_of command.now.meaning) }
-        requires reading { is_writing command.now.meaning ≡ false }
-        ensures ok { IfSome result
-            (λ read. IfOk read (λ answer. WasAnswered self.now.opened pass.now.shares
-            pass.now.shares place command.now answer)) }
-        ensures refused { IfSome result
-            (λ read. IfErr read (IsSetRefusal command.now.meaning)) }
+        requires may { MayBeAskedAt self.now pass.now at.now.place at.now.command.now }
+        requires reading { is_writing at.now.command.now.meaning ≡ false }
+        ensures { IfSome result (IsAnsweredAt self.now.opened pass.now.shares pass.now.shares
+            at.now.place at.now.command.now) }
     {
-        let cell = self.cells[place].read(rt);
-        gate.inside(place);
+        let cell = self.cells[at.place].read(at.rt);
+        at.gate.inside(at.place);
         pass.note_told(cell.last_record());
-        cell.read_few(command, &pass.shares[place])
+        cell.read_few(at.command, &pass.shares[at.place])
     }
 
     /// Runs a command at a place's cell under its exclusive lock.
     fn run_at<'c, R: Wait, G: TestGate>(
         &self,
-        rt: &R,
         pass: &mut Pass<A>,
-        place: usize,
-        command: &'c Command<A>,
-        gate: &G,
+        at: &AtPlace<'_, 'c, R, G, A>,
     ) -> Result<Answer<'c, A>, Refusal>
-        requires own { IsPassOf self.now pass.old }
-        requires within { place < length self.now.opened }
-        requires keyed { IsSome (key_of command.now.meaning) }
-        ensures own { IsPassOf self.now pass.new }
-        ensures rest { (pass.new.number ≡ pass.old.number) × (pass.new.notes ≡ pass.old.notes) }
+        requires { MayBeAskedAt self.now pass.old at.now.place at.now.command.now }
+        ensures pass { KeepsPass self.now pass.old pass.new }
         ensures kept { pass.new.kept ≡ pass.old.kept }
-        ensures ok { IfOk result (λ answer. WasAnswered self.now.opened pass.old.shares
-            pass.new.shares place command.now answer) }
-        ensures err { OnErr result (pass.new.shares ≡ pass.old.shares) }
-        ensures refused { IfErr result (IsSetRefusal command.now.meaning) }
+        ensures answer { IsAnsweredAt self.now.opened pass.old.shares pass.new.shares at.now.place
+            at.now.command.now result }
     {
-        let mut cell = self.cells[place].write(rt);
-        gate.inside(place);
-        let ran = cell.run(rt, command, &mut pass.shares[place], &self.log);
+        let mut cell = self.cells[at.place].write(at.rt);
+        at.gate.inside(at.place);
+        let ran = cell.run(at.rt, at.command, &mut pass.shares[at.place], &self.log);
         pass.note_told(cell.last_record());
         ran
     }

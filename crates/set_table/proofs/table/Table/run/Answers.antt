@@ -4,8 +4,8 @@ use Rattle.set_table.specs.TableAnswers.{HasNoPlace}
 use Rattle.set_table.proofs.PlaceLemmas.{same_some}
 use Rattle.set_table.proofs.table.Table.run.Goals as goal
 
-pub returns-in_ok-reply_without_set-in-None-clause-ok : goal.returns-in_ok-reply_without_set-in-None-clause-ok
-returns-in_ok-reply_without_set-in-None-clause-ok g c =
+pub returns-in-None-clause-ok : goal.returns-in-None-clause-ok
+returns-in-None-clause-ok g c =
     let none = rw c.in-None.is at c.in_ok-place.ensures.ok in (
       c.place_of.ensures.rest.1,
       c.in_ok-reply_without_set-in-None.ensures,
