@@ -8,7 +8,7 @@ use Rattle.resp_wire.specs.declared.fault.Stop.{Stop}
 use Rattle.resp_wire.specs.declared.fault.Stop.TheVariants.{Short, Wrong}
 use Rattle.resp_wire.specs.RequestEncoding.{Item, Ask, SkipZero, SkipMinus, IsItem, IsSkip, IsRequest, request, encoding_of}
 use Rattle.resp_wire.specs.Parser.{item_at, head_at, byte_at}
-use Rattle.resp_wire.specs.Stream.{fault_of, split_items, asked, items, requests, rest, fault}
+use Rattle.resp_wire.specs.Stream.{fault_of, split_items, requests_among, items, requests, rest, fault}
 use Rattle.resp_wire.specs.DecoderView.{DecoderView, Gave, Waits}
 use Rattle.zset_core.specs.SetsByKey.{World}
 use Rattle.append_log.specs.Records.{Record}
@@ -18,7 +18,7 @@ use Rattle.append_log.specs.ReloadSteps.{Takes}
 use Rattle.append_log.specs.Reload.{Replayed, ReloadHolds, IsLess, AllReplayed, IsLoaded, FaultAt, version_number}
 use Rattle.append_log.specs.declared.loading.Loaded.{Loaded}
 use Rattle.append_log.specs.declared.loading.ReloadFault.TheVariants.{NoMemory, Damaged, NotACommand, UnknownVersion}
-use Rattle.append_log.proofs.RecordTexts.{asked-append}
+use Rattle.append_log.proofs.RecordTexts.{requests_among-append}
 use Rattle.append_log.proofs.ReplayLemmas.{replay-append, version_after-append, count-append}
 
 nothing_asked : requests [] ≡ []
@@ -37,9 +37,9 @@ nothing_wrong : fault [] ≡ None
 unfolding fault rest split_items item_at head_at byte_at
 nothing_wrong = refl
 
-asks : (bytes : List ℕ) (others : List Item) → items bytes ≡ others → requests bytes ≡ asked others
+asks : (bytes : List ℕ) (others : List Item) → items bytes ≡ others → requests bytes ≡ requests_among others
 unfolding requests
-asks bytes others is = ap asked is
+asks bytes others is = ap requests_among is
 
 wrong_at : (bytes : List ℕ) (f : ProtocolFault) → fault bytes ≡ Some f → fault_of (item_at (rest bytes)) ≡ Some f
 unfolding fault
@@ -50,11 +50,11 @@ wrong_of (Ok x) f is = absurd (let no : None ≡ Some f = is in cc)
 wrong_of (Err Short) f is = absurd (let no : None ≡ Some f = is in cc)
 wrong_of (Err (Wrong e)) f is = ap (λ (g : ProtocolFault). Err (Wrong g)) (let same : e ≡ f = cc in same)
 
-asked-skips : (skips : List Item) → AllByRecursion IsSkip skips → asked skips ≡ []
-asked-skips [] each = refl
-asked-skips (Ask words ∷ skips) each = absurd each.0
-asked-skips (SkipZero ∷ skips) each = asked-skips skips each.1
-asked-skips (SkipMinus ∷ skips) each = asked-skips skips each.1
+requests_among-skips : (skips : List Item) → AllByRecursion IsSkip skips → requests_among skips ≡ []
+requests_among-skips [] each = refl
+requests_among-skips (Ask words ∷ skips) each = absurd each.0
+requests_among-skips (SkipZero ∷ skips) each = requests_among-skips skips each.1
+requests_among-skips (SkipMinus ∷ skips) each = requests_among-skips skips each.1
 
 -- what stands behind others is an item as they are
 behind : (before : List Item) (item : Item) (more : List Item) → AllByRecursion IsItem (before ++ item ∷ more) → IsItem item
@@ -151,12 +151,12 @@ module _ (whole : (text : List ℕ) → (text ≡ flat_map encoding_of (items te
 
   -- whole records and skips, and then items alone
   replayed_on : (start : World) (bytes : List ℕ) (at : ℕ) (held behind : List ℕ) (world next : World) (count : ℕ) (version : Option Version) (others : List Item) → Replayed start bytes at held world count version → AllByRecursion IsItem others
-      → held ≡ flat_map encoding_of others ++ behind → replay_from version world (asked others) ≡ Some next
-      → Replayed start bytes (at + length (flat_map encoding_of others)) behind next (count + count_from version (asked others)) (version_after version (asked others))
+      → held ≡ flat_map encoding_of others ++ behind → replay_from version world (requests_among others) ≡ Some next
+      → Replayed start bytes (at + length (flat_map encoding_of others)) behind next (count + count_from version (requests_among others)) (version_after version (requests_among others))
   replayed_on start bytes at held behind world next count version others r each is leads =
       let text = flat_map encoding_of others in
       let joined : rest r.front ++ text ≡ text = ap (λ (l : List ℕ). l ++ text) r.ends in
-      let asks_all : requests (r.front ++ text) ≡ requests r.front ++ asked others =
+      let asks_all : requests (r.front ++ text) ≡ requests r.front ++ requests_among others =
       cut_requests r.front text ∙ ap (λ (l : List ℕ). requests r.front ++ requests l) joined ∙ ap (λ (l : List Record). requests r.front ++ l) (asks text others (items_whole others each)) in
       let before = version_after None (requests r.front) in
       record {
@@ -164,10 +164,10 @@ module _ (whole : (text : List ℕ) → (text ≡ flat_map encoding_of (items te
         bytes_are = r.bytes_are ∙ ap (λ (l : List ℕ). r.front ++ l) is ∙ sym (append_assoc r.front text behind);
         at_is = length-append r.front text ∙ ap (λ n. n + length text) r.at_is;
         ends = cut_rest r.front text ∙ ap rest joined ∙ rest_whole others each;
-        replayed = ap (replay start) asks_all ∙ replay-append None start (requests r.front) (asked others) world r.replayed ∙ ap (λ (v : Option Version). replay_from v world (asked others)) (sym r.version_is) ∙ leads;
-        count_is = ap (λ n. n + count_from version (asked others)) r.count_is ∙ ap (λ (v : Option Version). count_from None (requests r.front) + count_from v (asked others)) r.version_is
-            ∙ sym (count-append None (requests r.front) (asked others)) ∙ ap (count_from None) (sym asks_all);
-        version_is = ap (λ (v : Option Version). version_after v (asked others)) r.version_is ∙ sym (version_after-append None (requests r.front) (asked others)) ∙ ap (version_after None) (sym asks_all);
+        replayed = ap (replay start) asks_all ∙ replay-append None start (requests r.front) (requests_among others) world r.replayed ∙ ap (λ (v : Option Version). replay_from v world (requests_among others)) (sym r.version_is) ∙ leads;
+        count_is = ap (λ n. n + count_from version (requests_among others)) r.count_is ∙ ap (λ (v : Option Version). count_from None (requests r.front) + count_from v (requests_among others)) r.version_is
+            ∙ sym (count-append None (requests r.front) (requests_among others)) ∙ ap (count_from None) (sym asks_all);
+        version_is = ap (λ (v : Option Version). version_after v (requests_among others)) r.version_is ∙ sym (version_after-append None (requests r.front) (requests_among others)) ∙ ap (version_after None) (sym asks_all);
       }
 
   -- no record, no change
@@ -185,7 +185,7 @@ module _ (whole : (text : List ℕ) → (text ≡ flat_map encoding_of (items te
 
   module _ (start : World) (bytes : List ℕ) (old new : DecoderView) (world : World) (count : ℕ) (version : Option Version) (h : ReloadHolds start bytes old world count version) (bytes_stay : new.taken + length new.held ≡ old.taken + length old.held) where
     -- skips alone were passed
-    skipped : (others : List Item) (behind : List ℕ) → AllByRecursion IsItem others → old.held ≡ flat_map encoding_of others ++ behind → asked others ≡ []
+    skipped : (others : List Item) (behind : List ℕ) → AllByRecursion IsItem others → old.held ≡ flat_map encoding_of others ++ behind → requests_among others ≡ []
         → Replayed start bytes (old.taken + length (flat_map encoding_of others)) behind world count version
     skipped others behind each is none =
         replayed_at start bytes _ _ behind behind world _ count _ version refl refl
@@ -198,7 +198,7 @@ module _ (whole : (text : List ℕ) → (text ≡ flat_map encoding_of (items te
     waits_replayed w =
         let others = items old.held in
         let text = (whole old.held).0 in
-        let none : asked others ≡ [] = sym (asks old.held others refl) ∙ w.none in
+        let none : requests_among others ≡ [] = sym (asks old.held others refl) ∙ w.none in
         replayed_at start bytes _ new.taken _ new.held world count count version version
         (omega (arith, bytes_stay, ap length w.held_is, ap length text, length-append (flat_map encoding_of others) (rest old.held)))
         (sym w.held_is) refl refl
@@ -234,8 +234,8 @@ module _ (whole : (text : List ℕ) → (text ≡ flat_map encoding_of (items te
       text_is : flat_map encoding_of (gave.skips ++ Ask words ∷ []) ≡ flat_map encoding_of gave.skips ++ request words
       text_is = flat_map-append encoding_of gave.skips (Ask words ∷ []) ∙ ap (λ (l : List ℕ). flat_map encoding_of gave.skips ++ l) (append-nil (request words))
 
-      asks_one : asked (gave.skips ++ Ask words ∷ []) ≡ words ∷ []
-      asks_one = asked-append gave.skips (Ask words ∷ []) ∙ ap (λ (l : List Record). l ++ words ∷ []) (asked-skips gave.skips gave.skipped)
+      asks_one : requests_among (gave.skips ++ Ask words ∷ []) ≡ words ∷ []
+      asks_one = requests_among-append gave.skips (Ask words ∷ []) ∙ ap (λ (l : List Record). l ++ words ∷ []) (requests_among-skips gave.skips gave.skipped)
 
       sizes : old.taken + (length (flat_map encoding_of gave.skips) + length (request words)) ≡ new.taken
       sizes = omega (arith, bytes_stay, ap length gave.text, length-append (flat_map encoding_of gave.skips) (request words ++ new.held), length-append (request words) new.held)
@@ -263,7 +263,7 @@ module _ (whole : (text : List ℕ) → (text ≡ flat_map encoding_of (items te
       before_it at is_at =
           replayed_at start bytes _ at _ (request words ++ new.held) world count count version version
           (omega (arith, sizes, is_at)) refl refl refl
-          (skipped gave.skips (request words ++ new.held) each_skip gave.text (asked-skips gave.skips gave.skipped))
+          (skipped gave.skips (request words ++ new.held) each_skip gave.text (requests_among-skips gave.skips gave.skipped))
 
       -- a record is no command: it stands behind the skips
       pub no_command : (size : ℕ) (world' : World) → size ≡ length (request words) → world' ≡ world → (replay_from version world (words ∷ []) ≡ None) × (version ≡ None → names_version words ≡ false) → FaultAt (NotACommand (new.taken - size)) start bytes world'

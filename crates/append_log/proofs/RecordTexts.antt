@@ -5,7 +5,7 @@ use Rattle.std.specs.List.{flat_map, AllByRecursion}
 use Rattle.resp_wire.specs.declared.fault.Stop.TheVariants.{Short}
 use Rattle.resp_wire.specs.RequestEncoding.{Item, Ask, SkipZero, SkipMinus, IsItem, IsRequest, request, encoding_of}
 use Rattle.resp_wire.specs.Parser.{item_at, head_at, byte_at}
-use Rattle.resp_wire.specs.Stream.{fault_of, prepend_item, split_items, asked, items, requests, rest, fault}
+use Rattle.resp_wire.specs.Stream.{fault_of, prepend_item, split_items, requests_among, items, requests, rest, fault}
 use Rattle.append_log.specs.Records.{Record, IsRecord, text_of_records, AreRecords}
 
 pub text_of_records-push : (records : List Record) (one : Record) → text_of_records (records ++ one ∷ []) ≡ text_of_records records ++ request one
@@ -37,16 +37,16 @@ unfolding items_of
 items_of-each [] each = tt
 items_of-each (first ∷ records) each = (each.0, items_of-each records each.1)
 
-pub asked-items : (records : List Record) → asked (items_of records) ≡ records
+pub requests_among-items : (records : List Record) → requests_among (items_of records) ≡ records
 unfolding items_of
-asked-items [] = refl
-asked-items (first ∷ records) = ap (λ (l : List Record). first ∷ l) (asked-items records)
+requests_among-items [] = refl
+requests_among-items (first ∷ records) = ap (λ (l : List Record). first ∷ l) (requests_among-items records)
 
-pub asked-append : (a b : List Item) → asked (a ++ b) ≡ asked a ++ asked b
-asked-append [] b = refl
-asked-append (Ask words ∷ a) b = ap (λ (l : List Record). words ∷ l) (asked-append a b)
-asked-append (SkipZero ∷ a) b = asked-append a b
-asked-append (SkipMinus ∷ a) b = asked-append a b
+pub requests_among-append : (a b : List Item) → requests_among (a ++ b) ≡ requests_among a ++ requests_among b
+requests_among-append [] b = refl
+requests_among-append (Ask words ∷ a) b = ap (λ (l : List Record). words ∷ l) (requests_among-append a b)
+requests_among-append (SkipZero ∷ a) b = requests_among-append a b
+requests_among-append (SkipMinus ∷ a) b = requests_among-append a b
 
 -- what is no item yet
 pub split-short : (n : ℕ) (part : List ℕ) → item_at part ≡ Err Short → split_items n part ≡ ([], part)
@@ -68,7 +68,7 @@ fault_at bytes part is short = ap (λ (l : List ℕ). fault_of (item_at l)) is �
 
 asks : (bytes : List ℕ) (records : List Record) → items bytes ≡ items_of records → requests bytes ≡ records
 unfolding requests
-asks bytes records is = ap asked is ∙ asked-items records
+asks bytes records is = ap requests_among is ∙ requests_among-items records
 
 -- the text of records, and behind it what is no item yet
 pub reads_text : ((text : List ℕ) → (text ≡ flat_map encoding_of (items text) ++ rest text) × AllByRecursion IsItem (items text))

@@ -4,7 +4,7 @@ use Rattle.std.proofs.lemmas.Grind.{common_steps}
 use Rattle.std.specs.List.{AllWithin, HoldsAt, SwappedAt}
 use Rattle.std.proofs.lemmas.Bool.{cases_lt}
 use Rattle.std.proofs.lemmas.List.Elements.{AllWithin-more}
-use Rattle.crack_kernel.specs.Parts.{Lists, ListsDown}
+use Rattle.crack_kernel.specs.PartedRows.{Lists, ListsDown}
 use Rattle.crack_kernel.proofs.PartMoves.{AllWithin-swapped}
 
 abbrev pub Row : Type 0

@@ -6,7 +6,7 @@ use Rattle.std.proofs.lemmas.Bool.{cases_lt}
 use Rattle.std.proofs.lemmas.List.{get_or-take, get_or-drop}
 use Rattle.std.proofs.lemmas.List.Edits.{get_or-between, length-between}
 use Rattle.std.proofs.lemmas.List.Sorted.{All-permutation}
-use Rattle.crack_kernel.specs.Parts.{IsBelow, IsFrom, IsParted, ChangesWithin}
+use Rattle.crack_kernel.specs.PartedRows.{IsBelow, IsFrom, IsParted, ChangesWithin}
 
 -- what stands before the part stays
 pub ChangesWithin-front : {X : Type 0} (from to : ℕ) (xs ys : List X) → ChangesWithin from to xs ys → (j : ℕ) (d : X) → j < from → get_or ys j d ≡ get_or xs j d

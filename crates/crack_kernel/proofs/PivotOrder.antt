@@ -9,7 +9,7 @@ use Rattle.std.proofs.lemmas.Int.{ints}
 use Rattle.std.proofs.lemmas.List.{get_or_default, get_or-map, length-map, get_or-append_right, get_or-drop, map-append, take-append-drop}
 use Rattle.std.proofs.lemmas.List.Edits.{get_or-insert_below, get_or-insert_at, get_or-insert_above, length-insert}
 use Rattle.std.proofs.lemmas.Grind.{common_steps}
-use Rattle.crack_kernel.specs.PivotList.{ArePlacedInOrder, IsRising, IsNewValue, RisesPast, closed_up, moved, shifted}
+use Rattle.crack_kernel.specs.PivotList.{ArePlacedInOrder, IsRising, IsNewValue, RisesPast, closed_up, shifted_pivot, shifted}
 
 -- values do not fall
 pub IsRising-le : (ps : List (ℤ × ℕ)) (i j : ℕ) (d : ℤ × ℕ) → IsRising ps → i ≤ j → j < length ps → (get_or ps i d).0 ≤ℤ (get_or ps j d).0
@@ -117,13 +117,13 @@ length-shifted i up ps = grind (arith, common_steps, length-map)
 pub get_or-shifted_below : (i : ℕ) (up : Bool) (ps : List (ℤ × ℕ)) (k : ℕ) (d : ℤ × ℕ) → i ≤ length ps → k < i → get_or (shifted i up ps) k d ≡ get_or ps k d
 get_or-shifted_below i up ps k d l h = grind (arith, common_steps)
 
-pub get_or-shifted_from : (i : ℕ) (up : Bool) (ps : List (ℤ × ℕ)) (k : ℕ) (d : ℤ × ℕ) → i ≤ k → k < length ps → get_or (shifted i up ps) k d ≡ moved up (get_or ps k d)
+pub get_or-shifted_from : (i : ℕ) (up : Bool) (ps : List (ℤ × ℕ)) (k : ℕ) (d : ℤ × ℕ) → i ≤ k → k < length ps → get_or (shifted i up ps) k d ≡ shifted_pivot up (get_or ps k d)
 get_or-shifted_from i up ps k d h l =
     let n : length (take i ps) ≡ i = grind (arith, common_steps) in
     let room : k - i < length (drop i ps) = omega (arith, length-drop i ps) in
     let at : i + (k - i) ≡ k = omega arith in
-    get_or-append_right (take i ps) (map (moved up) (drop i ps)) i k d n h ∙ get_or-map (moved up) (drop i ps) (k - i) d d room
-    ∙ ap (moved up) (get_or-drop i ps (k - i) d ∙ ap (λ n. get_or ps n d) at)
+    get_or-append_right (take i ps) (map (shifted_pivot up) (drop i ps)) i k d n h ∙ get_or-map (shifted_pivot up) (drop i ps) (k - i) d d room
+    ∙ ap (shifted_pivot up) (get_or-drop i ps (k - i) d ∙ ap (λ n. get_or ps n d) at)
 
 -- a shift leaves the values
 pub value-shifted : (i : ℕ) (up : Bool) (ps : List (ℤ × ℕ)) (k : ℕ) (d : ℤ × ℕ) → i ≤ length ps → k < length ps → (get_or (shifted i up ps) k d).0 ≡ (get_or ps k d).0
@@ -141,14 +141,14 @@ pub IsRising-map : (f : ℤ × ℕ → ℤ × ℕ) (ps : List (ℤ × ℕ)) → 
 IsRising-map f ps same rising =
     IsRising-same_values ps (map f ps) (length-map ps f) (λ k d h. ap (λ (p : ℤ × ℕ). p.0) (get_or-map f ps k d d h) ∙ same (get_or ps k d)) rising
 
-map_moved-values : (up : Bool) (ps : List (ℤ × ℕ)) → map (λ p. p.0) (map (moved up) ps) ≡ map (λ p. p.0) ps
+map_moved-values : (up : Bool) (ps : List (ℤ × ℕ)) → map (λ p. p.0) (map (shifted_pivot up) ps) ≡ map (λ p. p.0) ps
 map_moved-values up [] = refl
 map_moved-values up (p ∷ ps) = ap (λ vs. p.0 ∷ vs) (map_moved-values up ps)
 
 -- a shift leaves the list of the values
 pub values-shifted : (i : ℕ) (up : Bool) (ps : List (ℤ × ℕ)) → map (λ p. p.0) (shifted i up ps) ≡ map (λ p. p.0) ps
 values-shifted i up ps =
-    map-append (λ (p : ℤ × ℕ). p.0) (take i ps) (map (moved up) (drop i ps))
+    map-append (λ (p : ℤ × ℕ). p.0) (take i ps) (map (shifted_pivot up) (drop i ps))
     ∙ ap (λ vs. map (λ (p : ℤ × ℕ). p.0) (take i ps) ++ vs) (map_moved-values up (drop i ps))
     ∙ sym (map-append (λ (p : ℤ × ℕ). p.0) (take i ps) (drop i ps))
     ∙ ap (map (λ (p : ℤ × ℕ). p.0)) (take-append-drop i ps)

@@ -1,9 +1,9 @@
 -- A slice of rows that is being cracked from both ends (BlockQuicksort, Edelkamp and Weiß, ESA 2016).
 use Rattle.std.specs.Prelude.{◌≡◌, ◌≤◌, ℕ, ℤ, List, length, take, drop}
 use Rattle.std.specs.List.{AllWithin}
-use Rattle.crack_kernel.specs.Parts.{IsBelow, IsFrom, Lists, ListsDown}
-use Rattle.crack_kernel.specs.declared.ends.Block.{Block}
-use Rattle.crack_kernel.specs.declared.ends.Ends.{Ends}
+use Rattle.crack_kernel.specs.PartedRows.{IsBelow, IsFrom, Lists, ListsDown}
+use Rattle.crack_kernel.specs.declared.crack_from_both_ends.Block.{Block}
+use Rattle.crack_kernel.specs.declared.crack_from_both_ends.Ends.{Ends}
 
 -- how many rows a block has at most (BLOCK in code)
 abbrev pub block : ℕ

@@ -1,4 +1,4 @@
 pub mod CrackedEnds
 pub mod RowBag
-pub mod Parts
+pub mod PartedRows
 pub mod PivotList

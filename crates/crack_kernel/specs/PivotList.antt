@@ -2,7 +2,7 @@
 -- its value, the others have not (Database Cracking, Idreos, Kersten and Manegold, CIDR 2007).
 use Rattle.std.specs.Prelude.{◌≡◌, ◌≢◌, ◌+◌, ◌-◌, ◌<◌, ◌≤◌, ◌<ℤ◌, ◌≤ℤ◌, ℕ, ℤ, pos, Bool, List, ◌++◌, length, take, drop, map, All, Contains, slice_index_or, nat_le, nat_lt, if◌then◌else◌, zero, suc}
 use Rattle.std.specs.List.{AllWithin}
-use Rattle.crack_kernel.specs.Parts.{IsBelow, IsFrom, IsParted}
+use Rattle.crack_kernel.specs.PartedRows.{IsBelow, IsFrom, IsParted}
 
 -- what contracts see of the pivots: their values and places in order, and for how many more there is room
 pub record PivotList : Type 0 where
@@ -61,12 +61,12 @@ pub record AreMovedUp (old new : List (ℤ × ℕ)) (from to : ℕ) : Type 0 whe
   pub above : (k : ℕ) (d : ℤ × ℕ) → to < k → slice_index_or new k d ≡ slice_index_or old k d
 
 -- the pivot with its place one up or one down
-abbrev pub moved : Bool → ℤ × ℕ → ℤ × ℕ
-moved up p = (p.0, (if up then p.1 + 1 else p.1 - 1))
+abbrev pub shifted_pivot : Bool → ℤ × ℕ → ℤ × ℕ
+shifted_pivot up p = (p.0, (if up then p.1 + 1 else p.1 - 1))
 
 -- the pivots with all places from index i on moved by one
 abbrev pub shifted : ℕ → Bool → List (ℤ × ℕ) → List (ℤ × ℕ)
-shifted i up ps = take i ps ++ map (moved up) (drop i ps)
+shifted i up ps = take i ps ++ map (shifted_pivot up) (drop i ps)
 
 -- a place once the rows from one place on and before another are gone and those behind have closed up
 abbrev pub closed_up : ℕ → ℕ → ℕ → ℕ

@@ -2,9 +2,9 @@
 
 ghost use Rattle.std.specs.Prelude.{◌≡◌, ◌≤◌, ◌+◌, ◌≤ℤ◌, length, take, IsPermutation};
 ghost use Rattle.std.specs.List.{AllWithin};
-ghost use Rattle.crack_kernel.specs.Parts.{IsBelow, IsFrom, IsParted, ChangesWithin, Lists};
+ghost use Rattle.crack_kernel.specs.PartedRows.{IsBelow, IsFrom, IsParted, ChangesWithin, Lists};
 
-use crate::ends::{BLOCK, Ends};
+use crate::crack_from_both_ends::{BLOCK, Ends};
 use crate::row::Row;
 use std::alloc::Allocator;
 

@@ -6,8 +6,8 @@
 #![tactic(auto)]
 
 pub mod crack;
-mod ends;
-mod insertion;
+mod crack_from_both_ends;
+mod pivot_insertion;
 pub mod pivots;
 pub mod row;
 

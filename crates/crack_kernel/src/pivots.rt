@@ -2,9 +2,9 @@
 
 ghost use Rattle.std.specs.Prelude.{◌≡◌, ◌+◌, ◌<◌, ◌≤◌, ◌^◌, [], ◌∷◌, ◌++◌, ◌↔◌, true, false, take, drop, map, pos, set, slice_index_or, length, All, Contains, IsPermutation, IsTrue, IsFalse, IsOk, OnOk, MatchOption, vec_len, vec_capacity};
 ghost use Rattle.std.specs.List.{AllWithin};
-ghost use Rattle.crack_kernel.specs.PivotList.{ArePlacedInOrder, IsRising, IsNewValue, RisesPast, IsPieceOf, piece_start, piece_end, moved, shifted, closed_up};
+ghost use Rattle.crack_kernel.specs.PivotList.{ArePlacedInOrder, IsRising, IsNewValue, RisesPast, IsPieceOf, piece_start, piece_end, shifted_pivot, shifted, closed_up};
 
-use crate::insertion::put_last_at;
+use crate::pivot_insertion::put_last_at;
 use std::alloc::{AllocError, Allocator};
 use std::marker::Model;
 
@@ -294,7 +294,7 @@ fn shift<A: Allocator>(list: &mut Vec<(i64, usize), A>, from_index: usize, up: b
 /// Moves each place one up.
 fn raise(pivots: &mut [(i64, usize)])
     requires { All (λ p. p.1 + 1 < 2 ^ 64) pivots.old }
-    ensures { pivots.new ≡ map (moved true) pivots.old }
+    ensures { pivots.new ≡ map (shifted_pivot true) pivots.old }
 {
     for pivot in pivots.iter_mut() {
         pivot.1 += 1;
@@ -304,7 +304,7 @@ fn raise(pivots: &mut [(i64, usize)])
 /// Moves each place one down.
 fn lower(pivots: &mut [(i64, usize)])
     requires { All (λ p. 0 < p.1) pivots.old }
-    ensures { pivots.new ≡ map (moved false) pivots.old }
+    ensures { pivots.new ≡ map (shifted_pivot false) pivots.old }
 {
     for pivot in pivots.iter_mut() {
         pivot.1 -= 1;

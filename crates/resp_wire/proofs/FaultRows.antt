@@ -13,7 +13,7 @@ use Rattle.resp_wire.specs.declared.fault.Stop.{Stop}
 use Rattle.resp_wire.specs.declared.fault.Stop.TheVariants.{Short, Wrong}
 use Rattle.resp_wire.specs.RequestEncoding.{most_arguments, longest_argument, line, argument, IsArgument, Ask}
 use Rattle.resp_wire.specs.Parser.{◌>>=◌, byte_at, line_end_at, digits_at, number_at, body_at, argument_at, arguments_at, count_at, head_at, behind_head, item_at}
-use Rattle.resp_wire.specs.FaultTable.{IsDigit, BeginsOtherwise, BeginsWithNoDigit, EndsNoLine, Exceeds, EndsWrong, IsNoMinusOne, BeginsNoCount, HasNoStar, HasTooManyArguments, HasWrongCount, IsDue, HasNoDollar, HasTooLong, HasWrongLength, HasNoEnd}
+use Rattle.resp_wire.specs.FirstWrongByte.{IsDigit, BeginsOtherwise, BeginsWithNoDigit, EndsNoLine, Exceeds, EndsWrong, IsNoMinusOne, BeginsNoCount, HasNoStar, HasTooManyArguments, HasWrongCount, IsDue, HasNoDollar, HasTooLong, HasWrongLength, HasNoEnd}
 use Rattle.resp_wire.proofs.ParserLemmas.{chosen, byte_takes}
 use Rattle.resp_wire.proofs.Numbers.{digit_range, digit_is, decimal_more, number_takes}
 use Rattle.resp_wire.proofs.Items.{argument_takes, head_takes, head_text, IsHead}

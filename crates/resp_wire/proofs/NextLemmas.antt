@@ -6,17 +6,17 @@ use Rattle.resp_wire.specs.declared.fault.ProtocolFault.{ProtocolFault}
 use Rattle.resp_wire.specs.declared.fault.WireFault.TheVariants.{Protocol}
 use Rattle.resp_wire.specs.declared.fault.Stop.{Stop}
 use Rattle.resp_wire.specs.declared.fault.Stop.TheVariants.{Short, Wrong}
-use Rattle.resp_wire.specs.declared.steps.End.TheVariants as ends
-use Rattle.resp_wire.specs.declared.steps.Step.{Step}
+use Rattle.resp_wire.specs.declared.decoder_steps.End.TheVariants as ends
+use Rattle.resp_wire.specs.declared.decoder_steps.Step.{Step}
 use Rattle.resp_wire.specs.RequestEncoding.{request, line, argument, IsRequest, Item, Ask, SkipZero, SkipMinus, IsSkip, IsItem, encoding_of}
 use Rattle.resp_wire.specs.Parser.{item_at}
-use Rattle.resp_wire.specs.Stream.{asked, items, requests, rest, fault, fault_of}
+use Rattle.resp_wire.specs.Stream.{requests_among, items, requests, rest, fault, fault_of}
 use Rattle.resp_wire.specs.DecoderView.{DecoderView, begun, Gave, Waits, Stops, Nexts}
-use Rattle.resp_wire.specs.ParsingSteps.{Skips, Stepped, Steps, StepEnd}
-use Rattle.resp_wire.specs.declared.steps.End.{End}
+use Rattle.resp_wire.specs.DecoderSteps.{Skips, Stepped, Steps, StepEnd}
+use Rattle.resp_wire.specs.declared.decoder_steps.End.{End}
 use Rattle.std.specs.Prelude.{IfNone}
 use Rattle.resp_wire.proofs.Items.{item_again}
-use Rattle.resp_wire.proofs.Streams.{split, split_prefix, split_item, split_stop, asked_append}
+use Rattle.resp_wire.proofs.Streams.{split, split_prefix, split_item, split_stop, requests_among_append}
 
 skips_are_items : (skips : List Item) → AllByRecursion IsSkip skips → AllByRecursion IsItem skips
 skips_are_items [] each = tt
@@ -24,11 +24,11 @@ skips_are_items (Ask arguments ∷ skips) each = absurd each.0
 skips_are_items (SkipZero ∷ skips) each = (tt, skips_are_items skips each.1)
 skips_are_items (SkipMinus ∷ skips) each = (tt, skips_are_items skips each.1)
 
-asked_skips : (skips : List Item) → AllByRecursion IsSkip skips → asked skips ≡ []
-asked_skips [] each = refl
-asked_skips (Ask arguments ∷ skips) each = absurd each.0
-asked_skips (SkipZero ∷ skips) each = asked_skips skips each.1
-asked_skips (SkipMinus ∷ skips) each = asked_skips skips each.1
+requests_among_skips : (skips : List Item) → AllByRecursion IsSkip skips → requests_among skips ≡ []
+requests_among_skips [] each = refl
+requests_among_skips (Ask arguments ∷ skips) each = absurd each.0
+requests_among_skips (SkipZero ∷ skips) each = requests_among_skips skips each.1
+requests_among_skips (SkipMinus ∷ skips) each = requests_among_skips skips each.1
 
 -- skips, and then a request
 pub gave_from : (old new : DecoderView) (arguments : List (List ℕ)) (skipped : ℕ) → Skips old.held (request arguments ++ new.held) skipped → IsRequest arguments → Gave old new arguments
@@ -43,7 +43,7 @@ gave_from old new arguments skipped s is =
       skipped = s.each;
       text = s.text;
       first = ap (λ (x : List Item × List ℕ). x.0) all;
-      requests_are = ap (λ (x : List Item × List ℕ). asked x.0) all ∙ asked_append s.skips (Ask arguments ∷ (split new.held).0) ∙ ap (λ (x : List (List (List ℕ))). x ++ (arguments ∷ asked (split new.held).0)) (asked_skips s.skips s.each);
+      requests_are = ap (λ (x : List Item × List ℕ). requests_among x.0) all ∙ requests_among_append s.skips (Ask arguments ∷ (split new.held).0) ∙ ap (λ (x : List (List (List ℕ))). x ++ (arguments ∷ requests_among (split new.held).0)) (requests_among_skips s.skips s.each);
       rest_is = ap (λ (x : List Item × List ℕ). x.1) all;
       fault_is = ap (λ (x : List Item × List ℕ). fault_of (item_at x.1)) all;
     }
@@ -55,7 +55,7 @@ waits_from old new skipped stop s e =
     let each = skips_are_items s.skips s.each in
     let all : split old.held ≡ (s.skips ++ [], new.held) = ap split s.text ∙ split_prefix s.skips new.held each ∙ ap (λ (x : List Item × List ℕ). (s.skips ++ x.0, x.1)) (split_stop new.held stop e) in (
       record {
-        none = ap (λ (x : List Item × List ℕ). asked x.0) all ∙ ap asked (append-nil s.skips) ∙ asked_skips s.skips s.each;
+        none = ap (λ (x : List Item × List ℕ). requests_among x.0) all ∙ ap requests_among (append-nil s.skips) ∙ requests_among_skips s.skips s.each;
         held_is = sym (ap (λ (x : List Item × List ℕ). x.1) all);
       },
       ap (λ (x : List Item × List ℕ). fault_of (item_at x.1)) all,

@@ -9,9 +9,9 @@ use Rattle.resp_wire.specs.RequestEncoding.{line, argument, IsArgument, Item, Sk
 use Rattle.resp_wire.specs.Parser.{head_at, argument_at}
 use Rattle.resp_wire.specs.Parser.{item_at}
 use Rattle.resp_wire.specs.DecoderView.{begun}
-use Rattle.resp_wire.specs.declared.steps.End.TheVariants as ends
-use Rattle.resp_wire.specs.ParsingSteps.{SkipsTo, Skips, Went, Steps, Stepped, EndIs}
-use Rattle.resp_wire.specs.declared.steps.End.{End}
+use Rattle.resp_wire.specs.declared.decoder_steps.End.TheVariants as ends
+use Rattle.resp_wire.specs.DecoderSteps.{SkipsTo, Skips, Went, Steps, Stepped, EndIs}
+use Rattle.resp_wire.specs.declared.decoder_steps.End.{End}
 use Rattle.resp_wire.proofs.Items.{head_takes, argument_takes, arguments_stop, begun_reads}
 
 pub head_shorter : (rest : List ℕ) (head : Option ℕ) (after : List ℕ) → head_at rest ≡ Ok (head, after) → length after < length rest

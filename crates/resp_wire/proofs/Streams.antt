@@ -7,7 +7,7 @@ use Rattle.resp_wire.specs.declared.fault.Stop.{Stop}
 use Rattle.resp_wire.specs.declared.fault.Stop.TheVariants.{Short, Wrong}
 use Rattle.resp_wire.specs.RequestEncoding.{Item, Ask, SkipZero, SkipMinus, IsItem, encoding_of}
 use Rattle.resp_wire.specs.Parser.{item_at, head_at, byte_at}
-use Rattle.resp_wire.specs.Stream.{prepend_item, split_items, asked, items, requests, rest, fault, fault_of}
+use Rattle.resp_wire.specs.Stream.{prepend_item, split_items, requests_among, items, requests, rest, fault, fault_of}
 use Rattle.resp_wire.proofs.Items.{item_takes, item_again}
 use Rattle.resp_wire.proofs.Extension.{still_wrong}
 
@@ -60,11 +60,11 @@ pub split_stop : (bytes : List ℕ) (stop : Stop) → item_at bytes ≡ Err stop
 split_stop bytes stop e =
     same_split (length bytes) (suc (length bytes)) bytes (omega arith) (omega arith) ∙ split_is (length bytes) bytes (omega arith) ∙ ap (prepend_item (split_items (length bytes)) bytes) e
 
-pub asked_append : (a b : List Item) → asked (a ++ b) ≡ asked a ++ asked b
-asked_append [] b = refl
-asked_append (Ask arguments ∷ a) b = ap (λ (t : List (List (List ℕ))). arguments ∷ t) (asked_append a b)
-asked_append (SkipZero ∷ a) b = asked_append a b
-asked_append (SkipMinus ∷ a) b = asked_append a b
+pub requests_among_append : (a b : List Item) → requests_among (a ++ b) ≡ requests_among a ++ requests_among b
+requests_among_append [] b = refl
+requests_among_append (Ask arguments ∷ a) b = ap (λ (t : List (List (List ℕ))). arguments ∷ t) (requests_among_append a b)
+requests_among_append (SkipZero ∷ a) b = requests_among_append a b
+requests_among_append (SkipMinus ∷ a) b = requests_among_append a b
 
 -- whole items before a text
 pub split_prefix : (prefix : List Item) (bytes : List ℕ) → AllByRecursion IsItem prefix → split (flat_map encoding_of prefix ++ bytes) ≡ (prefix ++ (split bytes).0, (split bytes).1)
@@ -113,7 +113,7 @@ rest_cut a b = ap (λ (s : List Item × List ℕ). s.1) (split_cut a b)
 
 pub requests_cut : (a b : List ℕ) → requests (a ++ b) ≡ requests a ++ requests (rest a ++ b)
 unfolding requests
-requests_cut a b = ap asked (items_cut a b) ∙ asked_append (items a) (items (rest a ++ b))
+requests_cut a b = ap requests_among (items_cut a b) ∙ requests_among_append (items a) (items (rest a ++ b))
 
 pub fault_cut : (a b : List ℕ) → fault (a ++ b) ≡ fault (rest a ++ b)
 unfolding fault
@@ -132,7 +132,7 @@ fault_stays a b f e =
         let more = split_stop ((split a).1 ++ b) (Wrong g) (still_wrong (split a).1 b g is) in
         let all : split (a ++ b) ≡ ((split a).0 ++ [], (split a).1 ++ b) = split_cut a b ∙ ap (λ (x : List Item × List ℕ). ((split a).0 ++ x.0, x.1)) more in
         let same : g ≡ f = let here : fault_of (item_at (split a).1) ≡ Some g = ap fault_of is in cc in (
-          ap (λ (x : List Item × List ℕ). asked x.0) all ∙ ap asked (append-nil (split a).0),
+          ap (λ (x : List Item × List ℕ). requests_among x.0) all ∙ ap requests_among (append-nil (split a).0),
           ap (λ (x : List Item × List ℕ). fault_of (item_at x.1)) all ∙ ap fault_of (still_wrong (split a).1 b g is) ∙ ap Some same,
         )
 

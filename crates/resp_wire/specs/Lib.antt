@@ -1,13 +1,13 @@
-pub mod StoredBytes
+pub mod ByteStringStorage
 pub mod RequestEncoding
 pub mod Parser
 pub mod Stream
 pub mod Response
 pub mod FaultTexts
-pub mod FaultTable
+pub mod FirstWrongByte
 pub mod DecoderView
 pub mod Device
 pub mod ParserAgreement
-pub mod ParsingSteps
+pub mod DecoderSteps
 pub mod DecoderFields
-pub mod Polled
+pub mod PolledDevices

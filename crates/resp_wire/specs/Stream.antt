@@ -18,11 +18,11 @@ split_items zero bytes = ([], bytes)
 split_items (suc n) bytes = prepend_item (split_items n) bytes (item_at bytes)
 
 -- the requests among items
-abbrev pub asked : List Item → List (List (List ℕ))
-asked [] = []
-asked (Ask arguments ∷ items) = arguments ∷ asked items
-asked (SkipZero ∷ items) = asked items
-asked (SkipMinus ∷ items) = asked items
+abbrev pub requests_among : List Item → List (List (List ℕ))
+requests_among [] = []
+requests_among (Ask arguments ∷ items) = arguments ∷ requests_among items
+requests_among (SkipZero ∷ items) = requests_among items
+requests_among (SkipMinus ∷ items) = requests_among items
 
 -- all whole items: an item has a byte or more, so there are no more items than bytes
 unfoldable pub items : List ℕ → List Item
@@ -30,7 +30,7 @@ items bytes = (split_items (length bytes) bytes).0
 
 -- the requests of a stream
 unfoldable pub requests : List ℕ → List (List (List ℕ))
-requests bytes = asked (items bytes)
+requests bytes = requests_among (items bytes)
 
 -- the bytes behind its last whole item
 unfoldable pub rest : List ℕ → List ℕ

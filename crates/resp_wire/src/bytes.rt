@@ -24,7 +24,7 @@ pub struct Bytes<A: Allocator> {
 
 impl<A: Allocator> Model for Bytes<A> {
     ghost use Rattle.std.specs.Prelude.{ℕ, List};
-    ghost use Rattle.resp_wire.specs.StoredBytes.{stored_bytes};
+    ghost use Rattle.resp_wire.specs.ByteStringStorage.{stored_bytes};
 
     ghost Value = { List ℕ };
 

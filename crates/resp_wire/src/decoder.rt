@@ -5,9 +5,9 @@ ghost use Rattle.resp_wire.specs.declared.fault.WireFault.TheVariants.{Protocol}
 ghost use Rattle.resp_wire.specs.DecoderView.{Nexts};
 
 use crate::bytes::{Bytes, BytesList};
+use crate::decoder_steps::{self, End};
 use crate::fault::{ProtocolFault, Stop, WireFault};
 use crate::request::Request;
-use crate::steps::{self, End};
 use std::alloc::{AllocError, Allocator};
 use std::marker::Model;
 use std::mem;
@@ -180,7 +180,7 @@ impl<A: Allocator + Copy> Decoder<A> {
             return Err(WireFault::Protocol(fault));
         }
         let unread = behind(&self.bytes, self.start);
-        let step = steps::advance(self.alloc, &mut self.arguments, self.count, unread);
+        let step = decoder_steps::advance(self.alloc, &mut self.arguments, self.count, unread);
         match step.end {
             End::Memory => Err(WireFault::NoMemory),
             End::Whole => {

@@ -8,7 +8,7 @@ ghost use Rattle.resp_wire.specs.declared.fault.ProtocolFault.TheVariants.{NotAn
 ghost use Rattle.resp_wire.specs.declared.fault.Stop.TheVariants.{Short, Wrong};
 ghost use Rattle.resp_wire.specs.RequestEncoding.{Item, IsItem, encoding_of};
 ghost use Rattle.resp_wire.specs.Parser.{item_at};
-ghost use Rattle.resp_wire.specs.FaultTable.{HasNoStar, HasTooManyArguments, HasWrongCount, HasNoDollar, HasTooLong, HasWrongLength, HasNoEnd};
+ghost use Rattle.resp_wire.specs.FirstWrongByte.{HasNoStar, HasTooManyArguments, HasWrongCount, HasNoDollar, HasTooLong, HasWrongLength, HasNoEnd};
 ghost use Rattle.resp_wire.specs.Stream.{items, requests, rest, fault};
 
 /// An encoding is read as its item, whatever follows, and what is read is an encoding of its item.

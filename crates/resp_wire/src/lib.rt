@@ -8,18 +8,18 @@
 
 mod bytes;
 mod decoder;
+mod decoder_steps;
 mod device;
+mod encoding;
 mod fault;
-mod fuse;
+mod fuse_devices;
 pub mod laws;
-mod memory;
+mod memory_devices;
 mod outbox;
 mod parser;
-mod polled;
+mod polled_devices;
 mod reply;
 mod request;
-mod steps;
-mod writing;
 
 pub use bytes::{Bytes, BytesList};
 pub use decoder::Decoder;
@@ -27,12 +27,12 @@ pub use device::{
     ATTEMPTS, ByteDrain, ByteSource, Failed, MAX_READ_BUFFER, MAX_READS, READ_BUFFER, Reading,
     Writing, is_interrupted, write_all, write_uninterrupted,
 };
+pub use encoding::{write_array_header, write_bulk, write_number_bulk, write_reply, write_request};
 pub use fault::{ProtocolFault, WireFault};
-pub use fuse::{FuseDrain, FuseSource};
+pub use fuse_devices::{FuseDrain, FuseSource};
 pub use laws::{cut, encoding_round_trip, fault_table, faults, longest, one_encoding};
-pub use memory::{MemoryDrain, MemorySource};
+pub use memory_devices::{MemoryDrain, MemorySource};
 pub use outbox::Outbox;
-pub use polled::{PolledDrain, PolledSource};
+pub use polled_devices::{PolledDrain, PolledSource};
 pub use reply::Reply;
 pub use request::Request;
-pub use writing::{write_array_header, write_bulk, write_number_bulk, write_reply, write_request};

@@ -4,7 +4,7 @@ ghost use Rattle.std.specs.Prelude.{◌≡◌, ◌↔◌, ◌-◌, ◌≤◌, tr
 ghost use Rattle.std.specs.Io.KnownBytes.{append_known};
 
 use crate::device::{ByteDrain, Failed};
-use crate::polled::PolledDrain;
+use crate::polled_devices::PolledDrain;
 use std::alloc::Allocator;
 use std::mem;
 

@@ -5,7 +5,7 @@ use Rattle.std.proofs.lemmas.Bool.{cases_lt}
 use Rattle.std.proofs.lemmas.Int.{ints}
 use Rattle.std.proofs.lemmas.List.{get_or_default, get_or_past}
 use Rattle.std.proofs.lemmas.List.Sorted.{All-permutation, length_permutation}
-use Rattle.crack_kernel.specs.Parts.{IsBelow, IsFrom, IsParted, ChangesWithin}
+use Rattle.crack_kernel.specs.PartedRows.{IsBelow, IsFrom, IsParted, ChangesWithin}
 use Rattle.crack_kernel.specs.PivotList.{IsRising, ObeysPivots, RisesPast, IsPieceOf, piece_start, piece_end}
 use Rattle.crack_kernel.proofs.PartChanges.{ChangesWithin-front, ChangesWithin-back, IsParted-changed}
 use Rattle.ripple_column.specs.CutPivots.{IsApart}

@@ -5,7 +5,7 @@ use Rattle.std.proofs.lemmas.Int.{ints}
 use Rattle.std.proofs.lemmas.Bool.Decides.{nat_tests}
 use Rattle.std.proofs.lemmas.List.{ext_get_or, get_or-take, get_or-drop, get_or-replicate, get_or-map, length-map, length-replicate, take-append-drop}
 use Rattle.crack_kernel.specs.RowBag.{Test, SameBag}
-use Rattle.crack_kernel.specs.Parts.{IsBelow, IsFrom, IsParted}
+use Rattle.crack_kernel.specs.PartedRows.{IsBelow, IsFrom, IsParted}
 use Rattle.crack_kernel.specs.PivotList.{ObeysPivots, closed_up}
 use Rattle.ripple_column.specs.ClosedUp.{closed_up_pivots, closed_up_rows}
 use Rattle.ripple_column.specs.CutPivots.{values}

@@ -1,7 +1,7 @@
 -- Cracks by inner pivots, none and one after the other.
 use Rattle.std.proofs.Common.{◌∙◌, refl, arith}
 use Rattle.std.proofs.lemmas.List.Sorted.{IsPermutation-refl, IsPermutation-trans}
-use Rattle.ripple_column.specs.InnerCrackEffects.{AreCracked}
+use Rattle.ripple_column.specs.EffectsOnPieces.{AreCracked}
 use Rattle.ripple_column.specs.declared.pieces.Pieces.{Pieces}
 
 -- nothing was cracked

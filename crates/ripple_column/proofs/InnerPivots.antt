@@ -8,7 +8,7 @@ use Rattle.std.proofs.lemmas.List.Folds.{Any-from_list_any, list_any_at}
 use Rattle.std.proofs.lemmas.Map.Views.{Contains-from_any}
 use Rattle.std.proofs.lemmas.List.{get_or-map, get_or_default, get_or-set_same, get_or-set_other, length-map}
 use Rattle.std.proofs.lemmas.List.Sorted.{Contains-permutation, IsPermutation-sym}
-use Rattle.crack_kernel.specs.Parts.{IsBelow, IsFrom, IsParted}
+use Rattle.crack_kernel.specs.PartedRows.{IsBelow, IsFrom, IsParted}
 use Rattle.crack_kernel.specs.PivotList.{IsNewValue, IsRising, ObeysPivots}
 use Rattle.score_bounds.specs.declared.bounds.Cut.{Cut}
 use Rattle.score_bounds.specs.declared.bounds.Cut.TheVariants.{Start, At, End}

@@ -11,7 +11,7 @@ use Rattle.score_bounds.specs.declared.bounds.Cut.{Cut}
 use Rattle.score_bounds.specs.declared.bounds.Cut.TheVariants.{Start, At, End}
 use Rattle.score_bounds.specs.declared.bounds.Range.{Range}
 use Rattle.crack_kernel.specs.RowBag.{Test, IsSubBag, SameBag}
-use Rattle.crack_kernel.specs.Parts.{IsBelow, IsFrom, IsParted}
+use Rattle.crack_kernel.specs.PartedRows.{IsBelow, IsFrom, IsParted}
 use Rattle.crack_kernel.specs.PivotList.{ArePlacedInOrder, ObeysPivots, closed_up}
 use Rattle.ripple_column.specs.ClosedUp.{closed_up_pivots, closed_up_rows}
 use Rattle.ripple_column.specs.Content.{ColumnState, content_count, has_score_in}

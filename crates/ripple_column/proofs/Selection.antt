@@ -13,7 +13,7 @@ use Rattle.score_bounds.specs.Bounds.{is_in, is_below}
 use Rattle.score_bounds.proofs.Cuts.{is_under-first_cut, is_over-second_cut}
 use Rattle.score_bounds.specs.Scores.{greatest}
 use Rattle.crack_kernel.specs.RowBag.{Test}
-use Rattle.crack_kernel.specs.Parts.{IsBelow, IsFrom, IsParted}
+use Rattle.crack_kernel.specs.PartedRows.{IsBelow, IsFrom, IsParted}
 use Rattle.crack_kernel.specs.PivotList.{IsNewValue, IsRising, ObeysPivots}
 use Rattle.ripple_column.specs.Content.{ColumnState, IsScored, IsUnchanged, SameOutside, has_score_in, NoneIn}
 use Rattle.ripple_column.specs.CutPivots.{is_before, values, cut_values, new_values, StandsAt}

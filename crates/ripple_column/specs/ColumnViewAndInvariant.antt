@@ -2,7 +2,7 @@
 use Rattle.std.specs.Prelude.{◌≤◌, ◌-◌, min, length, vec_len, vec_capacity}
 use Rattle.crack_kernel.specs.RowBag.{IsSubBag}
 use Rattle.ripple_column.specs.Content.{ColumnState, IsScored, max_pending}
-use Rattle.ripple_column.specs.InnerCrackEffects.{shown}
+use Rattle.ripple_column.specs.EffectsOnPieces.{shown}
 use Rattle.ripple_column.specs.declared.column.Column.TheInside.{Inside}
 
 -- the fields, and the room in the two lists of pending rows, which never pass max_pending rows

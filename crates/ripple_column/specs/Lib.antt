@@ -11,6 +11,6 @@ pub mod RowHash
 pub mod ScoreSpan
 pub mod PendingBloom
 pub mod ShownPivots
-pub mod InnerCrackEffects
+pub mod EffectsOnPieces
 pub mod ClosedUp
 pub mod FrontRoom

@@ -7,7 +7,7 @@ use Rattle.crack_kernel.specs.PivotList.{PivotList}
 use Rattle.score_bounds.specs.declared.bounds.Range.{Range}
 use Rattle.ripple_column.specs.Content.{KeepsContent, has_score_in}
 use Rattle.ripple_column.specs.CutPivots.{values}
-use Rattle.ripple_column.specs.declared.cracked.Cracked.{Cracked}
+use Rattle.ripple_column.specs.declared.cracked_rows.Cracked.{Cracked}
 use Rattle.ripple_column.specs.declared.pending_lists.Pending.{Pending}
 
 -- rows move among the pieces: the pivots keep their values, and pivots and rows their room

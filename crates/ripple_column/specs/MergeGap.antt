@@ -2,7 +2,7 @@
 use Rattle.std.specs.Prelude.{◌≡◌, ◌+◌, ◌-◌, ◌<◌, ◌≤◌, ◌<ℤ◌, ◌≤ℤ◌, ℕ, ℤ, pos, List, [], length, take, replicate, count_by, All, slice_index_or}
 use Rattle.std.specs.List.{AllWithin}
 use Rattle.crack_kernel.specs.RowBag.{Test, IsSubBag}
-use Rattle.crack_kernel.specs.Parts.{IsBelow, IsFrom, IsParted}
+use Rattle.crack_kernel.specs.PartedRows.{IsBelow, IsFrom, IsParted}
 
 -- the row that fills a gap
 abbrev pub blank : ℤ × List ℕ

@@ -11,7 +11,7 @@ ghost use Rattle.ripple_column.specs.Content.{KeepsContent};
 ghost use Rattle.ripple_column.specs.MergeGap.{TakenFrom};
 ghost use Rattle.ripple_column.specs.MergeEffects.{KeepsFrame};
 
-use crate::cracked::Cracked;
+use crate::cracked_rows::Cracked;
 use crate::deletion_bloom::DeletionBloom;
 use crate::merge_gap::Direction;
 use crate::merge_pass::{Pass, run_pass};

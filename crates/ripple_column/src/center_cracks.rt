@@ -6,7 +6,7 @@
 
 ghost use Rattle.std.specs.Prelude.{◌≡◌, ℕ, ℤ, List, slice_index_or};
 ghost use Rattle.ripple_column.specs.CutPivots.{IsUncracked};
-ghost use Rattle.ripple_column.specs.InnerCrackEffects.{AreCracked, shown};
+ghost use Rattle.ripple_column.specs.EffectsOnPieces.{AreCracked, shown};
 ghost use Rattle.score_bounds.specs.declared.bounds.Cut.TheVariants.{At};
 
 use crate::inner_cracks::{SAMPLE, crack_inside, parting_score_at, sample_of};

@@ -10,7 +10,7 @@ ghost use Rattle.ripple_column.specs.Content.{HasRow, IsUnchanged, Pends, SameCo
 ghost use Rattle.ripple_column.specs.CutPivots.{is_before, values};
 ghost use Rattle.ripple_column.specs.ShownPivots.{IsAmong};
 
-use crate::cracking::is_before;
+use crate::cut_cracks::is_before;
 use crate::inner_cracks::{is_wide, narrow};
 use crate::pending_lists::{KEEPS_ROOM_FROM, MAX_PENDING, MAX_RESERVED, Pending, SMALL_ROOM};
 use crate::pieces::Pieces;

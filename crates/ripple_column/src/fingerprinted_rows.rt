@@ -2,11 +2,11 @@
 
 ghost use Rattle.std.specs.Prelude.{◌≡◌, ◌+◌, ◌-◌, ◌<◌, ◌≤◌, ◌++◌, ◌∷◌, ℕ, ℤ, List, [], take, length, slice_set, Some, IsSome, ◌↔◌, IsPermutation, OnOk, vec_len, vec_capacity, option_to_list, slice_index_or};
 ghost use Rattle.std.specs.List.{AllWithin, SwappedAt, swap};
-ghost use Rattle.crack_kernel.specs.Parts.{ChangesWithin, IsBelow, IsFrom};
+ghost use Rattle.crack_kernel.specs.PartedRows.{ChangesWithin, IsBelow, IsFrom};
 ghost use Rattle.ripple_column.specs.ClosedUp.{closed_up_rows};
 
 use crate::deletion_bloom::DeletionBloom;
-use crate::fingerprint_walk::{Wanted, next_like, next_within};
+use crate::fingerprint_search::{Wanted, next_like, next_within};
 use crate::front_room_rows::FrontRoomRows;
 use crate::row_hash::{is_of_score, row_fingerprint, score_fingerprint};
 use crack_kernel::Row;

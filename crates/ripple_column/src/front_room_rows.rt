@@ -2,7 +2,7 @@
 
 ghost use Rattle.std.specs.Prelude.{◌≡◌, ◌+◌, ◌-◌, ◌^◌, ◌<◌, ◌≤◌, ◌++◌, ◌∷◌, ℕ, ℤ, List, [], take, drop, length, slice_set, Some, IsSome, ◌↔◌, IsPermutation, OnOk, vec_len, vec_capacity, option_to_list, slice_index_or};
 ghost use Rattle.std.specs.List.{AllWithin, SwappedAt, swap};
-ghost use Rattle.crack_kernel.specs.Parts.{ChangesWithin, IsBelow, IsFrom};
+ghost use Rattle.crack_kernel.specs.PartedRows.{ChangesWithin, IsBelow, IsFrom};
 ghost use Rattle.ripple_column.specs.ClosedUp.{closed_up_rows};
 ghost use Rattle.ripple_column.specs.MergeGap.{blank};
 

@@ -5,7 +5,7 @@ ghost use Rattle.crack_kernel.specs.PivotList.{piece_end};
 ghost use Rattle.ripple_column.specs.MergeGap.{HasGap, blank};
 ghost use Rattle.ripple_column.specs.MergeEffects.{KeepsFrame};
 
-use crate::cracked::Cracked;
+use crate::cracked_rows::Cracked;
 use crate::fingerprinted_rows::Rows;
 use crate::front_room_rows::blank_row;
 use crack_kernel::Pivots;

@@ -3,10 +3,10 @@
 //!
 //! Where a range cuts nothing, as one from -inf to +inf, its piece would stay the whole column.
 
-ghost use Rattle.ripple_column.specs.InnerCrackEffects.{AreCracked, RestStays};
+ghost use Rattle.ripple_column.specs.EffectsOnPieces.{AreCracked, RestStays};
 
-use crate::cracked::Cracked;
-use crate::cracking::crack_at;
+use crate::cracked_rows::Cracked;
+use crate::cut_cracks::crack_at;
 use crate::pending_lists::PendingList;
 use crate::pieces::Pieces;
 use crack_kernel::{MAX_PIVOTS, Row};

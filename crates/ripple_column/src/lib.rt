@@ -10,10 +10,10 @@
 mod bulk_merge;
 mod center_cracks;
 mod column;
-mod cracked;
-mod cracking;
+mod cracked_rows;
+mod cut_cracks;
 mod deletion_bloom;
-mod fingerprint_walk;
+mod fingerprint_search;
 mod fingerprinted_rows;
 mod front_room_rows;
 mod gap_moves;
@@ -32,7 +32,6 @@ mod ripple;
 mod row_hash;
 mod score_span;
 mod select;
-mod shown_pivots;
 
 pub use column::Column;
 pub use pending_lists::{KEEPS_ROOM_FROM, MAX_PENDING, MAX_RESERVED, SMALL_ROOM};

@@ -11,7 +11,7 @@ ghost use Rattle.ripple_column.specs.CutPivots.{values};
 ghost use Rattle.ripple_column.specs.MergeEffects.{HasLast, KeepsFrame, Merges, StaysAsItWas};
 
 use crate::bulk_merge::merge_many;
-use crate::cracked::Cracked;
+use crate::cracked_rows::Cracked;
 use crate::pending_lists::{
     MAX_PENDING, MAX_RESERVED, Pending, PendingList, RangeTails, is_within,
 };

@@ -8,7 +8,7 @@ ghost use Rattle.ripple_column.specs.MergeGap.{KeepsContentBeside, TakenFrom};
 ghost use Rattle.ripple_column.specs.MergeEffects.{KeepsFrame};
 ghost use Rattle.ripple_column.specs.GapEffects.{IsCarried};
 
-use crate::cracked::Cracked;
+use crate::cracked_rows::Cracked;
 use crate::deletion_bloom::DeletionBloom;
 use crate::gapped_rows::GappedRows;
 use crate::merge_gap::{Direction, Tail, is_in_piece};

@@ -3,7 +3,9 @@
 ghost use Rattle.std.specs.Prelude.{◌≡◌, [], false};
 ghost use Rattle.ripple_column.specs.ShownPivots.{AreFound, shown_of};
 
-use crate::cracked::Cracked;
+pub mod shown_pivots;
+
+use crate::cracked_rows::Cracked;
 use crack_kernel::Pivots;
 use std::alloc::Allocator;
 

@@ -9,11 +9,11 @@ ghost use Rattle.crack_kernel.specs.PivotList.{piece_end};
 ghost use Rattle.crack_kernel.specs.RowBag.{SameBag, Test};
 ghost use Rattle.ripple_column.specs.ClosedUp.{closed_up_pivots, closed_up_rows};
 ghost use Rattle.ripple_column.specs.CutPivots.{values};
-ghost use Rattle.ripple_column.specs.InnerCrackEffects.{shown};
+ghost use Rattle.ripple_column.specs.EffectsOnPieces.{shown};
 ghost use Rattle.ripple_column.specs.MergeEffects.{KeepsFrame};
 ghost use Rattle.ripple_column.specs.MergeGap.{AllParted, StandFrom, blank};
 
-use crate::cracked::Cracked;
+use crate::cracked_rows::Cracked;
 use crate::fingerprinted_rows::Rows;
 use crate::gapped_rows::GappedRows;
 use crate::pieces::Pieces;

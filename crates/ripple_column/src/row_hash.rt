@@ -3,7 +3,7 @@
 
 ghost use Rattle.std.specs.Prelude.{◌≡◌, ◌+◌, ◌*◌, ◌≤◌, ◌≤ℤ◌, length};
 ghost use Rattle.score_bounds.specs.Scores.{greatest};
-ghost use Rattle.ripple_column.specs.RowHash.{hash_of, mix, mix_all, mix_bytes, mix_words, word_at};
+ghost use Rattle.ripple_column.specs.RowHash.{hash_of, mix, mix_all, mix_bytes, mix_words, eight_bytes_at};
 
 use crack_kernel::Row;
 use std::alloc::Allocator;
@@ -26,9 +26,9 @@ fn mix(hash: u64, word: u64) -> u64
 }
 
 /// The eight bytes from an index on as one number.
-fn word_at(bytes: &[u8], at: usize) -> u64
+fn eight_bytes_at(bytes: &[u8], at: usize) -> u64
     requires { at + 8 ≤ length bytes.now }
-    ensures { result ≡ word_at bytes.now at }
+    ensures { result ≡ eight_bytes_at bytes.now at }
 {
     u64::from_be_bytes([
         bytes[at],
@@ -60,7 +60,7 @@ fn mix_words(hash: u64, bytes: &[u8], count: usize) -> u64
 {
     let mut mixed = hash;
     for i in 0..count {
-        mixed = mix(mixed, word_at(bytes, WORD * i));
+        mixed = mix(mixed, eight_bytes_at(bytes, WORD * i));
     }
     mixed
 }
@@ -74,7 +74,7 @@ fn mix_all(hash: u64, bytes: &[u8]) -> u64
         return mix_bytes(hash, bytes);
     }
     let mixed = mix_words(hash, bytes, (len - 1) / WORD);
-    mix(mixed, word_at(bytes, len - WORD))
+    mix(mixed, eight_bytes_at(bytes, len - WORD))
 }
 
 /// The hash of a row: of its score and its member's bytes.

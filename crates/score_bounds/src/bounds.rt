@@ -4,7 +4,7 @@ ghost use Rattle.score_bounds.specs.Bounds.{is_in, is_below, is_under, is_over, 
 ghost use Rattle.std.specs.Str.{str_eq_ignore_ascii_case};
 ghost use Rattle.score_bounds.specs.Scores.{greatest};
 
-use crate::texts::read_score;
+use crate::score_texts::read_score;
 
 /// One end of a range of scores, as the command page of ZRANGEBYSCORE has it.
 #[derive(Clone, Copy, Debug, PartialEq, Eq)]

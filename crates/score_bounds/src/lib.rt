@@ -8,8 +8,8 @@
 mod bounds;
 mod interval;
 pub mod laws;
-mod texts;
+mod score_texts;
 
 pub use bounds::{Bound, Cut, Range};
 pub use interval::Interval;
-pub use texts::{read_integer, read_score, write_score};
+pub use score_texts::{read_integer, read_score, write_score};

@@ -18,7 +18,7 @@ use Rattle.zset_core.specs.Semantics.{outcome_of, writes, put_one, put_all, remo
 use Rattle.zset_core.specs.SetsByKey.{World, is_empty, set_at, put_set}
 use Rattle.zset_core.specs.SetAndOwnerViews.{Next, ShowsAt, IsPreparedAt}
 use Rattle.zset_core.specs.ParsedArguments.{word_at}
-use Rattle.zset_core.specs.CommandGrammar.{add_options, add_pairs, has_option, pairs_value, add_meaning, increase, asked_flags, command_meaning, meaning, command_named, refusal_of, asked, asked_range, asked_options, RangeOption, is_with_scores, last_limit}
+use Rattle.zset_core.specs.CommandGrammar.{add_options, add_pairs, has_option, pairs_value, add_meaning, incr_meaning, asked_flags, command_meaning, meaning, command_named, refusal_of, asked, asked_range, asked_options, RangeOption, is_with_scores, last_limit}
 use Rattle.score_bounds.specs.declared.bounds.Range.{Range}
 use Rattle.zset_core.specs.ExpressibleWorld.{IsSpelled, IsBoundedSet, IsBoundedAt, IsBoundedWorld, PutsSpelled, PutsSpelledPairs, IsBoundedMeaning}
 use Rattle.zset_core.specs.declared.command.name.CommandName.{CommandName}
@@ -193,7 +193,7 @@ pairs_are_spelled : (ws : List (List ℕ)) → AllByRecursion IsArgument ws → 
 unfolding add_pairs
 pairs_are_spelled ws h = pairs_spelled (drop (length (add_options ws)) (drop 2 ws)) (each_drop (length (add_options ws)) (drop 2 ws) (each_drop 2 ws h))
 
-increase_meant : (key : List ℕ) (f : Flags) (ps : List Pair) (c : Meaning) → IsArgument key → AllByRecursion IsSpelled ps → increase key f ps ≡ Some c → IsBoundedMeaning c
+increase_meant : (key : List ℕ) (f : Flags) (ps : List Pair) (c : Meaning) → IsArgument key → AllByRecursion IsSpelled ps → incr_meaning key f ps ≡ Some c → IsBoundedMeaning c
 increase_meant key f [] c word each is = absurd (let no : None ≡ Some c = is in cc)
 increase_meant key f (p ∷ []) c word each is = subst IsBoundedMeaning (let same : meanings.Changes key (meanings.Increase f p.0 p.1) ≡ c = cc in same) (record { key = word; puts = each.0 })
 increase_meant key f (p ∷ q ∷ ps) c word each is = absurd (let no : None ≡ Some c = is in cc)
@@ -202,7 +202,7 @@ add_meant : (ws : List (List ℕ)) (ps : List Pair) (c : Meaning) → AllByRecur
 add_meant ws ps c words each is = by _ is
   where
     by : (b : Bool)
-        → cond b (increase (word_at ws 1) (asked_flags (add_options ws)) ps) (Some (meanings.Changes (word_at ws 1) (meanings.Add (asked_flags (add_options ws)) (has_option (codes "CH") (add_options ws)) ps))) ≡ Some c
+        → cond b (incr_meaning (word_at ws 1) (asked_flags (add_options ws)) ps) (Some (meanings.Changes (word_at ws 1) (meanings.Add (asked_flags (add_options ws)) (has_option (codes "CH") (add_options ws)) ps))) ≡ Some c
         → IsBoundedMeaning c
     by true h = increase_meant (word_at ws 1) (asked_flags (add_options ws)) ps c (word_at_bounded ws 1 words) each h
     by false h = subst IsBoundedMeaning (let same : meanings.Changes (word_at ws 1) (meanings.Add (asked_flags (add_options ws)) (has_option (codes "CH") (add_options ws)) ps) ≡ c = cc in same) (record { key = word_at_bounded ws 1 words; puts = each })

@@ -11,7 +11,7 @@ use Rattle.zset_core.specs.ChangeEffect.{effect, moved_names, names_in, names_of
 use Rattle.zset_core.specs.MembersWithStagedScores.{Entry, current_score, rows_by, name_at}
 use Rattle.zset_core.specs.Plan.{edited_by, left_by, moved_places, range_of, without_given}
 use Rattle.zset_core.specs.SetAndOwnerViews.{SetView}
-use Rattle.zset_core.specs.SetViewAndInvariant.{view_of, IsPlanned, IsSound}
+use Rattle.zset_core.specs.SetViewAndInvariant.{view_of, IsPlanned, IsSoundSet}
 use Rattle.zset_core.specs.declared.set.Prepared.{Prepared}
 
 -- only a change that names no member removes a range
@@ -58,9 +58,9 @@ module _ {A : Type 0} (es : List Entry) (column : ColumnState) (q : Prepared A) 
       slice_get-map (λ name. (name, fin.get new name)) named i ∙ ap (option_map (λ name. (name, fin.get new name))) here ∙ ap (λ (o : Option ℤ). Some (name, o)) scored
 
 -- the same of what a set shows
-module _ {A : Type 0} (es : List Entry) (column : ColumnState) (p : Option (Prepared A)) (q : Prepared A) (v : SetView) (is : view_of es column p ≡ v) (prepared : p ≡ Some q) (sound : IsSound es column p) where
+module _ {A : Type 0} (es : List Entry) (column : ColumnState) (p : Option (Prepared A)) (q : Prepared A) (v : SetView) (is : view_of es column p ≡ v) (prepared : p ≡ Some q) (sound : IsSoundSet es column p) where
   planned : IsPlanned es column q.asked.value.meaning q.plan
-  planned = subst (IsSound es column) prepared sound
+  planned = subst (IsSoundSet es column) prepared sound
 
   view : view_of es column (Some q) ≡ v
   view = sym (ap (view_of es column) prepared) ∙ is

@@ -22,7 +22,7 @@ use Rattle.std.proofs.lemmas.Option.{slice_get-map, slice_get_within}
 use Rattle.zset_core.specs.SortedSet.{Members, bytes_cmp}
 use Rattle.zset_core.specs.Semantics.{remove_all}
 use Rattle.zset_core.specs.MembersWithStagedScores.{Entry, current_score, members_by, name_at, names_at, slots, slot_at, same_bytes, IsWithin}
-use Rattle.zset_core.specs.FoundPlaces.{AreFound}
+use Rattle.zset_core.specs.FoundPlaces.{AreFoundPlaces}
 use Rattle.zset_core.specs.declared.set.members_with_staged_scores.ScoreSlot.{ScoreSlot}
 use Rattle.zset_core.proofs.Bridge.{total, exact, same_equiv, get_members}
 
@@ -181,11 +181,11 @@ gone_put es m ks ks' p q is keys = remove_all-more m (names_at es ks) (names_at 
 abbrev pub left : List Entry → List ℕ → Members
 left es ks = remove_all (members_by current_score es) (names_at es ks)
 
-pub AreFound-put : (es : List Entry) (seen seen' : BTreeSet ℕ) (p : ℕ) (q : List ℕ) (s : ScoreSlot)
+pub AreFoundPlaces-put : (es : List Entry) (seen seen' : BTreeSet ℕ) (p : ℕ) (q : List ℕ) (s : ScoreSlot)
     → IsDistinct same_bytes (keys_of es) → slice_get (slots es) p ≡ Some (q, s) → contains nat_cmp seen p ≡ false
     → ((j : ℕ) → contains nat_cmp seen' j ≡ cond (is_eq (nat_cmp p j)) true (contains nat_cmp seen j)) → seen'.keys ≡ insert_key nat_cmp seen.keys p → length seen'.keys ≡ length seen.keys + 1
-    → AreFound es seen → AreFound es seen'
-AreFound-put es seen seen' p q s apart at new after keys len old = record {
+    → AreFoundPlaces es seen → AreFoundPlaces es seen'
+AreFoundPlaces-put es seen seen' p q s apart at new after keys len old = record {
   same = λ j r t there. after j ∙ here j r t there (is_eq (nat_cmp p j)) refl
       ∙ sym (ap (λ (l : List ℕ). list_any (bytes_eq r) (names_at es l)) keys ∙ any_put es (bytes_eq r) seen.keys p ∙ ap (λ k. list_any (bytes_eq r) (names_at es seen.keys) || bytes_eq r k) (name_here es p q s at));
   count = one_more (length seen.keys) (length seen'.keys) (fin.len (fin.remove (left es seen.keys) q)) (fin.len (left es seen.keys)) (fin.len (left es seen'.keys)) (fin.len (members_by current_score es))
@@ -236,20 +236,20 @@ AreFound-put es seen seen' p q s apart at new after keys len old = record {
             self : (n : ℕ) → is_eq (nat_cmp n n) ≡ true
             self n = (eq_by_cmp_equiv nat_cmp_total).refl n
 
-AreFound-kept : (es : List Entry) (seen seen' : BTreeSet ℕ) → seen'.keys ≡ seen.keys → AreFound es seen → AreFound es seen'
-AreFound-kept es seen seen' keys old = record {
+AreFoundPlaces-kept : (es : List Entry) (seen seen' : BTreeSet ℕ) → seen'.keys ≡ seen.keys → AreFoundPlaces es seen → AreFoundPlaces es seen'
+AreFoundPlaces-kept es seen seen' keys old = record {
   same = λ j r t there. ap (λ (l : List ℕ). list_any (λ k. is_eq (nat_cmp j k)) l) keys ∙ old.same j r t there ∙ ap (λ (l : List ℕ). list_any (bytes_eq r) (names_at es l)) (sym keys);
   count = ap (λ (l : List ℕ). length l + fin.len (left es l)) keys ∙ old.count;
   within = subst (IsWithin (length es)) (sym keys) old.within;
 }
 
 -- a place was put among those found: it was new, or it was there
-pub AreFound-after : (es : List Entry) (seen seen' : BTreeSet ℕ) (p : ℕ) (q : List ℕ) (s : ScoreSlot) (added : Bool)
+pub AreFoundPlaces-after : (es : List Entry) (seen seen' : BTreeSet ℕ) (p : ℕ) (q : List ℕ) (s : ScoreSlot) (added : Bool)
     → IsDistinct same_bytes (keys_of es) → slice_get (slots es) p ≡ Some (q, s) → added ≡ not (contains nat_cmp seen p)
     → ((j : ℕ) → contains nat_cmp seen' j ≡ cond (is_eq (nat_cmp p j)) true (contains nat_cmp seen j)) → seen'.keys ≡ insert_key nat_cmp seen.keys p → OnFalse added (seen'.keys ≡ seen.keys)
-    → length seen'.keys ≡ length seen.keys + cond {A = ℕ} added 1 0 → AreFound es seen → AreFound es seen'
-AreFound-after es seen seen' p q s true apart at new after keys kept len old = AreFound-put es seen seen' p q s apart at (new_one true (contains nat_cmp seen p) new refl) after keys len old
-AreFound-after es seen seen' p q s false apart at new after keys kept len old = AreFound-kept es seen seen' kept old
+    → length seen'.keys ≡ length seen.keys + cond {A = ℕ} added 1 0 → AreFoundPlaces es seen → AreFoundPlaces es seen'
+AreFoundPlaces-after es seen seen' p q s true apart at new after keys kept len old = AreFoundPlaces-put es seen seen' p q s apart at (new_one true (contains nat_cmp seen p) new refl) after keys len old
+AreFoundPlaces-after es seen seen' p q s false apart at new after keys kept len old = AreFoundPlaces-kept es seen seen' kept old
 
 -- ---- members taken out by their places
 -- the last of some members goes first

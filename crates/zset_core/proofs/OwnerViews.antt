@@ -25,7 +25,7 @@ use Rattle.zset_core.specs.SortedSet.{Members, bytes_cmp}
 use Rattle.zset_core.specs.AbstractCommand.{Asked, key_of}
 use Rattle.zset_core.specs.SetAndOwnerViews.{SetView, Next, OwnerView, next_for, IsSetAt, HasNoSet}
 use Rattle.zset_core.specs.SetsByKey.{World, set_at}
-use Rattle.zset_core.specs.OwnerViewAndInvariant.{Keyed, world_of, names_of, KeysRise, set_in, next_at, IsResting, AllRest, IsHeld, owner_view, IsOwned}
+use Rattle.zset_core.specs.OwnerViewAndInvariant.{Keyed, world_of, set_keys, KeysRise, set_in, next_at, IsResting, AllRest, IsHeld, owner_view, IsOwned}
 use Rattle.zset_core.proofs.Worlds.{keyed, key_cmp, filled_view, get_world, set_at_entry, set_at_none, next_here}
 
 pub match_of : (r : Option (Bor SetView)) (o : Option SetView) (P : Type 0) (Q : SetView → Type 0) → option_copied r ≡ o → (o ≡ None → P) → ((s : SetView) → o ≡ Some s → Q s) → MatchOption r P (λ b. Q b.now)
@@ -153,11 +153,11 @@ module _ {A : Type 0} where
   count_shown es a v is owned idle sorted =
       sym (length-map es row_of) ∙ sym (ap length (world_rows es sorted (idle_rest es a v is owned idle))) ∙ sym (fin.len-entries (world_of es)) ∙ ap fin.len (world_shown es a v is)
 
-  pub names_shown : (es : List (Keyed A)) (a : Option (Snapshot Asked)) (v : OwnerView) → owner_view es a ≡ v → IsOwned es a → v.next ≡ None → KeysRise es → names_of es ≡ fin.keys v.world
+  pub names_shown : (es : List (Keyed A)) (a : Option (Snapshot Asked)) (v : OwnerView) → owner_view es a ≡ v → IsOwned es a → v.next ≡ None → KeysRise es → set_keys es ≡ fin.keys v.world
   names_shown es a v is owned idle sorted =
       names es ∙ sym (ap (map (λ (e : List ℕ × Members). e.0)) (world_rows es sorted (idle_rest es a v is owned idle))) ∙ ap (λ (w : World). fin.keys w) (world_shown es a v is)
     where
-      names : (es : List (Keyed A)) → names_of es ≡ map (λ (e : List ℕ × Members). e.0) (rows_of es)
+      names : (es : List (Keyed A)) → set_keys es ≡ map (λ (e : List ℕ × Members). e.0) (rows_of es)
       names [] = refl
       names (e ∷ es) = ap (λ l. e.0.items ∷ l) (names es)
 
@@ -166,36 +166,36 @@ module _ {A : Type 0} where
   keys_shown es a v i is owned idle sorted =
       sym (slice_get-map (λ (k : Vec ℕ A). k.items) (keys_of es) i) ∙ ap (λ l. slice_get l i) (names es ∙ names_shown es a v is owned idle sorted)
     where
-      names : (es : List (Keyed A)) → map (λ (k : Vec ℕ A). k.items) (keys_of es) ≡ names_of es
+      names : (es : List (Keyed A)) → map (λ (k : Vec ℕ A). k.items) (keys_of es) ≡ set_keys es
       names [] = refl
       names (e ∷ es) = ap (λ l. e.0.items ∷ l) (names es)
 
-  pub first_named : (es : List (Keyed A)) (k : Vec ℕ A) (rest : List (Vec ℕ A)) → keys_of es ≡ k ∷ rest → slice_get (names_of es) 0 ≡ Some k.items
+  pub first_named : (es : List (Keyed A)) (k : Vec ℕ A) (rest : List (Vec ℕ A)) → keys_of es ≡ k ∷ rest → slice_get (set_keys es) 0 ≡ Some k.items
   first_named [] k rest h = cc
   first_named (e ∷ es) k rest h = let is : e.0 ≡ k = cc in ap (λ (x : Vec ℕ A). Some x.items) is
 
   abbrev pub behind : List ℕ → Keyed A → Bool
   behind key e = is_lt (bytes_cmp key e.0.items) && not false
 
-  pub none_behind : (es : List (Keyed A)) (key stored : List ℕ) → key ≡ stored → filter (behind stored) es ≡ [] → find_in (λ name. is_lt (bytes_cmp key name)) (names_of es) ≡ None
+  pub none_behind : (es : List (Keyed A)) (key stored : List ℕ) → key ≡ stored → filter (behind stored) es ≡ [] → find_in (λ name. is_lt (bytes_cmp key name)) (set_keys es) ≡ None
   none_behind [] key stored same h = refl
   none_behind (e ∷ es) key stored same h = by (is_lt (bytes_cmp stored e.0.items)) (ap (λ k. is_lt (bytes_cmp k e.0.items)) same) h (λ g. none_behind es key stored same g)
     where
       by : (b : Bool) → is_lt (bytes_cmp key e.0.items) ≡ b → cond (b && not false) (e ∷ filter (behind stored) es) (filter (behind stored) es) ≡ []
-          → (filter (behind stored) es ≡ [] → find_in (λ name. is_lt (bytes_cmp key name)) (names_of es) ≡ None)
-          → cond (is_lt (bytes_cmp key e.0.items)) (Some e.0.items) (find_in (λ name. is_lt (bytes_cmp key name)) (names_of es)) ≡ None
+          → (filter (behind stored) es ≡ [] → find_in (λ name. is_lt (bytes_cmp key name)) (set_keys es) ≡ None)
+          → cond (is_lt (bytes_cmp key e.0.items)) (Some e.0.items) (find_in (λ name. is_lt (bytes_cmp key name)) (set_keys es)) ≡ None
       by true t h more = cc
-      by false t h more = ap (λ b. cond b (Some e.0.items) (find_in (λ name. is_lt (bytes_cmp key name)) (names_of es))) t ∙ more h
+      by false t h more = ap (λ b. cond b (Some e.0.items) (find_in (λ name. is_lt (bytes_cmp key name)) (set_keys es))) t ∙ more h
 
-  pub some_behind : (es : List (Keyed A)) (key stored : List ℕ) (x : Keyed A) (rest : List (Keyed A)) → key ≡ stored → filter (behind stored) es ≡ x ∷ rest → find_in (λ name. is_lt (bytes_cmp key name)) (names_of es) ≡ Some x.0.items
+  pub some_behind : (es : List (Keyed A)) (key stored : List ℕ) (x : Keyed A) (rest : List (Keyed A)) → key ≡ stored → filter (behind stored) es ≡ x ∷ rest → find_in (λ name. is_lt (bytes_cmp key name)) (set_keys es) ≡ Some x.0.items
   some_behind [] key stored x rest same h = cc
   some_behind (e ∷ es) key stored x rest same h = by (is_lt (bytes_cmp stored e.0.items)) (ap (λ k. is_lt (bytes_cmp k e.0.items)) same) h (λ g. some_behind es key stored x rest same g)
     where
       by : (b : Bool) → is_lt (bytes_cmp key e.0.items) ≡ b → cond (b && not false) (e ∷ filter (behind stored) es) (filter (behind stored) es) ≡ x ∷ rest
-          → (filter (behind stored) es ≡ x ∷ rest → find_in (λ name. is_lt (bytes_cmp key name)) (names_of es) ≡ Some x.0.items)
-          → cond (is_lt (bytes_cmp key e.0.items)) (Some e.0.items) (find_in (λ name. is_lt (bytes_cmp key name)) (names_of es)) ≡ Some x.0.items
-      by true t h more = let is : e ≡ x = cc in ap (λ b. cond b (Some e.0.items) (find_in (λ name. is_lt (bytes_cmp key name)) (names_of es))) t ∙ ap (λ (y : Keyed A). Some y.0.items) is
-      by false t h more = ap (λ b. cond b (Some e.0.items) (find_in (λ name. is_lt (bytes_cmp key name)) (names_of es))) t ∙ more h
+          → (filter (behind stored) es ≡ x ∷ rest → find_in (λ name. is_lt (bytes_cmp key name)) (set_keys es) ≡ Some x.0.items)
+          → cond (is_lt (bytes_cmp key e.0.items)) (Some e.0.items) (find_in (λ name. is_lt (bytes_cmp key name)) (set_keys es)) ≡ Some x.0.items
+      by true t h more = let is : e ≡ x = cc in ap (λ b. cond b (Some e.0.items) (find_in (λ name. is_lt (bytes_cmp key name)) (set_keys es))) t ∙ ap (λ (y : Keyed A). Some y.0.items) is
+      by false t h more = ap (λ b. cond b (Some e.0.items) (find_in (λ name. is_lt (bytes_cmp key name)) (set_keys es))) t ∙ more h
 
   pub there_of : (es : List (Keyed A)) (a : Option (Snapshot Asked)) (v : OwnerView) (q : List ℕ) → owner_view es a ≡ v → IsSome (fin.get v.world q) → IsSome (set_in es q)
   there_of es a v q is there = by (set_in es q) (subst IsSome (sym (ap (λ (w : World). fin.get w q) (world_shown es a v is)) ∙ get_world es q) there)

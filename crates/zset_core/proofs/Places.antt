@@ -10,7 +10,7 @@ use Rattle.indexmap.proofs.MapLemmas.{distinct-take, Found-position}
 use Rattle.ripple_column.specs.Content.{ColumnState}
 use Rattle.zset_core.specs.SetAndOwnerViews.{SetView}
 use Rattle.zset_core.specs.MembersWithStagedScores.{Entry, current_score, members_by, slot_at, same_bytes}
-use Rattle.zset_core.specs.SetViewAndInvariant.{view_of, IsSound, kept_of}
+use Rattle.zset_core.specs.SetViewAndInvariant.{view_of, IsSoundSet, kept_of}
 use Rattle.zset_core.specs.declared.set.Prepared.{Prepared}
 use Rattle.zset_core.specs.declared.set.members_with_staged_scores.ScoreSlot.{ScoreSlot}
 use Rattle.zset_core.proofs.Bridge.{same_equiv, get_members, len_members}
@@ -68,11 +68,11 @@ module _ {A : Type 0} where
   members_kept es c None v is = sym (ap (λ w. w.members) is) ∙ ap (λ (l : List Entry). members_by current_score l) (sym (take-length es))
   members_kept es c (Some q) v is = sym (ap (λ w. w.members) is) ∙ ap (λ (rows : List (List ℕ × ℤ)). fin.from_entries rows) (sym (rows_take current_score q.plan.draft.kept es))
 
-  pub kept_within : (es : List Entry) (p : Option (Prepared A)) (c : ColumnState) → IsSound es c p → kept_of es p ≤ length es
+  pub kept_within : (es : List Entry) (p : Option (Prepared A)) (c : ColumnState) → IsSoundSet es c p → kept_of es p ≤ length es
   kept_within es None c s = omega arith
   kept_within es (Some q) c s = s.kept
 
-  pub len_kept : (es : List Entry) (c : ColumnState) (p : Option (Prepared A)) (v : SetView) → view_of es c p ≡ v → IsSound es c p → IsDistinct same_bytes (keys_of es) → kept_of es p ≡ fin.len v.members
+  pub len_kept : (es : List Entry) (c : ColumnState) (p : Option (Prepared A)) (v : SetView) → view_of es c p ≡ v → IsSoundSet es c p → IsDistinct same_bytes (keys_of es) → kept_of es p ≡ fin.len v.members
   len_kept es c p v is sound apart =
       let apart_front : IsDistinct same_bytes (keys_of (take (kept_of es p) es)) = subst (IsDistinct same_bytes) (sym (keys_of-take (kept_of es p) es)) (distinct-take same_equiv (kept_of es p) (keys_of es) apart) in
       sym (ap fin.len (members_kept es c p v is) ∙ len_members current_score (take (kept_of es p) es) apart_front ∙ length_take (kept_of es p) es (kept_within es p c sound))

@@ -5,7 +5,7 @@ use Rattle.std.specs.FinMap as fin
 use Rattle.resp_wire.specs.Response.{Response}
 use Rattle.ripple_column.specs.Content.{ColumnState, Holds, SameContent}
 use Rattle.zset_core.specs.SortedSet.{Members, pairs}
-use Rattle.zset_core.specs.MembersWithStagedScores.{Entry, current_score, staged_score, rows_by, members_by, names_at, IsBack, IsSettled}
+use Rattle.zset_core.specs.MembersWithStagedScores.{Entry, current_score, staged_score, rows_by, members_by, names_at, IsBack, ScoresAreSettled}
 use Rattle.zset_core.specs.RowEdits.{most_edits}
 use Rattle.zset_core.specs.ChangeEffect.{moved_names, names_in}
 use Rattle.zset_core.specs.Plan.{Moves, MovesTo, NeedsAtMost, Plans, Prepares, edited_by, left_by, range_of, rows_coming, rows_leaving}
@@ -13,7 +13,7 @@ use Rattle.zset_core.specs.ChangeOutline.{IsOutline}
 use Rattle.zset_core.specs.CommandEffectsOnColumn.{MakesReady, MakesRoom, PreparesColumn}
 use Rattle.zset_core.specs.AbstractCommand.{Change, Add, Increase, Remove, RemoveRange, Changes, Meaning, range_to_remove}
 use Rattle.zset_core.specs.SetAndOwnerViews.{SetView, Next}
-use Rattle.zset_core.specs.SetViewAndInvariant.{view_of, next_of, IsIdle, IsPlanned, IsReadyForPlan, IsSound}
+use Rattle.zset_core.specs.SetViewAndInvariant.{view_of, next_of, IsIdle, IsPlanned, IsReadyForPlan, IsSoundSet}
 use Rattle.zset_core.specs.declared.set.plan.Plan.{Plan}
 use Rattle.zset_core.specs.declared.set.Prepared.{Prepared}
 use Rattle.ripple_column.proofs.CallerLemmas.{count_all}
@@ -29,7 +29,7 @@ module _ {A : Type 0} where
   Prepares-some old new plan None h = absurd h
   Prepares-some old new plan (Some done) h = (done, h)
 
-  pub IsIdle-of : (es : List Entry) (c : ColumnState) (p : Option (Prepared A)) (v : SetView) → view_of es c p ≡ v → v.next ≡ None → IsSound es c p → IsIdle es c
+  pub IsIdle-of : (es : List Entry) (c : ColumnState) (p : Option (Prepared A)) (v : SetView) → view_of es c p ≡ v → v.next ≡ None → IsSoundSet es c p → IsIdle es c
   IsIdle-of es c None v is idle s = s
   IsIdle-of es c (Some q) v is idle s =
       let shown : Some (next_of es q) ≡ v.next = ap (λ (w : SetView). w.next) is in
@@ -70,23 +70,23 @@ module _ {A : Type 0} where
   column_shown es c (Some q) v is = ap (λ (w : SetView). w.column) is
 
   -- the content is the bag of the members that show
-  pub Holds-shown : (es : List Entry) (c : ColumnState) (p : Option (Prepared A)) (v : SetView) → view_of es c p ≡ v → IsSound es c p → Holds v.column (pairs v.members)
+  pub Holds-shown : (es : List Entry) (c : ColumnState) (p : Option (Prepared A)) (v : SetView) → view_of es c p ≡ v → IsSoundSet es c p → Holds v.column (pairs v.members)
   Holds-shown es c None v is s = subst (λ (w : SetView). Holds w.column (pairs w.members)) is s.content
   Holds-shown es c (Some q) v is s = subst (λ (w : SetView). Holds w.column (pairs w.members)) is s.content
 
-  pub IsPlanned-of : (es : List Entry) (c : ColumnState) (p : Option (Prepared A)) (q : Prepared A) → Some q ≡ p → IsSound es c p → IsPlanned es c q.asked.value.meaning q.plan
-  IsPlanned-of es c p q is s = subst (IsSound es c) (sym is) s
+  pub IsPlanned-of : (es : List Entry) (c : ColumnState) (p : Option (Prepared A)) (q : Prepared A) → Some q ≡ p → IsSoundSet es c p → IsPlanned es c q.asked.value.meaning q.plan
+  IsPlanned-of es c p q is s = subst (IsSoundSet es c) (sym is) s
 
-  pub IsSound-none : (es : List Entry) (c : ColumnState) (p : Option (Prepared A)) → p ≡ None → IsIdle es c → IsSound es c p
-  IsSound-none es c p is s = subst (IsSound es c) (sym is) s
+  pub IsSoundSet-none : (es : List Entry) (c : ColumnState) (p : Option (Prepared A)) → p ≡ None → IsIdle es c → IsSoundSet es c p
+  IsSoundSet-none es c p is s = subst (IsSoundSet es c) (sym is) s
 
   -- a set that is as it was once no plan could be made
-  pub IsSound-back : (old new : List Entry) (c d : ColumnState) (p : Option (Prepared A)) (v : SetView) → view_of old c p ≡ v → v.next ≡ None → IsSound old c p → IsBack old new → SameContent c d → IsSound new d p
-  IsSound-back old new c d None v is idle sound back content = record {
+  pub IsSoundSet-back : (old new : List Entry) (c d : ColumnState) (p : Option (Prepared A)) (v : SetView) → view_of old c p ≡ v → v.next ≡ None → IsSoundSet old c p → IsBack old new → SameContent c d → IsSoundSet new d p
+  IsSoundSet-back old new c d None v is idle sound back content = record {
     settled = back.settled;
     content = λ t. content t ∙ sound.content t ∙ ap (λ (rows : List (List ℕ × ℤ)). count_by t (pairs (fin.from_entries rows))) (sym back.same);
   }
-  IsSound-back old new c d (Some q) v is idle sound back content =
+  IsSoundSet-back old new c d (Some q) v is idle sound back content =
       let shown : Some (next_of old q) ≡ v.next = ap (λ (w : SetView). w.next) is in
       absurd (not_none (next_of old q) (shown ∙ idle))
 
@@ -115,7 +115,7 @@ module _ {A : Type 0} where
       }
 
   -- once the plan is let go
-  pub IsIdle-discard : (es new : List Entry) (c : ColumnState) (meaning : Meaning) (plan : Plan A) → IsPlanned es c meaning plan → rows_by current_score new ≡ take plan.draft.kept (rows_by current_score es) → IsSettled new → IsIdle new c
+  pub IsIdle-discard : (es new : List Entry) (c : ColumnState) (meaning : Meaning) (plan : Plan A) → IsPlanned es c meaning plan → rows_by current_score new ≡ take plan.draft.kept (rows_by current_score es) → ScoresAreSettled new → IsIdle new c
   IsIdle-discard es new c meaning plan p is settled = record {
     settled = settled;
     content = λ t. p.content t ∙ ap (λ (rows : List (List ℕ × ℤ)). count_by t (pairs (fin.from_entries rows))) (sym is);
@@ -157,5 +157,5 @@ Holds-empty c m none rows insertions p =
     let b : count_by p c.insertions ≡ 0 = ap (count_by p) insertions in
     omega (arith, no_pairs, a, b)
 
-pub IsIdle-empty : (es : List Entry) (c : ColumnState) → es ≡ [] → IsSettled es → c.rows ≡ [] → c.insertions ≡ [] → IsIdle es c
+pub IsIdle-empty : (es : List Entry) (c : ColumnState) → es ≡ [] → ScoresAreSettled es → c.rows ≡ [] → c.insertions ≡ [] → IsIdle es c
 IsIdle-empty es c none settled rows insertions = record { settled = settled; content = Holds-empty c (members_by current_score es) (ap (λ (l : List Entry). members_by current_score l) none) rows insertions }

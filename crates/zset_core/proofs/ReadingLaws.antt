@@ -6,8 +6,8 @@ use Rattle.std.specs.List.Sorted.{IsStrictlyIncreasing}
 use Rattle.std.proofs.lemmas.Bool.{eqb-true, not-false}
 use Rattle.score_bounds.specs.Scores.{score_value}
 use Rattle.zset_core.specs.ParsedArguments.{word_at}
-use Rattle.zset_core.specs.Refusal.{number_of}
-use Rattle.zset_core.specs.CommandGrammar.{first_of, has_option, has_two_of_gt_lt_nx, has_arity, are_pairs, asked_flags, asked_range, asked_options, is_bad_limit, add_meaning, increase, add_options, add_pairs, pairs_value, command_named, command_conditions, named_conditions, conditions, command_meaning, meaning, refusal_of}
+use Rattle.zset_core.specs.Refusal.{refusal_number}
+use Rattle.zset_core.specs.CommandGrammar.{first_of, has_option, has_two_of_gt_lt_nx, has_arity, are_pairs, asked_flags, asked_range, asked_options, is_bad_limit, add_meaning, incr_meaning, add_options, add_pairs, pairs_value, command_named, command_conditions, named_conditions, conditions, command_meaning, meaning, refusal_of}
 use Rattle.zset_core.specs.declared.command.name.CommandName.{CommandName}
 use Rattle.zset_core.specs.declared.command.name.CommandName.TheVariants as names
 use Rattle.zset_core.specs.declared.refusal.Refusal.{Refusal}
@@ -48,15 +48,15 @@ list_range_meant words none =
 
 -- INCR's one pair
 one_pair : (words : List (List ℕ)) → length (add_pairs words) ≡ 2 → (pairs : List (ℤ × List ℕ)) → pairs_value (add_pairs words) ≡ Some pairs
-    → IsSome (increase (word_at words 1) (asked_flags (add_options words)) pairs)
+    → IsSome (incr_meaning (word_at words 1) (asked_flags (add_options words)) pairs)
 one_pair words two pairs is = over (score_value (word_at (add_pairs words) 0)) refl
   where
-    over : (read : Option ℤ) → score_value (word_at (add_pairs words) 0) ≡ read → IsSome (increase (word_at words 1) (asked_flags (add_options words)) pairs)
+    over : (read : Option ℤ) → score_value (word_at (add_pairs words) 0) ≡ read → IsSome (incr_meaning (word_at words 1) (asked_flags (add_options words)) pairs)
     over None read = let value = value_of_one (add_pairs words) two None read in absurd (let no : ⊥ = cc (value, is) in no)
     over (Some given) read =
         let value = value_of_one (add_pairs words) two (Some given) read in
         let same : (given, word_at (add_pairs words) 1) ∷ [] ≡ pairs = cc (value, is) in
-        subst (λ ps. IsSome (increase (word_at words 1) (asked_flags (add_options words)) ps)) same refl
+        subst (λ ps. IsSome (incr_meaning (word_at words 1) (asked_flags (add_options words)) ps)) same refl
 
 add_meant : (words : List (List ℕ)) → first_of (command_conditions names.Add words) ≡ None → IsSome (command_meaning names.Add words)
 add_meant words none =
@@ -108,10 +108,10 @@ more_numbers : (x y : ℕ) (rest : List ℕ) → x < y → IsStrictlyIncreasing 
 more_numbers x y rest less others zero below = less
 more_numbers x y rest less others (suc k) below = let next : suc k + 1 ≡ suc (k + 1) = omega arith in rw next (others k (omega (arith, below)))
 
-pub numbers_rise : (words : List (List ℕ)) → IsStrictlyIncreasing (map (λ c. number_of c.1) (conditions words))
+pub numbers_rise : (words : List (List ℕ)) → IsStrictlyIncreasing (map (λ c. refusal_number c.1) (conditions words))
 numbers_rise words = over (command_named (word_at words 0))
   where
-    over : (name : Option CommandName) → IsStrictlyIncreasing (map (λ c. number_of c.1) (named_conditions name words))
+    over : (name : Option CommandName) → IsStrictlyIncreasing (map (λ c. refusal_number c.1) (named_conditions name words))
     over None = one_number 2
     over (Some names.Ping) = one_number 3
     over (Some names.Add) =

@@ -12,7 +12,7 @@ use Rattle.std.proofs.lemmas.Option.{slice_get-map}
 use Rattle.std.proofs.lemmas.Bool.Decides.{nat_tests}
 use Rattle.indexmap.specs.IndexMap.{set_value_at, with_value_at, IsUnique}
 use Rattle.indexmap.proofs.CallerLemmas.{updates-with_value_at}
-use Rattle.zset_core.specs.MembersWithStagedScores.{Entry, current_score, staged_score, rows_by, slots, members_by, slot_at, same_bytes, Stays, IsSettled, IsWithin, IsWaiting, Grows}
+use Rattle.zset_core.specs.MembersWithStagedScores.{Entry, current_score, staged_score, rows_by, slots, members_by, slot_at, same_bytes, Stays, ScoresAreSettled, IsWithin, IsWaiting, Grows}
 use Rattle.zset_core.specs.declared.set.members_with_staged_scores.ScoreSlot.{ScoreSlot}
 use Rattle.zset_core.proofs.Bridge.{same_equiv, updates_bytes, one_put, one_gone}
 
@@ -161,8 +161,8 @@ place_of es i q k s at found =
     ∙ ap (λ b. Some (b, s)) (sym ((bytes_decides q k).0 (lookup_key_passes (λ k. bytes_eq q k) es k found)))
 
 -- ---- a front of the entries
-pub IsSettled-take : (n : ℕ) (es : List Entry) → IsSettled es → IsSettled (take n es)
-IsSettled-take n es h i = at n es i (h i)
+pub ScoresAreSettled-take : (n : ℕ) (es : List Entry) → ScoresAreSettled es → ScoresAreSettled (take n es)
+ScoresAreSettled-take n es h i = at n es i (h i)
   where
     at : (n : ℕ) (es : List Entry) (i : ℕ) → IfSome (slice_get es i) Stays → IfSome (slice_get (take n es) i) Stays
     at zero es i h = tt
@@ -197,15 +197,15 @@ IsWaiting-next ps i es w same lt old =
     (IsWaiting-settled (get_or ps i 0) (drop (suc i) ps) es w same (subst (λ (qs : List ℕ). IsWaiting qs es) (drop-cons ps i 0 lt) old))
 
 -- where nothing waits, both sets are one
-pub rows_same : (es : List Entry) → IsSettled es → rows_by staged_score es ≡ rows_by current_score es
+pub rows_same : (es : List Entry) → ScoresAreSettled es → rows_by staged_score es ≡ rows_by current_score es
 rows_same [] h = refl
 rows_same (e ∷ es) h = ap (λ s. (e.0, s) ∷ rows_by staged_score es) (h 0) ∙ ap (λ l. (e.0, current_score e.1) ∷ l) (rows_same es (λ i. h (suc i)))
 
-pub members_same : (es : List Entry) → IsSettled es → members_by staged_score es ≡ members_by current_score es
+pub members_same : (es : List Entry) → ScoresAreSettled es → members_by staged_score es ≡ members_by current_score es
 members_same es h = ap (λ (rows : List (List ℕ × ℤ)). fin.from_entries rows) (rows_same es h)
 
 -- ---- members that leave
-settled_at : (es : List Entry) (q : List ℕ) → IsSettled es → IfSome (slot_at es q) (λ s. s.staged ≡ s.current)
+settled_at : (es : List Entry) (q : List ℕ) → ScoresAreSettled es → IfSome (slot_at es q) (λ s. s.staged ≡ s.current)
 settled_at [] q h = tt
 settled_at (e ∷ es) q h = by (bytes_eq q e.0) (settled_at es q (λ i. h (suc i)))
   where
@@ -213,8 +213,8 @@ settled_at (e ∷ es) q h = by (bytes_eq q e.0) (settled_at es q (λ i. h (suc i
     by true rest = h 0
     by false rest = rest
 
-pub IsSettled-gone : {S : Type 0} (bs : List ℕ) (m n : HashMap (List ℕ) ScoreSlot S) → UpdatesBy same_bytes (λ k. bytes_eq bs k) m n None → IsUnique same_bytes n → IsSettled m.entries → IsSettled n.entries
-IsSettled-gone bs m n h unique old i = by (slice_get n.entries i) refl
+pub ScoresAreSettled-gone : {S : Type 0} (bs : List ℕ) (m n : HashMap (List ℕ) ScoreSlot S) → UpdatesBy same_bytes (λ k. bytes_eq bs k) m n None → IsUnique same_bytes n → ScoresAreSettled m.entries → ScoresAreSettled n.entries
+ScoresAreSettled-gone bs m n h unique old i = by (slice_get n.entries i) refl
   where
     left : (b : Bool) (o : Option ScoreSlot) (s : ScoreSlot) → cond b None o ≡ Some s → IfSome o (λ s. s.staged ≡ s.current) → s.staged ≡ s.current
     left true o s e h = cc
@@ -230,9 +230,9 @@ IsSettled-gone bs m n h unique old i = by (slice_get n.entries i) refl
 pub members_gone : {S : Type 0} (f : ScoreSlot → ℤ) (bs : List ℕ) (m n : HashMap (List ℕ) ScoreSlot S) → UpdatesBy same_bytes (λ k. bytes_eq bs k) m n None → members_by f n.entries ≡ fin.remove (members_by f m.entries) bs
 members_gone f bs m n h = one_gone f m.entries n.entries bs (updates_bytes bs m n None h)
 
-pub IsWaiting-none : (es : List Entry) → IsSettled es → IsWaiting [] es
+pub IsWaiting-none : (es : List Entry) → ScoresAreSettled es → IsWaiting [] es
 IsWaiting-none es h = record { within = tt; settled = λ i none. h i }
 
 -- none of these places waits where no entry does
-pub IsWaiting-any : (ps : List ℕ) (es : List Entry) → IsSettled es → IsWithin (length es) ps → IsWaiting ps es
+pub IsWaiting-any : (ps : List ℕ) (es : List Entry) → ScoresAreSettled es → IsWithin (length es) ps → IsWaiting ps es
 IsWaiting-any ps es h within = record { within = within; settled = λ i none. h i }

@@ -20,7 +20,7 @@ use Rattle.std.proofs.lemmas.List.Sums.{sum_by-append}
 use Rattle.std.proofs.lemmas.List.Sorted.{IsPermutation-refl, sum_by-IsPermutation}
 use Rattle.std.proofs.lemmas.Map.Views.{Contains-from_any}
 use Rattle.crack_kernel.specs.RowBag.{Test, SameBag}
-use Rattle.crack_kernel.specs.Parts.{IsBelow, IsFrom, IsParted}
+use Rattle.crack_kernel.specs.PartedRows.{IsBelow, IsFrom, IsParted}
 use Rattle.crack_kernel.specs.PivotList.{ObeysPivots}
 use Rattle.crack_kernel.proofs.PivotOrder.{IsRising-le}
 use Rattle.zset_core.proofs.Tests.{first, second}

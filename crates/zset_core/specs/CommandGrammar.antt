@@ -17,10 +17,6 @@ use Rattle.zset_core.specs.declared.command.name.CommandName.TheVariants.{Ping, 
 use Rattle.zset_core.specs.declared.refusal.Refusal.{Refusal}
 use Rattle.zset_core.specs.declared.refusal.Refusal.TheVariants.{UnknownCommand, WrongArity, Syntax, NxAndXx, GtLtNx, IncrPair, BadScore, BadBound, BadInteger}
 
--- a request has at most this number of arguments, the name of its command included
-abbrev pub most_arguments : ℕ
-most_arguments = 1027
-
 -- an argument is this name, letters in either case
 abbrev pub is_named : List ℕ → List ℕ → Bool
 is_named name word = str_eq_ignore_ascii_case word name
@@ -173,9 +169,9 @@ unfoldable pub refusal_of : List (List ℕ) → Option Refusal
 refusal_of words = first_of (conditions words)
 
 -- ZADD with INCR: its one pair
-abbrev pub increase : List ℕ → Flags → List (ℤ × List ℕ) → Option Meaning
-increase key flags ((given, member) ∷ []) = Some (meanings.Changes key (meanings.Increase flags given member))
-increase key flags _ = None
+abbrev pub incr_meaning : List ℕ → Flags → List (ℤ × List ℕ) → Option Meaning
+incr_meaning key flags ((given, member) ∷ []) = Some (meanings.Changes key (meanings.Increase flags given member))
+incr_meaning key flags _ = None
 
 -- ZADD with its pairs
 abbrev pub add_meaning : List (List ℕ) → List (ℤ × List ℕ) → Option Meaning
@@ -183,7 +179,7 @@ add_meaning words pairs =
     let options = add_options words in
     let key = word_at words 1 in
     if has_option (codes "INCR") options
-    then increase key (asked_flags options) pairs
+    then incr_meaning key (asked_flags options) pairs
     else Some (meanings.Changes key (meanings.Add (asked_flags options) (has_option (codes "CH") options) pairs))
 
 -- what a command asks for, or none where a word is no score, bound or option where one is wanted. It is asked only of

@@ -10,7 +10,7 @@ use Rattle.zset_core.specs.MembersWithStagedScores.{Entry, IsWithin, current_sco
 use Rattle.zset_core.specs.declared.set.members_with_staged_scores.ScoreSlot.{ScoreSlot}
 
 -- places of members, each of which is one member less
-pub record AreFound (entries : List Entry) (places : BTreeSet ℕ) : Type 0 where
+pub record AreFoundPlaces (entries : List Entry) (places : BTreeSet ℕ) : Type 0 where
   pub same : (place : ℕ) (q : List ℕ) (slot : ScoreSlot) → slice_get (slots entries) place ≡ Some (q, slot) → contains nat_cmp places place ≡ list_any (bytes_eq q) (names_at entries places.keys)
   pub count : length places.keys + fin.len (remove_all (members_by current_score entries) (names_at entries places.keys)) ≡ fin.len (members_by current_score entries)
   pub within : IsWithin (length entries) places.keys

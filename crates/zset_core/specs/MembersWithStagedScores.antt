@@ -49,8 +49,8 @@ abbrev pub Stays : Entry → Type 0
 Stays e = e.1.staged ≡ e.1.current
 
 -- no entry waits for another score
-abbrev pub IsSettled : List Entry → Type 0
-IsSettled entries = (i : ℕ) → IfSome (slice_get entries i) Stays
+abbrev pub ScoresAreSettled : List Entry → Type 0
+ScoresAreSettled entries = (i : ℕ) → IfSome (slice_get entries i) Stays
 
 -- each of these places has an entry
 abbrev pub IsWithin : ℕ → List ℕ → Type 0
@@ -69,4 +69,4 @@ pub record Grows (old new : List Entry) : Type 0 where
 -- the entries are what they were before a command
 pub record IsBack (old new : List Entry) : Type 0 where
   pub same : rows_by current_score new ≡ rows_by current_score old
-  pub settled : IsSettled new
+  pub settled : ScoresAreSettled new

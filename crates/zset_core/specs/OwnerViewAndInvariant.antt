@@ -28,8 +28,8 @@ world_of [] = fin.empty
 world_of (e ∷ es) = put_set (world_of es) e.0.items e.1.members
 
 -- their keys
-abbrev pub names_of : {A : Type 0} → List (Keyed A) → List (List ℕ)
-names_of {A} entries = map (λ (e : Keyed A). e.0.items) entries
+abbrev pub set_keys : {A : Type 0} → List (Keyed A) → List (List ℕ)
+set_keys {A} entries = map (λ (e : Keyed A). e.0.items) entries
 
 -- the entries stand in the byte order of their keys
 abbrev pub KeysRise : {A : Type 0} → List (Keyed A) → Type 0

@@ -2,7 +2,7 @@
 use Rattle.std.specs.Prelude.{◌≡◌, ℕ, ◌≤◌, List, length, take, Option, None, Some, IfSome, OnSome}
 use Rattle.std.specs.FinMap as fin
 use Rattle.resp_wire.specs.Response.{response_of}
-use Rattle.zset_core.specs.MembersWithStagedScores.{Entry, current_score, names_at, rows_by, staged_score, members_by, IsSettled, IsWaiting, IsWithin}
+use Rattle.zset_core.specs.MembersWithStagedScores.{Entry, current_score, names_at, rows_by, staged_score, members_by, ScoresAreSettled, IsWaiting, IsWithin}
 use Rattle.ripple_column.specs.Content.{ColumnState, Holds}
 use Rattle.ripple_column.specs.RangeAnswer.{HoldsRange, IsAnswer}
 use Rattle.zset_core.specs.AbstractCommand.{Meaning, range_to_remove}
@@ -24,23 +24,23 @@ view_of entries column (Some p) = record { members = fin.from_entries (take p.pl
 
 -- a set with nothing prepared: the content of its column is the bag of the members' pairs
 pub record IsIdle (entries : List Entry) (column : ColumnState) : Type 0 where
-  pub settled : IsSettled entries
+  pub settled : ScoresAreSettled entries
   pub content : Holds column (pairs (members_by current_score entries))
 
 -- the pending lists of a column have room for what a plan puts there
-pub record HasRoom {A : Type 0} (column : ColumnState) (plan : Plan A) : Type 0 where
+pub record HasRoomForPlan {A : Type 0} (column : ColumnState) (plan : Plan A) : Type 0 where
   pub coming : rows_coming plan ≤ column.insert_spare
   pub leaving : rows_leaving plan ≤ column.delete_spare
 
 -- the rows of a range that leaves stand at its places, and nothing waits in it
-pub record StandsIn (column : ColumnState) (leaving : LeavingRange) : Type 0 where
+pub record RangeStandsIn (column : ColumnState) (leaving : LeavingRange) : Type 0 where
   pub answer : IsAnswer column leaving.range (leaving.from, leaving.to)
   pub rows : HoldsRange column leaving.range (leaving.from, leaving.to)
 
 -- a column is ready for a plan: it has room for its rows; where a range leaves its rows stand there, and nothing is named
 pub record IsReadyForPlan {A : Type 0} (column : ColumnState) (plan : Plan A) : Type 0 where
-  pub room : HasRoom column plan
-  pub stands : IfSome plan.range (StandsIn column)
+  pub room : HasRoomForPlan column plan
+  pub stands : IfSome plan.range (RangeStandsIn column)
   pub alone : OnSome plan.range (NeedsAtMost 0 plan)
 
 -- a set with a plan for a command: the content is the bag of the pairs from before, and the edits turn it into the bag of those
@@ -59,9 +59,9 @@ pub record IsPlanned {A : Type 0} (entries : List Entry) (column : ColumnState) 
       ≡ moved_names (fin.from_entries (take plan.draft.kept (rows_by current_score entries))) (left_by entries plan) (names_in meaning)
 
 -- what holds of every set
-abbrev pub IsSound : {A : Type 0} → List Entry → ColumnState → Option (Prepared A) → Type 0
-IsSound entries column None = IsIdle entries column
-IsSound entries column (Some p) = IsPlanned entries column p.asked.value.meaning p.plan
+abbrev pub IsSoundSet : {A : Type 0} → List Entry → ColumnState → Option (Prepared A) → Type 0
+IsSoundSet entries column None = IsIdle entries column
+IsSoundSet entries column (Some p) = IsPlanned entries column p.asked.value.meaning p.plan
 
 -- the number of entries that stand whatever becomes of what is prepared
 abbrev pub kept_of : {A : Type 0} → List Entry → Option (Prepared A) → ℕ

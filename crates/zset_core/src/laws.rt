@@ -4,7 +4,7 @@ ghost use Rattle.std.specs.Prelude.{◌≡◌, ◌↔◌, ℕ, ℤ, Bool, true, 
 ghost use Rattle.std.specs.FinMap as fin;
 ghost use Rattle.std.specs.List.Sorted.{IsStrictlyIncreasing};
 ghost use Rattle.zset_core.specs.CommandGrammar.{conditions, meaning, refusal_of};
-ghost use Rattle.zset_core.specs.Refusal.{number_of};
+ghost use Rattle.zset_core.specs.Refusal.{refusal_number};
 ghost use Rattle.zset_core.specs.SortedSet.{Members, listing, IsListedBefore};
 
 /// A request that gets none of the refusals has a meaning.
@@ -16,7 +16,7 @@ pub fn unrefused_requests()
 /// has the least number.
 pub fn condition_order()
     ensures { (words : List (List ℕ))
-        → IsStrictlyIncreasing (map (λ c. number_of c.1) (conditions words)) }
+        → IsStrictlyIncreasing (map (λ c. refusal_number c.1) (conditions words)) }
 {}
 
 /// The pairs of a listing rise strictly: by score, and those of one score by the bytes of their

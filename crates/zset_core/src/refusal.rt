@@ -1,7 +1,7 @@
 //! Why a command is refused.
 
 ghost use Rattle.std.specs.Prelude.{◌≡◌};
-ghost use Rattle.zset_core.specs.Refusal.{number_of, text_of};
+ghost use Rattle.zset_core.specs.Refusal.{refusal_number, refusal_text};
 ghost use Rattle.zset_core.specs.declared.refusal.Refusal.TheVariants as refusals;
 
 use std::alloc::AllocError;
@@ -52,7 +52,7 @@ pub enum Refusal {
 impl Refusal {
     /// The refusal's number, 1 to 17.
     pub fn number(&self) -> u8
-        ensures { result ≡ number_of self.now }
+        ensures { result ≡ refusal_number self.now }
     {
         match self {
             Refusal::NoMemory => 1,
@@ -77,7 +77,7 @@ impl Refusal {
 
     /// The text of the error reply, behind the `-`.
     pub fn text(&self) -> &'static str
-        ensures { result.now ≡ text_of self.now }
+        ensures { result.now ≡ refusal_text self.now }
     {
         match self {
             Refusal::NoMemory => "ERR 1 out of memory",

@@ -76,11 +76,11 @@ impl<H: BuildHasher, A: Allocator + Copy> Model for ZSet<H, A> {
 
     ghost coded = { Prim.hlevel (codes, coded_members) };
 
-    ghost use Rattle.zset_core.specs.SetViewAndInvariant.{view_of, IsSound};
+    ghost use Rattle.zset_core.specs.SetViewAndInvariant.{view_of, IsSoundSet};
 
     ghost view = { λ z. view_of z.members.entries z.column z.prepared };
 
-    ghost invariant = { λ z. IsSound z.members.entries z.column z.prepared };
+    ghost invariant = { λ z. IsSoundSet z.members.entries z.column z.prepared };
 }
 
 impl<H: BuildHasher, A: Allocator + Copy> ZSet<H, A> {

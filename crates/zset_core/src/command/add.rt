@@ -2,7 +2,8 @@
 
 ghost use Rattle.std.specs.Prelude.{◌≡◌, ◌≢◌, ◌+◌, ◌*◌, ◌%◌, ◌<◌, ◌≤◌, ℕ, List, [], ◌∷◌, ◌++◌, length, OnOk, IfOk, IfErr};
 ghost use Rattle.std.specs.List.{take_while};
-ghost use Rattle.zset_core.specs.CommandGrammar.{most_arguments, add_options, add_pairs, asked_flags, has_option, has_two_of_gt_lt_nx, is_add_option, command_conditions, command_meaning, pairs_value};
+ghost use Rattle.resp_wire.specs.RequestEncoding.{most_arguments};
+ghost use Rattle.zset_core.specs.CommandGrammar.{add_options, add_pairs, asked_flags, has_option, has_two_of_gt_lt_nx, is_add_option, command_conditions, command_meaning, pairs_value};
 ghost use Rattle.zset_core.specs.ReadingMatchesGrammar.{AreAddParts, AreScores, IsReading, given_value};
 ghost use Rattle.zset_core.specs.declared.command.name.CommandName.TheVariants as names;
 ghost use Rattle.zset_core.specs.declared.refusal.Refusal.TheVariants as refusals;

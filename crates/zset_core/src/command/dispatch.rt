@@ -1,7 +1,8 @@
 //! Reading a request's arguments as a command.
 
 ghost use Rattle.std.specs.Prelude.{◌≡◌, ◌<◌, ◌≤◌, true, length, drop};
-ghost use Rattle.zset_core.specs.CommandGrammar.{most_arguments, conditions, has_arity, meaning, command_conditions, command_meaning};
+ghost use Rattle.resp_wire.specs.RequestEncoding.{most_arguments};
+ghost use Rattle.zset_core.specs.CommandGrammar.{conditions, has_arity, meaning, command_conditions, command_meaning};
 ghost use Rattle.zset_core.specs.ParsedArguments.{word_at};
 ghost use Rattle.zset_core.specs.ReadingMatchesGrammar.{IsReading};
 

@@ -2,7 +2,7 @@
 ghost use Rattle.std.specs.Prelude.{◌≡◌, None, Some, IsSome, option_map, slice_get};
 ghost use Rattle.std.specs.Map.{keys_of};
 ghost use Rattle.std.specs.Option.{option_copied};
-ghost use Rattle.zset_core.specs.OwnerViewAndInvariant.{names_of, KeysRise, set_in};
+ghost use Rattle.zset_core.specs.OwnerViewAndInvariant.{set_keys, KeysRise, set_in};
 ghost use Rattle.zset_core.specs.SetsByKey.{key_behind};
 
 use crate::owner::set_tree::SetTree;
@@ -31,7 +31,7 @@ pub fn nth_key<H: BuildHasher, A: Allocator + Copy>(
 
 /// The first key.
 pub fn first_key<H: BuildHasher, A: Allocator + Copy>(sets: &SetTree<H, A>) -> Option<&[u8]>
-    ensures key { option_copied result ≡ key_behind (names_of sets.now.entries) None }
+    ensures key { option_copied result ≡ key_behind (set_keys sets.now.entries) None }
     ensures ordered { KeysRise sets.now.entries }
 {
     match sets.keys().next() {
@@ -46,7 +46,7 @@ pub fn next_key<'a, H: BuildHasher, A: Allocator + Copy>(
     key: &[u8],
 ) -> Option<&'a [u8]>
     requires { IsSome (set_in sets.now.entries key.now) }
-    ensures key { option_copied result ≡ key_behind (names_of sets.now.entries) (Some key.now) }
+    ensures key { option_copied result ≡ key_behind (set_keys sets.now.entries) (Some key.now) }
     ensures ordered { KeysRise sets.now.entries }
 {
     match sets.get_key_value(key) {

@@ -8,7 +8,7 @@ ghost use Rattle.zset_core.specs.AnswerableAsItStands.{IsReady, ListsAWindow};
 ghost use Rattle.zset_core.specs.ParsedArguments.{question_of, IsWholeQuestion};
 ghost use Rattle.zset_core.specs.SortedSet.{Members, listing, pairs};
 ghost use Rattle.zset_core.specs.Semantics.{answer, elements, apply_limit};
-ghost use Rattle.zset_core.specs.MembersWithStagedScores.{current_score, members_by, IsSettled, same_bytes};
+ghost use Rattle.zset_core.specs.MembersWithStagedScores.{current_score, members_by, ScoresAreSettled, same_bytes};
 
 use crate::command::limit::Limit;
 use crate::command::parsed_arguments::QuestionForm;

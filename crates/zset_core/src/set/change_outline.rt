@@ -1,6 +1,6 @@
 //! What a command does to a set in numbers.
 ghost use Rattle.std.specs.Prelude.{◌≡◌, ◌≢◌, ◌≤◌, true, false, length, take};
-ghost use Rattle.zset_core.specs.MembersWithStagedScores.{current_score, staged_score, members_by, IsSettled, IsWaiting};
+ghost use Rattle.zset_core.specs.MembersWithStagedScores.{current_score, staged_score, members_by, ScoresAreSettled, IsWaiting};
 ghost use Rattle.zset_core.specs.ChangeOutline.{IsOutline};
 
 use crate::set::draft::Draft;
@@ -25,7 +25,7 @@ fn is_moved<H: BuildHasher, A: Allocator + Copy>(
     touched: &[usize],
 ) -> bool
     requires { IsWaiting touched.now members.now.entries }
-    ensures settled { result ≡ false → IsSettled members.now.entries }
+    ensures settled { result ≡ false → ScoresAreSettled members.now.entries }
     ensures moved { result ≡ true → members_by staged_score members.now.entries
         ≢ members_by current_score members.now.entries }
 {

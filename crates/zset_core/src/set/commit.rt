@@ -2,7 +2,7 @@
 ghost use Rattle.std.specs.Prelude.{◌≡◌, None, IfSome, length, take};
 ghost use Rattle.ripple_column.specs.Content.{Holds};
 ghost use Rattle.ripple_column.specs.RangeEffects.{TakesOut};
-ghost use Rattle.zset_core.specs.MembersWithStagedScores.{current_score, staged_score, rows_by, members_by, names_at, IsSettled, IsWaiting, IsWithin};
+ghost use Rattle.zset_core.specs.MembersWithStagedScores.{current_score, staged_score, rows_by, members_by, names_at, ScoresAreSettled, IsWaiting, IsWithin};
 ghost use Rattle.zset_core.specs.Plan.{left_by, range_of, without_given};
 ghost use Rattle.zset_core.specs.RowEdits.{TurnsInto};
 ghost use Rattle.zset_core.specs.Semantics.{remove_all};
@@ -24,7 +24,7 @@ pub fn discard<H: BuildHasher, A: Allocator + Copy>(members: &mut MemberMap<H, A
     requires { IsWaiting plan.draft.touched.items members.old.entries }
     ensures current { rows_by current_score members.new.entries
         ≡ take plan.draft.kept (rows_by current_score members.old.entries) }
-    ensures settled { IsSettled members.new.entries }
+    ensures settled { ScoresAreSettled members.new.entries }
 {
     plan.draft.roll_back(members);
 }
@@ -36,14 +36,14 @@ fn change_column<H: BuildHasher, A: Allocator + Copy>(
     column: &mut Column<A>,
     plan: Plan<A>,
 ) -> Reply<A>
-    requires settled { IsSettled members.old.entries }
+    requires settled { ScoresAreSettled members.old.entries }
     requires ready { IsReadyForPlan column.old plan }
     requires removed { IsWithin (length members.old.entries) plan.removed.keys }
     requires turns { TurnsInto column.old (members_by current_score members.old.entries) plan.draft.edits }
     ensures members { members_by current_score members.new.entries
         ≡ without_given (range_of plan) (remove_all (members_by current_score members.old.entries)
         (names_at members.old.entries plan.removed.keys)) }
-    ensures settled { IsSettled members.new.entries }
+    ensures settled { ScoresAreSettled members.new.entries }
     ensures content { Holds column.new (pairs (members_by current_score members.new.entries)) }
     ensures rows { plan.range ≡ None → column.new.rows ≡ column.old.rows }
     ensures pivots { plan.range ≡ None → column.new.pivots ≡ column.old.pivots }
@@ -75,7 +75,7 @@ pub fn apply_plan<H: BuildHasher, A: Allocator + Copy>(
     requires removed { IsWithin (length members.old.entries) plan.removed.keys }
     requires turns { TurnsInto column.old (members_by staged_score members.old.entries) plan.draft.edits }
     ensures members { members_by current_score members.new.entries ≡ left_by members.old.entries plan }
-    ensures settled { IsSettled members.new.entries }
+    ensures settled { ScoresAreSettled members.new.entries }
     ensures content { Holds column.new (pairs (left_by members.old.entries plan)) }
     ensures rows { plan.range ≡ None → column.new.rows ≡ column.old.rows }
     ensures pivots { plan.range ≡ None → column.new.pivots ≡ column.old.pivots }

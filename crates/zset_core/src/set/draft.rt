@@ -7,7 +7,7 @@ ghost use Rattle.zset_core.specs.declared.set.members_with_staged_scores.ScoreSl
 ghost use Rattle.zset_core.specs.Semantics.{outcome_of, counted, put_one, put_all, count_all};
 ghost use Rattle.zset_core.specs.ParsedArguments.{given_pairs};
 ghost use Rattle.zset_core.specs.RowEdits.{Notes};
-ghost use Rattle.zset_core.specs.MembersWithStagedScores.{Entry, current_score, staged_score, rows_by, members_by, name_at, names_at, slot_at, slots, IsSettled, IsWaiting, Grows};
+ghost use Rattle.zset_core.specs.MembersWithStagedScores.{Entry, current_score, staged_score, rows_by, members_by, name_at, names_at, slot_at, slots, ScoresAreSettled, IsWaiting, Grows};
 
 use crate::command::given_pairs::GivenPairs;
 use crate::command::pair_outcome::{Flags, Outcome};
@@ -171,7 +171,7 @@ impl<A: Allocator + Copy> Draft<A> {
         requires { IsWaiting self.now.touched.items members.old.entries }
         ensures current { rows_by current_score members.new.entries
             ≡ take self.now.kept (rows_by current_score members.old.entries) }
-        ensures settled { IsSettled members.new.entries }
+        ensures settled { ScoresAreSettled members.new.entries }
     {
         discard_staged(members, self.touched.as_slice());
         members.truncate(self.kept);

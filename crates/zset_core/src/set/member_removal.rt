@@ -7,9 +7,9 @@ ghost use Rattle.std.specs.Str.{bytes_eq};
 ghost use Rattle.resp_wire.specs.Response.{Integer};
 ghost use Rattle.ripple_column.specs.Content.{Holds};
 ghost use Rattle.zset_core.specs.Semantics.{remove_all};
-ghost use Rattle.zset_core.specs.MembersWithStagedScores.{current_score, members_by, name_at, names_at, IsSettled, IsWithin};
+ghost use Rattle.zset_core.specs.MembersWithStagedScores.{current_score, members_by, name_at, names_at, ScoresAreSettled, IsWithin};
 ghost use Rattle.zset_core.specs.ChangeEffect.{moved_names};
-ghost use Rattle.zset_core.specs.FoundPlaces.{AreFound};
+ghost use Rattle.zset_core.specs.FoundPlaces.{AreFoundPlaces};
 ghost use Rattle.zset_core.specs.NotedNames.{noted};
 ghost use Rattle.zset_core.specs.Plan.{MovesTo, NeedsAtMost, Prepares};
 ghost use Rattle.zset_core.specs.RowEdits.{most_edits};
@@ -51,7 +51,7 @@ fn find_one<H: BuildHasher, A: Allocator + Copy>(
     most: usize,
     name: &[u8],
 ) -> Result<(), AllocError>
-    requires found { AreFound members.now.entries places.old }
+    requires found { AreFoundPlaces members.now.entries places.old }
     requires within { IsWithin (length members.now.entries) order.old.items }
     requires seen { (q : List ℕ) → list_any (bytes_eq q) (names_at members.now.entries order.old.items)
         ≡ list_any (bytes_eq q) (names_at members.now.entries places.old.keys) }
@@ -60,7 +60,7 @@ fn find_one<H: BuildHasher, A: Allocator + Copy>(
         ≡ list_any (bytes_eq q) (names_at members.now.entries places.new.keys)) }
     ensures order { OnOk result (names_at members.now.entries order.new.items
         ≡ noted (members_by current_score members.now.entries) (names_at members.now.entries order.old.items) name.now) }
-    ensures found { OnOk result (AreFound members.now.entries places.new) }
+    ensures found { OnOk result (AreFoundPlaces members.now.entries places.new) }
     ensures gone { OnOk result (remove_all (members_by current_score members.now.entries)
         (names_at members.now.entries places.new.keys)
         ≡ map.remove (remove_all (members_by current_score members.now.entries)
@@ -109,7 +109,7 @@ pub fn plan_remove<H: BuildHasher, A: Allocator + Copy>(
     members: &MemberMap<H, A>,
     names: &[Bytes<A>],
 ) -> Result<Plan<A>, AllocError>
-    requires settled { IsSettled members.now.entries }
+    requires settled { ScoresAreSettled members.now.entries }
     requires few { length names.now ≤ most_edits }
     ensures ok { IfOk result (λ plan. Prepares members.now.entries members.now.entries plan
         (remove_all (members_by current_score members.now.entries) names.now)
@@ -145,13 +145,13 @@ fn remove_member<H: BuildHasher, A: Allocator + Copy>(
     column: &mut Column<A>,
     place: usize,
 )
-    requires settled { IsSettled members.old.entries }
+    requires settled { ScoresAreSettled members.old.entries }
     requires within { place < length members.old.entries }
     requires content { Holds column.old (pairs (members_by current_score members.old.entries)) }
     requires room { 0 < column.old.delete_spare }
     ensures members { members_by current_score members.new.entries
         ≡ map.remove (members_by current_score members.old.entries) (name_at members.old.entries place) }
-    ensures settled { IsSettled members.new.entries }
+    ensures settled { ScoresAreSettled members.new.entries }
     ensures before { (p : ℕ) → p < place → name_at members.new.entries p ≡ name_at members.old.entries p }
     ensures len { length members.new.entries + 1 ≡ length members.old.entries }
     ensures content { Holds column.new (pairs (members_by current_score members.new.entries)) }
@@ -172,13 +172,13 @@ pub fn remove_members<H: BuildHasher, A: Allocator + Copy>(
     column: &mut Column<A>,
     mut places: BTreeSet<usize, A>,
 )
-    requires settled { IsSettled members.old.entries }
+    requires settled { ScoresAreSettled members.old.entries }
     requires within { IsWithin (length members.old.entries) places.keys }
     requires content { Holds column.old (pairs (members_by current_score members.old.entries)) }
     requires room { length places.keys ≤ column.old.delete_spare }
     ensures members { members_by current_score members.new.entries
         ≡ remove_all (members_by current_score members.old.entries) (names_at members.old.entries places.keys) }
-    ensures settled { IsSettled members.new.entries }
+    ensures settled { ScoresAreSettled members.new.entries }
     ensures content { Holds column.new (pairs (members_by current_score members.new.entries)) }
     ensures rows { column.new.rows ≡ column.old.rows }
     ensures pivots { column.new.pivots ≡ column.old.pivots }

@@ -4,7 +4,7 @@
 ghost use Rattle.std.specs.Prelude.{◌≡◌, ◌<◌, ◌^◌, Some, length, slice_get, option_map, IfOk, IfSome};
 ghost use Rattle.std.specs.FinMap as map;
 ghost use Rattle.indexmap.specs.IndexMap.{IsUnique};
-ghost use Rattle.zset_core.specs.MembersWithStagedScores.{current_score, staged_score, rows_by, members_by, name_at, slot_at, slots, same_bytes, IsSettled, IsWaiting};
+ghost use Rattle.zset_core.specs.MembersWithStagedScores.{current_score, staged_score, rows_by, members_by, name_at, slot_at, slots, same_bytes, ScoresAreSettled, IsWaiting};
 ghost use Rattle.zset_core.specs.SortedSet.{names_of};
 ghost use Rattle.zset_core.specs.Semantics.{remove_all};
 
@@ -86,7 +86,7 @@ pub fn adopt_staged<H: BuildHasher, A: Allocator + Copy>(
 )
     requires { IsWaiting touched.now members.old.entries }
     ensures staged { rows_by staged_score members.new.entries ≡ rows_by staged_score members.old.entries }
-    ensures settled { IsSettled members.new.entries }
+    ensures settled { ScoresAreSettled members.new.entries }
 {
     for place in touched {
         let staged = members[*place].staged;
@@ -104,7 +104,7 @@ pub fn discard_staged<H: BuildHasher, A: Allocator + Copy>(
 )
     requires { IsWaiting touched.now members.old.entries }
     ensures current { rows_by current_score members.new.entries ≡ rows_by current_score members.old.entries }
-    ensures settled { IsSettled members.new.entries }
+    ensures settled { ScoresAreSettled members.new.entries }
 {
     for place in touched {
         let current = members[*place].current;
@@ -120,10 +120,10 @@ pub fn take_out_rows<H: BuildHasher, A: Allocator + Copy>(
     members: &mut MemberMap<H, A>,
     rows: &[Row<A>],
 )
-    requires { IsSettled members.old.entries }
+    requires { ScoresAreSettled members.old.entries }
     ensures members { members_by current_score members.new.entries
         ≡ remove_all (members_by current_score members.old.entries) (names_of rows.now) }
-    ensures settled { IsSettled members.new.entries }
+    ensures settled { ScoresAreSettled members.new.entries }
 {
     for row in rows {
         members.swap_remove(row.member());

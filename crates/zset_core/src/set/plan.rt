@@ -5,15 +5,15 @@ ghost use Rattle.resp_wire.specs.Response.{Integer, response_of};
 ghost use Rattle.zset_core.specs.CommandEffectsOnColumn.{MakesReady, MakesRoom, edits_of, increase_edits, names_members};
 ghost use Rattle.zset_core.specs.Semantics.{counted, outcome_of, put_one, put_all, count_all, remove_all, increase, changed_by};
 ghost use Rattle.zset_core.specs.AbstractCommand.{range_of_change};
-ghost use Rattle.zset_core.specs.CommandGrammar.{most_arguments};
+ghost use Rattle.resp_wire.specs.RequestEncoding.{most_arguments};
 ghost use Rattle.zset_core.specs.ParsedArguments.{change_of, given_pairs, IsWholeChange};
 ghost use Rattle.ripple_column.specs.Content.{Holds, SameContent};
 ghost use Rattle.zset_core.specs.RowEdits.{most_edits};
-ghost use Rattle.zset_core.specs.MembersWithStagedScores.{current_score, staged_score, rows_by, members_by, IsSettled, IsBack, IsWaiting, Grows};
+ghost use Rattle.zset_core.specs.MembersWithStagedScores.{current_score, staged_score, rows_by, members_by, ScoresAreSettled, IsBack, IsWaiting, Grows};
 ghost use Rattle.zset_core.specs.SortedSet.{names_of, pairs};
 ghost use Rattle.zset_core.specs.ChangeEffect.{names_of_change};
 ghost use Rattle.zset_core.specs.Plan.{NeedsAtMost, Prepares, Plans, Moves, MovesTo, IsCounted, moved_places, range_of, rows_coming, rows_leaving};
-ghost use Rattle.zset_core.specs.SetViewAndInvariant.{HasRoom, IsReadyForPlan};
+ghost use Rattle.zset_core.specs.SetViewAndInvariant.{HasRoomForPlan, IsReadyForPlan};
 ghost use Rattle.zset_core.specs.Refusal.{IsRefused};
 
 use crate::command::given_pairs::GivenPairs;
@@ -72,7 +72,7 @@ pub fn plan_add<H: BuildHasher, A: Allocator + Copy>(
     changed: bool,
     pairs: &GivenPairs<A>,
 ) -> Result<Plan<A>, AllocError>
-    requires settled { IsSettled members.old.entries }
+    requires settled { ScoresAreSettled members.old.entries }
     requires few { length pairs.now.scores.now ≤ most_edits }
     ensures ok { IfOk result (λ plan. Prepares members.old.entries members.new.entries plan
         (put_all flags (members_by current_score members.old.entries) (given_pairs pairs.now))
@@ -116,7 +116,7 @@ fn plan_score<H: BuildHasher, A: Allocator + Copy>(
     member: &[u8],
     reply: Reply<A>,
 ) -> Result<Plan<A>, AllocError>
-    requires { IsSettled members.old.entries }
+    requires { ScoresAreSettled members.old.entries }
     ensures ok { IfOk result (λ plan. Prepares members.old.entries members.new.entries plan
         (put_one flags (members_by current_score members.old.entries) member.now score)
         (response_of reply)) }
@@ -155,7 +155,7 @@ fn plan_nothing<H: BuildHasher, A: Allocator + Copy>(
     members: &MemberMap<H, A>,
     reply: Reply<A>,
 ) -> Plan<A>
-    requires { IsSettled members.now.entries }
+    requires { ScoresAreSettled members.now.entries }
     ensures plan { Prepares members.now.entries members.now.entries result
         (members_by current_score members.now.entries) (response_of reply) }
     ensures rows { NeedsAtMost 0 result }
@@ -184,7 +184,7 @@ pub fn plan_increase<H: BuildHasher, A: Allocator + Copy>(
     given: i64,
     member: &[u8],
 ) -> Result<Plan<A>, Refusal>
-    requires { IsSettled members.old.entries }
+    requires { ScoresAreSettled members.old.entries }
     ensures ok { IfOk result (λ plan. Plans members.old.entries members.new.entries plan
         (increase flags (members_by current_score members.old.entries) member.now given)) }
     ensures rows { IfOk result
@@ -218,7 +218,7 @@ fn plan_for<H: BuildHasher, A: Allocator + Copy>(
     words: &[Bytes<A>],
     change: &ChangeForm<A>,
 ) -> Result<Plan<A>, Refusal>
-    requires settled { IsSettled members.old.entries }
+    requires settled { ScoresAreSettled members.old.entries }
     requires whole { IsWholeChange words.now change.now }
     requires few { length words.now ≤ most_arguments }
     requires named { IsTrue (names_members (change_of words.now change.now)) }
@@ -270,11 +270,11 @@ fn make_room<H: BuildHasher, A: Allocator + Copy>(
     requires few { NeedsAtMost most_edits plan }
     ensures content { SameContent column.old column.new }
     ensures ok { IfOk result (λ kept. (kept ≡ plan) × (members.new ≡ members.old)) }
-    ensures room { OnOk result (HasRoom column.new plan) }
+    ensures room { OnOk result (HasRoomForPlan column.new plan) }
     ensures column { MakesRoom (max (rows_coming plan) (rows_leaving plan)) column.old column.new }
     ensures current { OnErr result (rows_by current_score members.new.entries
         ≡ take plan.draft.kept (rows_by current_score members.old.entries)) }
-    ensures settled { OnErr result (IsSettled members.new.entries) }
+    ensures settled { OnErr result (ScoresAreSettled members.new.entries) }
 {
     match column.reserve_write(plan.room()) {
         Ok(()) => Ok(plan),
@@ -294,13 +294,13 @@ fn plan_named<H: BuildHasher, A: Allocator + Copy>(
     words: &[Bytes<A>],
     change: &ChangeForm<A>,
 ) -> Result<Plan<A>, Refusal>
-    requires settled { IsSettled members.old.entries }
+    requires settled { ScoresAreSettled members.old.entries }
     requires whole { IsWholeChange words.now change.now }
     requires few { length words.now ≤ most_arguments }
     requires named { IsTrue (names_members (change_of words.now change.now)) }
     ensures ok { IfOk result (λ plan. Plans members.old.entries members.new.entries plan
         (changed_by (members_by current_score members.old.entries) (change_of words.now change.now))) }
-    ensures room { IfOk result (λ plan. HasRoom column.new plan) }
+    ensures room { IfOk result (λ plan. HasRoomForPlan column.new plan) }
     ensures named { IfOk result (λ plan. plan.range ≡ None) }
     ensures moved { IfOk result (λ plan. Moves members.old.entries members.new.entries plan
         (names_of_change (change_of words.now change.now))
@@ -327,7 +327,7 @@ pub fn make_plan<H: BuildHasher, A: Allocator + Copy>(
     words: &[Bytes<A>],
     change: &ChangeForm<A>,
 ) -> Result<Plan<A>, Refusal>
-    requires settled { IsSettled members.old.entries }
+    requires settled { ScoresAreSettled members.old.entries }
     requires whole { IsWholeChange words.now change.now }
     requires few { length words.now ≤ most_arguments }
     requires content { Holds column.old (pairs (members_by current_score members.old.entries)) }

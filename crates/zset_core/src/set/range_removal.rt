@@ -5,10 +5,10 @@ ghost use Rattle.resp_wire.specs.Response.{Integer};
 ghost use Rattle.score_bounds.specs.Bounds.{is_in};
 ghost use Rattle.ripple_column.specs.Content.{Holds, IsUnchanged, SameContent};
 ghost use Rattle.ripple_column.specs.RangeEffects.{Selects, TakesOut};
-ghost use Rattle.zset_core.specs.MembersWithStagedScores.{current_score, members_by, IsSettled};
+ghost use Rattle.zset_core.specs.MembersWithStagedScores.{current_score, members_by, ScoresAreSettled};
 ghost use Rattle.zset_core.specs.Plan.{IsCounted, NeedsAtMost, Prepares, moved_places, range_of};
 ghost use Rattle.zset_core.specs.Semantics.{without_range};
-ghost use Rattle.zset_core.specs.SetViewAndInvariant.{StandsIn};
+ghost use Rattle.zset_core.specs.SetViewAndInvariant.{RangeStandsIn};
 ghost use Rattle.zset_core.specs.SortedSet.{listing, pairs};
 
 use crate::score_and_count_replies::count_reply;
@@ -30,7 +30,7 @@ pub fn plan_range<H: BuildHasher, A: Allocator + Copy>(
     column: &mut Column<A>,
     range: &Range,
 ) -> Result<Plan<A>, AllocError>
-    requires settled { IsSettled members.now.entries }
+    requires settled { ScoresAreSettled members.now.entries }
     requires content { Holds column.old (pairs (members_by current_score members.now.entries)) }
     ensures ok { IfOk result (λ plan. Prepares members.now.entries members.now.entries plan
         (without_range range.now (members_by current_score members.now.entries))
@@ -39,7 +39,7 @@ pub fn plan_range<H: BuildHasher, A: Allocator + Copy>(
     ensures counted { IfOk result (λ plan. IsCounted plan.draft members.now.entries) }
     ensures moved { IfOk result (λ plan. moved_places plan.draft ≡ []) }
     ensures alone { IfOk result (λ plan. NeedsAtMost 0 plan) }
-    ensures answer { IfOk result (λ plan. IfSome plan.range (StandsIn column.new)) }
+    ensures answer { IfOk result (λ plan. IfSome plan.range (RangeStandsIn column.new)) }
     ensures content { SameContent column.old column.new }
     ensures selected { OnOk result (Selects range.now column.old column.new) }
     ensures refused { OnErr result (IsUnchanged column.old column.new) }
@@ -69,12 +69,12 @@ pub fn remove_range<H: BuildHasher, A: Allocator + Copy>(
     column: &mut Column<A>,
     leaving: LeavingRange,
 )
-    requires settled { IsSettled members.old.entries }
+    requires settled { ScoresAreSettled members.old.entries }
     requires content { Holds column.old (pairs (members_by current_score members.old.entries)) }
-    requires stands { StandsIn column.old leaving }
+    requires stands { RangeStandsIn column.old leaving }
     ensures members { members_by current_score members.new.entries
         ≡ without_range leaving.range (members_by current_score members.old.entries) }
-    ensures settled { IsSettled members.new.entries }
+    ensures settled { ScoresAreSettled members.new.entries }
     ensures content { Holds column.new
         (pairs (without_range leaving.range (members_by current_score members.old.entries))) }
     ensures column { TakesOut leaving.range column.old column.new }

@@ -2,7 +2,7 @@ use Rattle.std.proofs.Common.{◌+◌, ◌≡◌, take, drop, get_or, arith, rul
 use Rattle.std.proofs.lemmas.List.Sorted.{IsPermutation-trans}
 use Rattle.std.proofs.lemmas.Grind.{common_steps}
 use Rattle.std.specs.List.{AllWithin}
-use Rattle.crack_kernel.specs.Parts.{IsBelow, IsFrom, Lists}
+use Rattle.crack_kernel.specs.PartedRows.{IsBelow, IsFrom, Lists}
 use Rattle.crack_kernel.proofs.PartMoves.{AllWithin-swapped}
 use Rattle.crack_kernel.proofs.Blocks.{stretched, swapped_before, first_left}
 use Rattle.crack_kernel.proofs.crack.crack_block.Goals as goal

@@ -1,6 +1,6 @@
 use Rattle.std.proofs.Common.{◌≤◌, take, drop, IsPermutation}
 use Rattle.std.specs.List.{AllWithin}
-use Rattle.crack_kernel.specs.Parts.{IsBelow, IsFrom, Lists}
+use Rattle.crack_kernel.specs.PartedRows.{IsBelow, IsFrom, Lists}
 use Rattle.crack_kernel.proofs.crack.crack_block.Given as goal
 
 abbrev pub invariant-loop-i : goal.invariant-loop-i

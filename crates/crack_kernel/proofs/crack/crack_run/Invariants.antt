@@ -1,6 +1,6 @@
 use Rattle.std.proofs.Common.{◌-◌, ◌≤◌, IsPermutation, length}
 use Rattle.std.specs.List.{AllWithin}
-use Rattle.crack_kernel.specs.Parts.{IsBelow, IsFrom}
+use Rattle.crack_kernel.specs.PartedRows.{IsBelow, IsFrom}
 use Rattle.crack_kernel.proofs.crack.crack_run.Given as goal
 
 abbrev pub invariant-loop-from : goal.invariant-loop-from

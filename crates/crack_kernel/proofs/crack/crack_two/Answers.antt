@@ -4,7 +4,7 @@ use Rattle.std.proofs.lemmas.Int.{ints}
 use Rattle.std.proofs.lemmas.List.Sorted.{IsPermutation-put_mid, IsPermutation-trans, length_permutation}
 use Rattle.std.proofs.lemmas.Slice.{between-put_mid, drop-put_mid, take-put_mid_below}
 use borrow.Rule.Slice.PartMut.{put_mid, mid_len}
-use Rattle.crack_kernel.specs.Parts.{ChangesWithin}
+use Rattle.crack_kernel.specs.PartedRows.{ChangesWithin}
 use Rattle.crack_kernel.proofs.PartChanges.{ChangesWithin-front, ChangesWithin-back}
 use Rattle.crack_kernel.proofs.PartMoves.{get_or-put_mid}
 use Rattle.crack_kernel.proofs.crack.crack_two.Goals as goal

@@ -1,7 +1,7 @@
 use Rattle.std.proofs.Common.{arith, take}
 use Rattle.std.proofs.lemmas.Int.{ints}
 use Rattle.std.proofs.lemmas.List.{take_more_set, take-set}
-use Rattle.crack_kernel.specs.Parts.{IsBelow, IsFrom}
+use Rattle.crack_kernel.specs.PartedRows.{IsBelow, IsFrom}
 use Rattle.crack_kernel.proofs.PartMoves.{holds_read}
 use Rattle.crack_kernel.proofs.Blocks.{one_more, one_other}
 use Rattle.crack_kernel.proofs.crack.find_below.Goals as goal

@@ -1,5 +1,5 @@
 use Rattle.std.proofs.Common.{◌≤◌, ◌+◌, take}
-use Rattle.crack_kernel.specs.Parts.{IsBelow, IsFrom, Lists}
+use Rattle.crack_kernel.specs.PartedRows.{IsBelow, IsFrom, Lists}
 use Rattle.crack_kernel.proofs.crack.find_below.Given as goal
 
 abbrev pub invariant-loop-i : goal.invariant-loop-i

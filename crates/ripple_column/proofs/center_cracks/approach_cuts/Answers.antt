@@ -1,5 +1,5 @@
 use Rattle.std.proofs.Common.{◌∙◌}
-use Rattle.ripple_column.specs.InnerCrackEffects.{shown}
+use Rattle.ripple_column.specs.EffectsOnPieces.{shown}
 use Rattle.ripple_column.specs.ShownPivots.{IsAmong}
 use Rattle.ripple_column.proofs.InnerCracks.{AreCracked-more}
 use Rattle.ripple_column.proofs.InnerPivots.{among_found}

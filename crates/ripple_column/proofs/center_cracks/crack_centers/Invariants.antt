@@ -1,7 +1,7 @@
 use Rattle.std.specs.Prelude.{◌≡◌, ℕ, ℤ, List, slice_index_or}
 use Rattle.score_bounds.specs.declared.bounds.Cut.TheVariants.{At}
 use Rattle.ripple_column.specs.CutPivots.{IsUncracked}
-use Rattle.ripple_column.specs.InnerCrackEffects.{AreCracked}
+use Rattle.ripple_column.specs.EffectsOnPieces.{AreCracked}
 use Rattle.ripple_column.proofs.center_cracks.crack_centers.Given as goal
 
 abbrev pub invariant-loop-turn : goal.invariant-loop-turn

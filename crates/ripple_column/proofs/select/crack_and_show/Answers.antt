@@ -1,5 +1,5 @@
 use Rattle.ripple_column.specs.ShownPivots.{IsAmong}
-use Rattle.ripple_column.specs.InnerCrackEffects.{shown}
+use Rattle.ripple_column.specs.EffectsOnPieces.{shown}
 use Rattle.ripple_column.proofs.InnerPivots.{among_found, among_own, found_own}
 use Rattle.ripple_column.proofs.Values.{IsUncracked-kept}
 use Rattle.ripple_column.proofs.select.crack_and_show.Goals as goal

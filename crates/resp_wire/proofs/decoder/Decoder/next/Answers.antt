@@ -1,5 +1,5 @@
 use Rattle.std.proofs.Common.{◌≡◌, ◌+◌, ◌++◌, drop, refl, sym, ap, ◌∙◌, Some}
-use Rattle.resp_wire.specs.declared.steps.End.TheVariants as ends
+use Rattle.resp_wire.specs.declared.decoder_steps.End.TheVariants as ends
 use Rattle.resp_wire.specs.declared.fault.Stop.TheVariants as stops
 use Rattle.resp_wire.specs.DecoderView.{DecoderView, begun}
 use Rattle.resp_wire.proofs.NextLemmas.{stepped, none_is, numbers_after, whole_gave, stopped_text, stopped_item, waits_short, stops_wrong}

@@ -5,7 +5,7 @@ use Rattle.ripple_column.specs.RangeAnswer.{IsAnswer}
 use Rattle.ripple_column.specs.RangeEffects.{Narrows}
 use Rattle.ripple_column.specs.Content.{ColumnState}
 use Rattle.ripple_column.specs.ColumnViewAndInvariant.{state}
-use Rattle.ripple_column.specs.InnerCrackEffects.{shown}
+use Rattle.ripple_column.specs.EffectsOnPieces.{shown}
 use Rattle.ripple_column.proofs.Selection.{CutsPart-any, HoldsRange-answer}
 use Rattle.ripple_column.proofs.Counts.{count_moved}
 use Rattle.ripple_column.proofs.InnerPivots.{IsAnswer-same, among_found}

@@ -1,4 +1,4 @@
-use Rattle.ripple_column.specs.InnerCrackEffects.{shown}
+use Rattle.ripple_column.specs.EffectsOnPieces.{shown}
 use Rattle.ripple_column.proofs.InnerPivots.{among_found}
 use Rattle.ripple_column.proofs.column.Column.piece_list.Goals as goal
 

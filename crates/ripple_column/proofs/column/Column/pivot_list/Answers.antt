@@ -1,4 +1,4 @@
-use Rattle.ripple_column.specs.InnerCrackEffects.{shown}
+use Rattle.ripple_column.specs.EffectsOnPieces.{shown}
 use Rattle.ripple_column.proofs.InnerPivots.{ObeysPivots-among, among_found}
 use Rattle.ripple_column.proofs.column.Column.pivot_list.Goals as goal
 

@@ -2,7 +2,7 @@ use Rattle.std.proofs.Common.{inl, arith}
 use Rattle.ripple_column.specs.Content.{ColumnState}
 use Rattle.ripple_column.specs.ColumnViewAndInvariant.{state}
 use Rattle.ripple_column.proofs.Counts.{length-sub_bag}
-use Rattle.ripple_column.specs.InnerCrackEffects.{shown}
+use Rattle.ripple_column.specs.EffectsOnPieces.{shown}
 use Rattle.ripple_column.proofs.InnerPivots.{among_found}
 use Rattle.ripple_column.proofs.Merged.{IsScored-merged}
 use Rattle.ripple_column.proofs.Selection.{CutsPart, IsSettled-selected, IsAnswer-selected, HoldsRange-selected, AddsCuts-selected, Selects-selected}

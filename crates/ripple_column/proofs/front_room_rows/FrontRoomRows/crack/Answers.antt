@@ -1,6 +1,6 @@
 use Rattle.std.proofs.Common.{IsPermutation, ap, ◌∙◌, drop, arith}
 use Rattle.std.proofs.lemmas.Int.{ints}
-use Rattle.crack_kernel.specs.Parts.{ChangesWithin}
+use Rattle.crack_kernel.specs.PartedRows.{ChangesWithin}
 use Rattle.ripple_column.proofs.FrontRoom.{made_behind, written_behind}
 use Rattle.ripple_column.proofs.front_room_rows.FrontRoomRows.crack.Goals as goal
 

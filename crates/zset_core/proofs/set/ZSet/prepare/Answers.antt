@@ -7,7 +7,7 @@ use Rattle.zset_core.specs.ParsedArguments.{change_of, meaning_of, word_at}
 use Rattle.zset_core.specs.Plan.{Moves}
 use Rattle.zset_core.specs.MembersWithStagedScores.{current_score, members_by}
 use Rattle.zset_core.specs.Semantics.{changed_by}
-use Rattle.zset_core.proofs.Planning.{IsIdle-of, IsPlanned-made, members_idle, outline_left, few_added, column_shown, ready_shown, IsSound-back}
+use Rattle.zset_core.proofs.Planning.{IsIdle-of, IsPlanned-made, members_idle, outline_left, few_added, column_shown, ready_shown, IsSoundSet-back}
 use Rattle.zset_core.proofs.set.ZSet.prepare.Goals as goal
 
 pub invariant_of-self-2 : goal.invariant_of-self-2
@@ -36,7 +36,7 @@ returns-clause-few g c =
 
 pub invariant_of-self : goal.invariant_of-self
 invariant_of-self g c =
-    IsSound-back c.self.inside.members.entries c.make_plan.new.members.entries c.self.inside.column c.make_plan.new.column c.self.inside.prepared c.args.self.now c.self.view_is c.requires.idle c.self.invariant
+    IsSoundSet-back c.self.inside.members.entries c.make_plan.new.members.entries c.self.inside.column c.make_plan.new.column c.self.inside.prepared c.args.self.now c.self.view_is c.requires.idle c.self.invariant
     c.in_err-plan.ensures.err c.in_err-plan.ensures.content
 
 pub returns-in_err-plan-clause-column : goal.returns-in_err-plan-clause-column

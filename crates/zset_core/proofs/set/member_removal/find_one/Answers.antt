@@ -3,7 +3,7 @@ use Rattle.std.specs.Ordering.{nat_cmp}
 use Rattle.std.specs.BTreeSet.{contains}
 use Rattle.zset_core.specs.MembersWithStagedScores.{current_score, members_by, names_at, IsWithin}
 use Rattle.zset_core.proofs.Bridge.{get_members}
-use Rattle.zset_core.proofs.Gathering.{AreFound-after, gone_absent, gone_put, name_here}
+use Rattle.zset_core.proofs.Gathering.{AreFoundPlaces-after, gone_absent, gone_put, name_here}
 use Rattle.zset_core.proofs.Effects.{IsWithin-push, names_at-push}
 use Rattle.zset_core.proofs.Naming.{place_within, seen_more, noted_absent, noted_new, not_true}
 use Rattle.zset_core.proofs.set.member_removal.find_one.Goals as goal
@@ -11,7 +11,7 @@ use Rattle.zset_core.proofs.set.member_removal.find_one.Goals as goal
 pub returns-in_ok-note_found-clause-found : goal.returns-in_ok-note_found-clause-found
 returns-in_ok-note_found-clause-found g c =
     let done = c.in_ok-insert.ensures in
-    AreFound-after c.args.members.now.entries c.args.places.now c.insert.new.self c.in-Some.place c.args.name.now c.in-Some.field-0-1 c.in_ok-insert.field-0
+    AreFoundPlaces-after c.args.members.now.entries c.args.places.now c.insert.new.self c.in-Some.place c.args.name.now c.in-Some.field-0-1 c.in_ok-insert.field-0
     c.in-Some.ensures.unique c.in-Some.ensures.place done.added done.updates.0 done.keys done.unchanged done.len c.requires.found
 
 pub returns-in_ok-note_found-clause-gone : goal.returns-in_ok-note_found-clause-gone

@@ -4,7 +4,7 @@ use Rattle.std.specs.Str.{bytes_eq}
 use Rattle.zset_core.specs.NotedNames.{all_noted}
 use Rattle.zset_core.specs.Semantics.{remove_all}
 use Rattle.zset_core.specs.MembersWithStagedScores.{current_score, members_by, names_at, IsWithin}
-use Rattle.zset_core.specs.FoundPlaces.{AreFound}
+use Rattle.zset_core.specs.FoundPlaces.{AreFoundPlaces}
 use Rattle.zset_core.proofs.set.member_removal.find_places.Given as goal
 
 abbrev pub invariant-loop-name : goal.invariant-loop-name
@@ -13,6 +13,6 @@ invariant-loop-name g l = record {
   order : all_noted (members_by current_score l.members.entries) (names_at l.members.entries l.order.items) (drop l.name-index l.names) ≡ all_noted (members_by current_score l.members.entries) [] l.names;
   seen : (q : List ℕ) → list_any (bytes_eq q) (names_at l.members.entries l.order.items) ≡ list_any (bytes_eq q) (names_at l.members.entries l.places.keys);
   within : IsWithin (length l.members.entries) l.order.items;
-  found : AreFound l.members.entries l.places;
+  found : AreFoundPlaces l.members.entries l.places;
   few : length l.places.keys ≤ l.name-index;
 }

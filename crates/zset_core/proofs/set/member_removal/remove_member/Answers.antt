@@ -4,7 +4,7 @@ use Rattle.ripple_column.specs.Content.{Holds}
 use Rattle.zset_core.specs.MembersWithStagedScores.{current_score, members_by}
 use Rattle.zset_core.specs.SortedSet.{Members, pairs}
 use Rattle.zset_core.proofs.MemberRemoval.{HasRow-of, Holds-without, name_is, name_stays, score_is}
-use Rattle.zset_core.proofs.Staging.{members_gone, IsSettled-gone}
+use Rattle.zset_core.proofs.Staging.{members_gone, ScoresAreSettled-gone}
 use Rattle.zset_core.proofs.set.member_removal.remove_member.Goals as goal
 
 pub delete-requires-clause-there : goal.delete-requires-clause-there
@@ -26,7 +26,7 @@ returns-clause-members g c =
 
 pub returns-clause-settled : goal.returns-clause-settled
 returns-clause-settled g c =
-    IsSettled-gone c.in-Some.name c.args.members.now c.swap_remove_index.new.self c.in-Some.ensures.updates c.swap_remove_index.ensures.unique c.requires.settled
+    ScoresAreSettled-gone c.in-Some.name c.args.members.now c.swap_remove_index.new.self c.in-Some.ensures.updates c.swap_remove_index.ensures.unique c.requires.settled
 
 pub returns-clause-before : goal.returns-clause-before
 returns-clause-before g c p before =

@@ -3,7 +3,7 @@ use Rattle.std.specs.FinMap as map
 use Rattle.zset_core.specs.MembersWithStagedScores.{current_score, members_by}
 use Rattle.zset_core.specs.SortedSet.{Members, names_of}
 use Rattle.zset_core.specs.Semantics.{remove_all}
-use Rattle.zset_core.proofs.Staging.{members_gone, IsSettled-gone}
+use Rattle.zset_core.proofs.Staging.{members_gone, ScoresAreSettled-gone}
 use Rattle.zset_core.proofs.RangeRemoval.{remove_row_step}
 use Rattle.zset_core.proofs.set.members_with_staged_scores.take_out_rows.Goals as goal
 
@@ -18,5 +18,5 @@ loop-row-preserved g c =
           ∙ ap (λ k. remove_all (map.remove old k) rest) c.member.ensures
           ∙ sym (remove_row_step old rs i c.row-item.result c.loop-row-test.true c.row-item.is)
           ∙ c.loop-row.invariant.members;
-      settled = IsSettled-gone c.member.result.now c.loop-row.members c.swap_remove.new.self c.swap_remove.ensures.updates c.swap_remove.ensures.unique c.loop-row.invariant.settled;
+      settled = ScoresAreSettled-gone c.member.result.now c.loop-row.members c.swap_remove.new.self c.swap_remove.ensures.updates c.swap_remove.ensures.unique c.loop-row.invariant.settled;
     }

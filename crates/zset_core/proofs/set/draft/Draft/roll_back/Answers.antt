@@ -1,6 +1,6 @@
 use Rattle.std.proofs.Common.{◌∙◌, sym, ap, subst, take}
-use Rattle.zset_core.specs.MembersWithStagedScores.{current_score, rows_by, IsSettled}
-use Rattle.zset_core.proofs.Staging.{rows_take, IsSettled-take}
+use Rattle.zset_core.specs.MembersWithStagedScores.{current_score, rows_by, ScoresAreSettled}
+use Rattle.zset_core.proofs.Staging.{rows_take, ScoresAreSettled-take}
 use Rattle.zset_core.proofs.set.draft.Draft.roll_back.Goals as goal
 
 pub returns-clause-current : goal.returns-clause-current
@@ -9,4 +9,4 @@ returns-clause-current g c =
 
 pub returns-clause-settled : goal.returns-clause-settled
 returns-clause-settled g c =
-    subst IsSettled (sym c.truncate.ensures.entries) (IsSettled-take c.args.self.now.kept c.discard_staged.new.members.entries c.discard_staged.ensures.settled)
+    subst ScoresAreSettled (sym c.truncate.ensures.entries) (ScoresAreSettled-take c.args.self.now.kept c.discard_staged.new.members.entries c.discard_staged.ensures.settled)

@@ -1,0 +1,30 @@
+use Rattle.std.proofs.Common.{arith, take}
+use Rattle.std.proofs.lemmas.Int.{ints}
+use Rattle.std.proofs.lemmas.List.{take_more_set, take-set}
+use Rattle.crack_kernel.specs.PartedRows.{IsBelow, IsFrom}
+use Rattle.crack_kernel.proofs.PartMoves.{holds_read}
+use Rattle.crack_kernel.proofs.Blocks.{one_more, one_other}
+use Rattle.crack_kernel.proofs.crack_from_both_ends.find_from.Goals as goal
+use Rattle.crack_kernel.proofs.crack_from_both_ends.find_from.Goals.{then-not-below, else-not-below}
+
+pub loop-i-preserved : goal.loop-i-preserved
+loop-i-preserved g c =
+    let v = c.loop-i.invariant in
+    let rows = c.args.rows.now in
+    let found = c.loop-i.found in
+    let count = c.loop-i.count in
+    let i = c.loop-i.i in
+    elim c.if-not-below.branch [
+      | then-not-below w ↦ record {
+        few = omega (arith, v.few, w.count-is);
+        found = rw (w.count-is, take_more_set found count i (omega (arith, v.few, c.requires.room, c.loop-i-test.true)))
+            (one_more (IsFrom _) (IsBelow _) rows (take count found) c.args.from i c.loop-i.auto.i v.found
+            (λ d. holds_read (IsFrom _) rows i c.index-rows-i.result (omega arith) c.index-rows-i.is (let t = w.if-not-below in grind (arith, ints)) d));
+      }
+      | else-not-below w ↦ record {
+        few = omega (arith, v.few, w.count-is);
+        found = rw (w.count-is, take-set found count i)
+            (one_other (IsFrom _) (IsBelow _) rows (take count found) c.args.from i v.found
+            (λ d. holds_read (IsBelow _) rows i c.index-rows-i.result (omega arith) c.index-rows-i.is (let t = w.if-not-below in grind (arith, ints)) d));
+      }
+    ]

@@ -1,9 +1,0 @@
-use Rattle.std.proofs.Common.{◌≤◌, ◌-◌, take}
-use Rattle.crack_kernel.specs.Parts.{IsBelow, IsFrom, ListsDown}
-use Rattle.crack_kernel.proofs.ends.find_below_downwards.Given as goal
-
-abbrev pub invariant-loop-passed : goal.invariant-loop-passed
-invariant-loop-passed g l = record {
-  few : l.count ≤ l.passed;
-  found : ListsDown (IsBelow l.v) (IsFrom l.v) l.rows (take l.count l.found) (l.to - l.passed) l.to;
-}
