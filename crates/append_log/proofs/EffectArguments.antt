@@ -11,7 +11,7 @@ use Rattle.score_bounds.specs.Scores.{IsScore, score_text}
 use Rattle.zset_core.specs.SortedSet.{Members}
 use Rattle.zset_core.specs.AbstractCommand.{Meaning}
 use Rattle.zset_core.specs.AbstractCommand as meanings
-use Rattle.zset_core.specs.ChangeEffect.{differs, once, moved_names}
+use Rattle.zset_core.specs.MovedMembers.{differs, once, moved_names}
 use Rattle.zset_core.specs.CommandGrammar.{command_named, named_conditions, conditions, first_of, meaning, asked}
 use Rattle.zset_core.specs.declared.command.name.CommandName.TheVariants.{Remove}
 use Rattle.zset_core.proofs.CallerLemmas.{asked-ok}

@@ -8,7 +8,7 @@ use Rattle.std.specs.Cmp.Lexicographic.{bytes_decides, nat_list_eq_equiv}
 use Rattle.std.specs.FinMap as fin
 use Rattle.zset_core.specs.SortedSet.{Members, Pair, bytes_cmp, names_of}
 use Rattle.zset_core.specs.Semantics.{outcome_of, writes, put_one, put_all, remove_all}
-use Rattle.zset_core.specs.ChangeEffect.{same_score, differs, moved_names}
+use Rattle.zset_core.specs.MovedMembers.{same_score, differs, moved_names}
 use Rattle.zset_core.specs.declared.command.pair_outcome.Flags.{Flags}
 use Rattle.zset_core.proofs.CallerLemmas.{total, exact, tied}
 use Rattle.zset_core.proofs.Outlines.{has}

@@ -10,7 +10,7 @@ use Rattle.resp_wire.specs.Response.{Response, Integer, NullBulk}
 use Rattle.score_bounds.specs.Scores.{IsScore, IsPlain, score_text, score_value}
 use Rattle.zset_core.specs.SortedSet.{Members, Pair, names_of}
 use Rattle.zset_core.specs.AbstractCommand.{Meaning, Asked, key_of, is_writing, Ping, Asks, Changes, Add, Increase, Remove, RemoveRange}
-use Rattle.zset_core.specs.ChangeEffect.{differs, effect, effect_of_next, moved_names, prepared_effect, same_score}
+use Rattle.zset_core.specs.MovedMembers.{differs, effect, effect_of_next, moved_names, prepared_effect, same_score}
 use Rattle.zset_core.specs.SetAndOwnerViews.{IsPreparedFor, Next, SetView, Shows}
 use Rattle.zset_core.specs.CommandGrammar.{asked}
 use Rattle.zset_core.specs.ExpressibleWorld.{FitsRequest, IsBoundedMeaning}

@@ -2,8 +2,8 @@
 use Rattle.std.specs.Prelude.{◌≡◌, ◌≢◌, ◌<◌, ℕ, List, Result, Ok, Err}
 use Rattle.zset_core.specs.SetsByKey.{World}
 use Rattle.append_log.specs.Reload.{IsLoaded, FaultAt}
-use Rattle.append_log.specs.declared.file.FileFault.{FileFault}
-use Rattle.append_log.specs.declared.file.FileFault.TheVariants.{Open, NotRegular, Locked, Lock, Cut, Sync, Folder}
+use Rattle.append_log.specs.declared.file_sink.FileFault.{FileFault}
+use Rattle.append_log.specs.declared.file_sink.FileFault.TheVariants.{Open, NotRegular, Locked, Lock, Cut, Sync, Folder}
 use Rattle.append_log.specs.declared.loading.Loaded.{Loaded}
 use Rattle.append_log.specs.declared.opening.OpenFault.{OpenFault}
 use Rattle.append_log.specs.declared.opening.OpenFault.TheVariants.{File, Reload, Renew}

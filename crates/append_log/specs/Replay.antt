@@ -5,7 +5,7 @@ use Rattle.zset_core.specs.declared.refusal.Refusal.{Refusal}
 use Rattle.zset_core.specs.AbstractCommand.{Meaning, is_writing}
 use Rattle.zset_core.specs.AbstractCommand.{has_options}
 use Rattle.zset_core.specs.CommandGrammar.{asked}
-use Rattle.zset_core.specs.ParsedArguments.{word_at}
+use Rattle.zset_core.specs.MeaningOfForm.{word_at}
 use Rattle.zset_core.specs.SetsByKey.{World}
 use Rattle.zset_core.specs.Semantics.{act}
 use Rattle.append_log.specs.Records.{Record}

@@ -7,7 +7,7 @@
 //! that was answered.
 #![tactic(auto)]
 
-mod file;
+mod file_sink;
 pub mod laws;
 mod ledger_share;
 mod loading;
@@ -19,10 +19,10 @@ mod record;
 mod record_share;
 mod rewriting;
 mod sink;
-mod syncing;
+mod syncer;
 mod version;
 
-pub use file::{FileFault, FileHandle, FileSink, LockFile};
+pub use file_sink::{FileFault, FileHandle, FileSink, LockFile};
 pub use loading::{Loaded, ReloadFault, reload};
 pub use log::Log;
 pub use logged::LoggedOwner;
@@ -32,5 +32,5 @@ pub use record::Record;
 pub use record_share::RecordShare;
 pub use rewriting::{RewriteFault, rewrite};
 pub use sink::{FuseSink, LogSink, MemorySink, NoSink, SinkFault};
-pub use syncing::{FuseHandle, SyncHandle, Syncer};
+pub use syncer::{FuseHandle, SyncHandle, Syncer};
 pub use version::Version;

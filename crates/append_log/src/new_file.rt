@@ -4,7 +4,7 @@ ghost use Rattle.std.specs.Prelude.{◌≡◌, ◌^◌, ◌-◌, None, length, m
 ghost use Rattle.append_log.specs.Dump.{dump};
 ghost use Rattle.append_log.specs.declared.new_file.NewFileFault.TheVariants as new_file_faults;
 
-use crate::file::{FileFault, FileSink, LockFile, is_named_by};
+use crate::file_sink::{FileFault, FileSink, LockFile, is_named_by};
 use crate::opening::sync_folder;
 use crate::rewriting::{RewriteFault, rewrite};
 use std::alloc::Allocator;

@@ -4,9 +4,9 @@
 ghost use Rattle.std.specs.Prelude.{◌≡◌, ◌<◌, None, IfOk, IfErr};
 ghost use Rattle.append_log.specs.FileOpening.{Restores, OpenFails, LeavesSets, IsUnkept, IsUnready};
 ghost use Rattle.append_log.specs.declared.opening.OpenFault.TheVariants as opens;
-ghost use Rattle.append_log.specs.declared.file.FileFault.TheVariants as files;
+ghost use Rattle.append_log.specs.declared.file_sink.FileFault.TheVariants as files;
 
-use crate::file::{FileFault, FileSink, LockFile, is_named_by, sync_uninterrupted};
+use crate::file_sink::{FileFault, FileSink, LockFile, is_named_by, sync_uninterrupted};
 use crate::loading::{Loaded, ReloadFault, reload};
 use crate::new_file::{NewFileFault, replace_old};
 use crate::sink::LogSink;

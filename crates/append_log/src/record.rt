@@ -5,7 +5,7 @@ ghost use Rattle.std.specs.List.{AllByRecursion, flat_map};
 ghost use Rattle.resp_wire.specs.RequestEncoding.{argument, most_arguments, request};
 ghost use Rattle.score_bounds.specs.Scores.{IsScore};
 ghost use Rattle.zset_core.specs.AbstractCommand.{key_of, is_writing};
-ghost use Rattle.zset_core.specs.ChangeEffect.{prepared_effect};
+ghost use Rattle.zset_core.specs.MovedMembers.{prepared_effect};
 ghost use Rattle.zset_core.specs.SetAndOwnerViews.{IsPreparedFor};
 ghost use Rattle.zset_core.specs.SetsByKey.{World as WorldType, set_at, put_set};
 ghost use Rattle.append_log.specs.EffectRecords.{HasScore, effect_record, effect_words, next_record, words_behind};

@@ -12,11 +12,11 @@
 mod buffers;
 mod held_connection;
 mod many;
-mod queues;
 mod replies;
 mod settle;
 mod slots;
 mod socket_limits;
+mod turn_lists;
 mod visit;
 mod watch;
 

@@ -15,7 +15,7 @@ use Rattle.hand_over.specs.declared.outcome.HandedOver.{HandedOver}
 use Rattle.set_table.specs.WorkerPasses.{TableView, PassView, IsPassOf}
 use Rattle.session_core.specs.WorkerAnswers.{WorkerView}
 use Rattle.program_runs.specs.ServerRun.{IsAttended}
-use Rattle.program_runs.specs.WorkerTurns.{HandlerView, Keeps, Attends, worker_on, new_handler, new_handlers, passes_of, AllKeep}
+use Rattle.program_runs.specs.WorkerRequests.{HandlerView, Keeps, Attends, worker_on, new_handler, new_handlers, passes_of, AllKeep}
 
 times-append : (x : ℕ) (a b : List ℕ) → times x (a ++ b) ≡ times x a + times x b
 times-append x [] b = omega arith

@@ -13,7 +13,7 @@ use Rattle.set_table.specs.declared.open.TableOpenFault.{TableOpenFault}
 use Rattle.set_table.specs.declared.open.TableOpenFault.TheVariants as opens
 use Rattle.set_table.specs.declared.table.close.CloseFault.{CloseFault}
 use Rattle.set_table.specs.declared.table.close.CloseFault.TheVariants.{MissingPass, OutOfStep}
-use Rattle.program_runs.specs.WorkerTurns.{Keeps, worker_on, AllKeep}
+use Rattle.program_runs.specs.WorkerRequests.{Keeps, worker_on, AllKeep}
 use Rattle.program_runs.specs.ServerRun.{IsStartFault, table_open_line, hand_over_line}
 
 pub own_all : (table : TableView) (passes : List PassView) → ((i : ℕ) → i < length passes → IsPassOf table (pass_at passes i)) → All (IsPassOf table) passes

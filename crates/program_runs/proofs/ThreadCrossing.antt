@@ -17,8 +17,8 @@ use Rattle.resp_wire.specs.declared.device.ByteDrain as drain
 use Rattle.append_log.specs.declared.sink.LogSink as sink
 use Rattle.std.specs.contracts.sync.Mutex as Mutex
 use Rattle.std.proofs.sync.Mutex.TheSendSync as mutex
-use Rattle.append_log.specs.contracts.syncing.Syncer as Syncer
-use Rattle.append_log.proofs.syncing.Syncer.TheSendSync as syncer
+use Rattle.append_log.specs.contracts.syncer.Syncer as Syncer
+use Rattle.append_log.proofs.syncer.Syncer.TheSendSync as syncer
 use Rattle.set_table.specs.contracts.test_gate.NoGate as NoGate
 use Rattle.set_table.proofs.ThreadCrossing.{table_shared, pass_sent}
 use Rattle.connections.proofs.many.Connections.TheSendSync as connections

@@ -10,7 +10,7 @@ use Rattle.session_core.specs.WorkerAnswers.{WorkerView, WorkerAnswers}
 use Rattle.connections.specs.HeldConnections.{AllStand, AllGoOn, IsAdded}
 use Rattle.connections.specs.VisitState.{new_state}
 use Rattle.connections.proofs.HeldLemmas.{all_stand_on, added_stands}
-use Rattle.program_runs.specs.WorkerTurns.{HandlerView, Keeps, Attends}
+use Rattle.program_runs.specs.WorkerRequests.{HandlerView, Keeps, Attends}
 use Rattle.program_runs.specs.WorkerTurnLaws.{keeps_itself}
 
 abbrev Stays : WorkerView → WorkerView → Type 0

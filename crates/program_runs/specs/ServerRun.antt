@@ -17,7 +17,7 @@ use Rattle.set_table.specs.declared.table.close.CloseFault.{CloseFault}
 use Rattle.set_table.specs.declared.table.close.CloseFault.TheVariants.{OutOfStep}
 use Rattle.program_runs.specs.DeviceStates.{DrainState}
 use Rattle.program_runs.specs.ExitStatus.{status_of, finish_by, IsPrinted}
-use Rattle.program_runs.specs.WorkerTurns.{AllKeep}
+use Rattle.program_runs.specs.WorkerRequests.{AllKeep}
 use Rattle.program_runs.specs.declared.exit_lines.Line.{Line}
 use Rattle.program_runs.specs.declared.exit_lines.Line.TheVariants as lines
 use Rattle.program_runs.specs.declared.exit_lines.Finish.{Finish}

@@ -3,7 +3,7 @@ use Rattle.std.proofs.Common.{ℕ, List, [], ◌∷◌, ◌++◌, refl, ◌∙�
 use Rattle.resp_wire.specs.Response.{Response}
 use Rattle.session_core.specs.Exchange.{Exchanges}
 use Rattle.session_core.specs.WorkerAnswers.{WorkerView, WorkerAnswers}
-use Rattle.program_runs.specs.WorkerTurns.{HandlerView, Keeps, Attends}
+use Rattle.program_runs.specs.WorkerRequests.{HandlerView, Keeps, Attends}
 
 exchanges_follow : (requests : List (List (List ℕ))) (replies : List Response) (more : List (List (List ℕ))) (further : List Response) (a b c : WorkerView)
     → Exchanges WorkerAnswers a requests replies b → Exchanges WorkerAnswers b more further c → Exchanges WorkerAnswers a (requests ++ more) (replies ++ further) c

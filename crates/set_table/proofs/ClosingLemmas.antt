@@ -6,7 +6,7 @@ use Rattle.std.specs.List.{sum_by}
 use Rattle.std.specs.List.Sorted.{IsPermutation}
 use Rattle.std.proofs.lemmas.List.Sums.{sum_by-cons, sum_by_more}
 use Rattle.std.proofs.lemmas.List.Sorted.{IsPermutation-sym, length_permutation, sum_by-IsPermutation}
-use Rattle.set_table.specs.declared.counts.Tally.{Tally}
+use Rattle.set_table.specs.declared.member_counts.Tally.{Tally}
 use Rattle.set_table.specs.declared.table.close.totals.Totals.{Totals}
 use Rattle.set_table.specs.CellStates.{CellView, InStep}
 use Rattle.set_table.specs.WorkerPasses.{PassView}

@@ -14,10 +14,10 @@ use Rattle.zset_core.specs.declared.refusal.Refusal.TheVariants.{NoMemory, Unkno
 use Rattle.zset_core.proofs.CallerLemmas.{missing_none}
 use Rattle.append_log.specs.Log.{LogView, NotAppended}
 use Rattle.append_log.proofs.CallerLemmas.{unchanged}
-use Rattle.set_table.specs.declared.counts.OwnCounts.{OwnCounts}
+use Rattle.set_table.specs.declared.member_counts.OwnCounts.{OwnCounts}
 use Rattle.set_table.specs.PassTallies.{no_counts}
 use Rattle.set_table.specs.TableAnswers.{IsSetRefusal, is_increase, is_sum}
-use Rattle.set_table.specs.SetSteps.{SetStepped, IsLogged, ChangesSet, IsHindered, IsAppendRefusal}
+use Rattle.set_table.specs.LoggedStep.{SetStepped, IsLogged, ChangesSet, IsHindered, IsAppendRefusal}
 
 -- a reading leaves the set
 pub read_step : (m : Members) (command : Asked) (reply : Response) (own : OwnCounts) → own ≡ no_counts → step m command.meaning ≡ Some (m, reply) → SetStepped m m command reply own

@@ -29,7 +29,7 @@ use Rattle.zset_core.proofs.command.Command.TheSendSync as command
 use Rattle.zset_core.specs.contracts.command.Command as Command
 use Rattle.set_table.specs.contracts.pass.Pass as Pass
 use Rattle.set_table.proofs.pass.Pass.TheSendSync as pass
-use Rattle.set_table.proofs.counts.Tally.TheSendSync as tally
+use Rattle.set_table.proofs.member_counts.Tally.TheSendSync as tally
 use Rattle.set_table.proofs.naming.names.Names.TheSendSync as names
 
 word_send : IsSend u64

@@ -7,11 +7,11 @@ use Rattle.zset_core.specs.RowEdits.{most_edits}
 use Rattle.zset_core.specs.SetAndOwnerViews.{SetView}
 use Rattle.zset_core.specs.declared.refusal.Refusal.{Refusal}
 use Rattle.zset_core.specs.declared.refusal.Refusal.TheVariants.{NoMemory, UnknownCommand, WrongArity, Syntax, NxAndXx, GtLtNx, IncrPair, BadScore, BadBound, BadInteger, TableFull, ScoreOverflow, LogBroken, LogFull, LogRefused, Spent, OutOfStep}
-use Rattle.set_table.specs.declared.counts.Tally.{Tally}
+use Rattle.set_table.specs.declared.member_counts.Tally.{Tally}
 use Rattle.set_table.specs.declared.limits.TheConstants.{MAX_RUNS}
-use Rattle.set_table.specs.declared.counts.Counts.{Counts}
+use Rattle.set_table.specs.declared.member_counts.Counts.{Counts}
 use Rattle.set_table.specs.PassTallies.{ShareView, runs_of, added_of, removed_of, empty_tally, tally_after, share_after_run, no_counts}
-use Rattle.set_table.specs.SetSteps.{AnswerView, SetStepped, IsLawful, IsLogged, IsHindered}
+use Rattle.set_table.specs.LoggedStep.{AnswerView, SetStepped, IsLawful, IsLogged, IsHindered}
 
 -- a cell: its place's number, its set, the members at opening, how many runs it may answer, for each pass what it was
 -- answered here, and how many records were appended for it

@@ -1,5 +1,5 @@
 pub mod PassTallies
-pub mod SetSteps
+pub mod LoggedStep
 pub mod CellStates
 pub mod Naming
 pub mod KeyCache

@@ -9,7 +9,7 @@ use Rattle.zset_core.specs.declared.refusal.Refusal.{Refusal}
 use Rattle.zset_core.specs.declared.refusal.Refusal.TheVariants.{NoMemory, TableFull, ScoreOverflow, LogBroken, LogFull, LogRefused, Spent, OutOfStep}
 use Rattle.set_table.specs.Naming.{IsPlace, IsFull}
 use Rattle.set_table.specs.PassTallies.{ShareView}
-use Rattle.set_table.specs.SetSteps.{AnswerView}
+use Rattle.set_table.specs.LoggedStep.{AnswerView}
 use Rattle.set_table.specs.WorkerPasses.{TableView, PassView, IsPassOf, WasAnswered}
 use Rattle.set_table.specs.declared.table.Answered.{Answered}
 use Rattle.set_table.specs.declared.table.Answered.TheVariants.{Ran, NoPlace}

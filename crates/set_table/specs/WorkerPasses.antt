@@ -4,7 +4,7 @@ use Rattle.std.proofs.Math.ListN.{get_or, set}
 use Rattle.zset_core.specs.AbstractCommand.{Asked, is_writing}
 use Rattle.set_table.specs.Naming.{NotesView, AreNotesOf}
 use Rattle.set_table.specs.PassTallies.{ShareView, share_after_run, empty_tally, no_counts}
-use Rattle.set_table.specs.SetSteps.{AnswerView, IsLawful}
+use Rattle.set_table.specs.LoggedStep.{AnswerView, IsLawful}
 
 -- a table: its places' names (each once cell's own), the members of each place at opening, how many passes it has, how
 -- many runs a place may answer, and how many records its log had at opening

@@ -2,9 +2,9 @@
 
 ghost use Rattle.std.specs.Prelude.{◌≡◌};
 ghost use Rattle.resp_wire.specs.Response.{response_of};
-ghost use Rattle.set_table.specs.SetSteps.{IsLawful};
+ghost use Rattle.set_table.specs.LoggedStep.{IsLawful};
 
-use crate::counts::{Counts, OwnCounts};
+use crate::member_counts::{Counts, OwnCounts};
 use resp_wire::Reply;
 use std::alloc::Allocator;
 use std::marker::Model;
@@ -24,7 +24,7 @@ pub struct Answer<'c, A: Allocator> {
 
 impl<'c, A: Allocator> Model for Answer<'c, A> {
     ghost use Rattle.resp_wire.specs.Response.{response_of};
-    ghost use Rattle.set_table.specs.SetSteps.{AnswerView, IsLawful};
+    ghost use Rattle.set_table.specs.LoggedStep.{AnswerView, IsLawful};
 
     ghost Value = { AnswerView };
 

@@ -14,13 +14,13 @@ ghost use Rattle.set_table.specs.CellStates.{HasNoReading, HasRead, HasRun, InSt
 ghost use Rattle.set_table.specs.TableAnswers.{IsSetRefusal};
 ghost use Rattle.set_table.specs.PassTallies.{TallyHasRoom, runs_of, share_after_run, tally_after};
 
+mod logged_step;
 mod numbers;
-mod step;
 
 use crate::answer::Answer;
-use crate::cell::step::take_step;
-use crate::counts::{Counts, OwnCounts, Tally};
+use crate::cell::logged_step::take_step;
 use crate::limits::MAX_RUNS;
+use crate::member_counts::{Counts, OwnCounts, Tally};
 use crate::shares::Shares;
 use append_log::{Log, LogSink, RecordShare};
 use resp_wire::Reply;

@@ -10,8 +10,8 @@
 
 mod answer;
 mod cell;
-mod counts;
 mod limits;
+mod member_counts;
 mod naming;
 mod open;
 mod pass;
@@ -21,8 +21,8 @@ mod test_gate;
 
 pub use answer::Answer;
 pub use cell::Cell;
-pub use counts::{Counts, OwnCounts};
 pub use limits::{MAX_PASSES, MAX_PLACES, MAX_RUNS};
+pub use member_counts::{Counts, OwnCounts};
 pub use open::TableOpenFault;
 pub use pass::Pass;
 pub use shares::Shares;

@@ -4,13 +4,13 @@ ghost use Rattle.std.specs.Prelude.{◌≡◌, ◌<◌, ◌≤◌, None, IfOk, I
 ghost use Rattle.std.specs.FinMap as map;
 ghost use Rattle.set_table.specs.Opening.{AreNewPasses, IsOpened, IsTableOpenFault};
 
-mod cells;
+mod making_cells;
 mod passes;
 mod placing;
 
 use crate::limits::{MAX_PASSES, MAX_PLACES, MAX_RUNS};
 use crate::naming::names::Names;
-use crate::open::cells::{behind_locks, new_cells};
+use crate::open::making_cells::{behind_locks, new_cells};
 use crate::open::passes::new_passes;
 use crate::open::placing::{cards, empty_sets, place_all};
 use crate::pass::Pass;

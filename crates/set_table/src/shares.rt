@@ -3,7 +3,7 @@
 ghost use Rattle.std.specs.Prelude.{◌≡◌};
 ghost use Rattle.set_table.specs.PassTallies.{empty_tally};
 
-use crate::counts::Tally;
+use crate::member_counts::Tally;
 use std::marker::Model;
 
 /// What a pass was answered at one place, which its cell tells too. A table makes those of its passes

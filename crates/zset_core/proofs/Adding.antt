@@ -6,7 +6,7 @@ use Rattle.std.proofs.lemmas.Bool.{cond-true, cond-false, eqb-true, and_from, an
 use Rattle.std.proofs.lemmas.List.{drop-drop, get_or-drop}
 use Rattle.score_bounds.specs.Scores.{score_value}
 use Rattle.zset_core.specs.AbstractCommand as meanings
-use Rattle.zset_core.specs.ParsedArguments.{word_at, scored}
+use Rattle.zset_core.specs.MeaningOfForm.{word_at, scored}
 use Rattle.zset_core.specs.CommandGrammar.{first_of, has_option, has_two_of_gt_lt_nx, are_pairs, asked_flags, add_meaning, add_options, add_pairs, pairs_value, command_conditions, command_meaning}
 use Rattle.zset_core.specs.ReadingMatchesGrammar.{AreAddParts, AreScores, given_value}
 use Rattle.zset_core.specs.declared.command.name.CommandName.TheVariants as names

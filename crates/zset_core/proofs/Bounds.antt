@@ -17,7 +17,7 @@ use Rattle.zset_core.specs.AbstractCommand as meanings
 use Rattle.zset_core.specs.Semantics.{outcome_of, writes, put_one, put_all, remove_all, sum_of, is_barred, increase_reply, changed_by, step, act_at}
 use Rattle.zset_core.specs.SetsByKey.{World, is_empty, set_at, put_set}
 use Rattle.zset_core.specs.SetAndOwnerViews.{Next, ShowsAt, IsPreparedAt}
-use Rattle.zset_core.specs.ParsedArguments.{word_at}
+use Rattle.zset_core.specs.MeaningOfForm.{word_at}
 use Rattle.zset_core.specs.CommandGrammar.{add_options, add_pairs, has_option, pairs_value, add_meaning, incr_meaning, asked_flags, command_meaning, meaning, command_named, refusal_of, asked, asked_range, asked_options, RangeOption, is_with_scores, last_limit}
 use Rattle.score_bounds.specs.declared.bounds.Range.{Range}
 use Rattle.zset_core.specs.ExpressibleWorld.{IsSpelled, IsBoundedSet, IsBoundedAt, IsBoundedWorld, PutsSpelled, PutsSpelledPairs, IsBoundedMeaning}

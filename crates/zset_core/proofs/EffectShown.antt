@@ -7,7 +7,7 @@ use Rattle.ripple_column.specs.Content.{ColumnState}
 use Rattle.score_bounds.specs.declared.bounds.Range.{Range}
 use Rattle.zset_core.specs.SortedSet.{Members}
 use Rattle.zset_core.specs.AbstractCommand.{Meaning, Ping, Asks, Changes, Change, Add, Increase, Remove, RemoveRange, range_of_change, range_to_remove}
-use Rattle.zset_core.specs.ChangeEffect.{effect, moved_names, names_in, names_of_change, prepared_effect}
+use Rattle.zset_core.specs.MovedMembers.{effect, moved_names, names_in, names_of_change, prepared_effect}
 use Rattle.zset_core.specs.MembersWithStagedScores.{Entry, current_score, rows_by, name_at}
 use Rattle.zset_core.specs.Plan.{edited_by, left_by, moved_places, range_of, without_given}
 use Rattle.zset_core.specs.SetAndOwnerViews.{SetView}

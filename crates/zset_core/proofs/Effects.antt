@@ -12,7 +12,7 @@ use Rattle.std.proofs.lemmas.Option.{slice_get-map}
 use Rattle.std.proofs.lemmas.Map.Entries.{lookup_from_place}
 use Rattle.std.proofs.lemmas.List.{append-nil}
 use Rattle.zset_core.specs.SortedSet.{Members}
-use Rattle.zset_core.specs.ChangeEffect.{same_score, differs, once, moved_names}
+use Rattle.zset_core.specs.MovedMembers.{same_score, differs, once, moved_names}
 use Rattle.zset_core.specs.MembersWithStagedScores.{Entry, current_score, staged_score, name_at, names_at, members_by, slot_at, slots, same_bytes, IsWithin}
 use Rattle.zset_core.specs.declared.set.members_with_staged_scores.ScoreSlot.{ScoreSlot}
 use Rattle.zset_core.proofs.Bridge.{same_equiv, get_members}

@@ -16,7 +16,7 @@ use Rattle.zset_core.specs.SortedSet.{Members, bytes_cmp}
 use Rattle.zset_core.specs.ExpressibleWorld.{IsBoundedWorld, IsBoundedAt, IsBoundedOwner}
 use Rattle.zset_core.specs.AbstractCommand.{Asked}
 use Rattle.zset_core.specs.OwnerViewAndInvariant.{Keyed, world_of, set_in, IsAfter, KeysRise, AllRest, IsOwned, owner_view}
-use Rattle.zset_core.specs.FirstSetTaken.{IsFirst}
+use Rattle.zset_core.specs.FirstKeyTakenOut.{IsFirst}
 use Rattle.zset_core.specs.SetAndOwnerViews.{SetView, OwnerView}
 use Rattle.zset_core.specs.SetsByKey.{World}
 use Rattle.zset_core.proofs.Bridge.{total, exact}

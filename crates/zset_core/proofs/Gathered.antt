@@ -11,7 +11,7 @@ use Rattle.std.specs.Ordering.{is_eq, nat_cmp}
 use Rattle.std.proofs.lemmas.List.Edits.{swapped_from_swap, length-swap, swap_is}
 use Rattle.std.proofs.lemmas.List.Folds.{list_any_at, list_any-append}
 use Rattle.zset_core.specs.SortedSet.{Members}
-use Rattle.zset_core.specs.ChangeEffect.{differs, moved_names}
+use Rattle.zset_core.specs.MovedMembers.{differs, moved_names}
 use Rattle.zset_core.specs.NotedNames.{noted_places, IsLed}
 use Rattle.zset_core.specs.Plan.{moved_places, IsCounted}
 use Rattle.zset_core.specs.declared.set.draft.Draft.{Draft}

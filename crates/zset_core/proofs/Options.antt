@@ -4,7 +4,7 @@ use Rattle.std.specs.Prelude.{codes, option_map, is_none}
 use Rattle.std.specs.List.{list_any}
 use Rattle.std.proofs.lemmas.Bool.{cond-true, cond-false}
 use Rattle.std.proofs.Math.Bool.{or-true, or-false, or_assoc}
-use Rattle.zset_core.specs.ParsedArguments.{word_at}
+use Rattle.zset_core.specs.MeaningOfForm.{word_at}
 use Rattle.zset_core.specs.CommandGrammar.{RangeOption, WithScores, LimitTo, is_named, is_with_scores, is_bad_limit, limit_value, last_limit, range_options}
 use Rattle.zset_core.specs.ReadingMatchesGrammar.{choice_after}
 use Rattle.zset_core.specs.declared.command.limit.Limit.{Limit}

@@ -1,7 +1,7 @@
 -- Walks over the pairs of ZADD.
 use Rattle.std.proofs.Common.{◌≡◌, ℕ, ◌+◌, ◌*◌, ◌<◌, ◌≤◌, ℤ, pos, Bool, true, false, List, [], ◌∷◌, length, drop, get_or, zero, suc, refl, sym, ap, ◌∙◌, arith, add_assoc, add-one, drop-cons}
 use Rattle.std.specs.FinMap as fin
-use Rattle.zset_core.specs.ParsedArguments.{scored}
+use Rattle.zset_core.specs.MeaningOfForm.{scored}
 use Rattle.zset_core.specs.SortedSet.{Members, Pair}
 use Rattle.zset_core.specs.Semantics.{outcome_of, counted, put_one, put_all, count_all}
 use Rattle.zset_core.specs.declared.command.pair_outcome.Flags.{Flags}

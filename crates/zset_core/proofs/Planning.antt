@@ -7,7 +7,7 @@ use Rattle.ripple_column.specs.Content.{ColumnState, Holds, SameContent}
 use Rattle.zset_core.specs.SortedSet.{Members, pairs}
 use Rattle.zset_core.specs.MembersWithStagedScores.{Entry, current_score, staged_score, rows_by, members_by, names_at, IsBack, ScoresAreSettled}
 use Rattle.zset_core.specs.RowEdits.{most_edits}
-use Rattle.zset_core.specs.ChangeEffect.{moved_names, names_in}
+use Rattle.zset_core.specs.MovedMembers.{moved_names, names_in}
 use Rattle.zset_core.specs.Plan.{Moves, MovesTo, NeedsAtMost, Plans, Prepares, edited_by, left_by, range_of, rows_coming, rows_leaving}
 use Rattle.zset_core.specs.ChangeOutline.{IsOutline}
 use Rattle.zset_core.specs.CommandEffectsOnColumn.{MakesReady, MakesRoom, PreparesColumn}

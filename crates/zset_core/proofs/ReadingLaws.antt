@@ -5,7 +5,7 @@ use Rattle.std.specs.List.{list_any}
 use Rattle.std.specs.List.Sorted.{IsStrictlyIncreasing}
 use Rattle.std.proofs.lemmas.Bool.{eqb-true, not-false}
 use Rattle.score_bounds.specs.Scores.{score_value}
-use Rattle.zset_core.specs.ParsedArguments.{word_at}
+use Rattle.zset_core.specs.MeaningOfForm.{word_at}
 use Rattle.zset_core.specs.Refusal.{refusal_number}
 use Rattle.zset_core.specs.CommandGrammar.{first_of, has_option, has_two_of_gt_lt_nx, has_arity, are_pairs, asked_flags, asked_range, asked_options, is_bad_limit, add_meaning, incr_meaning, add_options, add_pairs, pairs_value, command_named, command_conditions, named_conditions, conditions, command_meaning, meaning, refusal_of}
 use Rattle.zset_core.specs.declared.command.name.CommandName.{CommandName}

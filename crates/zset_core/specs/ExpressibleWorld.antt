@@ -7,7 +7,7 @@ use Rattle.resp_wire.specs.RequestEncoding.{IsArgument, most_arguments}
 use Rattle.score_bounds.specs.Scores.{IsScore}
 use Rattle.zset_core.specs.SortedSet.{Members, Pair}
 use Rattle.zset_core.specs.AbstractCommand.{Meaning, Ping, Asks, Changes, Change, Add, Increase, Remove, RemoveRange, key_of}
-use Rattle.zset_core.specs.ChangeEffect.{names_in}
+use Rattle.zset_core.specs.MovedMembers.{names_in}
 use Rattle.zset_core.specs.SetAndOwnerViews.{OwnerView}
 use Rattle.zset_core.specs.SetsByKey.{World, is_empty}
 

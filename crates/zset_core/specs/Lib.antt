@@ -4,7 +4,7 @@ pub mod SetsByKey
 pub mod Semantics
 pub mod SetAndOwnerViews
 pub mod MembersWithStagedScores
-pub mod ParsedArguments
+pub mod MeaningOfForm
 pub mod Plan
 pub mod SetViewAndInvariant
 pub mod FoundPlaces
@@ -15,11 +15,11 @@ pub mod RowEdits
 pub mod AnswerableAsItStands
 pub mod CommandEffectsOnColumn
 pub mod ChangeOutline
-pub mod ChangeEffect
+pub mod MovedMembers
 pub mod NotedNames
 pub mod PlaceMarks
 pub mod CommandGrammar
 pub mod ReadingMatchesGrammar
 pub mod Refusal
 pub mod ExpressibleWorld
-pub mod FirstSetTaken
+pub mod FirstKeyTakenOut

@@ -2,7 +2,7 @@
 use Rattle.std.specs.Prelude.{◌≡◌, ◌≤◌, ◌+◌, ◌++◌, ℕ, List, length, take, Option, None, Some, option_map}
 use Rattle.std.specs.List.{range_with_len}
 use Rattle.resp_wire.specs.Response.{Response, response_of}
-use Rattle.zset_core.specs.ChangeEffect.{moved_names}
+use Rattle.zset_core.specs.MovedMembers.{moved_names}
 use Rattle.zset_core.specs.SortedSet.{Members}
 use Rattle.score_bounds.specs.declared.bounds.Range.{Range}
 use Rattle.zset_core.specs.Semantics.{remove_all, without_range}

@@ -7,7 +7,7 @@ use Rattle.ripple_column.specs.Content.{ColumnState, Holds}
 use Rattle.ripple_column.specs.RangeAnswer.{HoldsRange, IsAnswer}
 use Rattle.zset_core.specs.AbstractCommand.{Meaning, range_to_remove}
 use Rattle.zset_core.specs.RowEdits.{TurnsInto}
-use Rattle.zset_core.specs.ChangeEffect.{moved_names, names_in}
+use Rattle.zset_core.specs.MovedMembers.{moved_names, names_in}
 use Rattle.zset_core.specs.Plan.{IsCounted, NeedsAtMost, left_by, moved_places, range_of, rows_coming, rows_leaving}
 use Rattle.zset_core.specs.SortedSet.{pairs}
 use Rattle.zset_core.specs.declared.set.plan.LeavingRange.{LeavingRange}

@@ -5,7 +5,7 @@ ghost use Rattle.indexmap.specs.IndexMap.{IsUnique};
 ghost use Rattle.zset_core.specs.MembersWithStagedScores.{current_score, slot_at, same_bytes};
 ghost use Rattle.zset_core.specs.SetViewAndInvariant.{kept_of};
 ghost use Rattle.zset_core.specs.AbstractCommand.{is_writing, range_to_remove};
-ghost use Rattle.zset_core.specs.ChangeEffect.{prepared_effect};
+ghost use Rattle.zset_core.specs.MovedMembers.{prepared_effect};
 ghost use Rattle.zset_core.specs.ChangeOutline.{IsOutline};
 ghost use Rattle.zset_core.specs.Refusal.{IsRefused};
 ghost use Rattle.ripple_column.specs.Content.{Holds};
@@ -29,7 +29,7 @@ pub mod range_removal;
 pub mod row_edits;
 
 use crate::command::Command;
-use crate::command::parsed_arguments::Form;
+use crate::command::command_forms::Form;
 use crate::refusal::Refusal;
 use crate::set::change_effect::effect_entry;
 use crate::set::change_outline::Outline;

@@ -5,7 +5,7 @@ ghost use Rattle.command_line.specs.declared.limits.TheConstants.{MAX_CONNECTION
 ghost use Rattle.hand_over.specs.Outcome.{all_of};
 ghost use Rattle.set_table.specs.WorkerPasses.{IsPassOf};
 ghost use Rattle.program_runs.specs.ServerRun.{IsAttended};
-ghost use Rattle.program_runs.specs.WorkerTurns.{new_handlers, passes_of};
+ghost use Rattle.program_runs.specs.WorkerRequests.{new_handlers, passes_of};
 
 use crate::server::connection_handler::ConnectionHandler;
 use append_log::{LogSink, SyncHandle, Syncer};

@@ -2,7 +2,7 @@
 
 ghost use Rattle.std.specs.Prelude.{◌≡◌, ◌+◌, ◌<◌, ◌^◌, [], IfOk};
 ghost use Rattle.set_table.specs.WorkerPasses.{IsPassOf};
-ghost use Rattle.program_runs.specs.WorkerTurns.{Attends};
+ghost use Rattle.program_runs.specs.WorkerRequests.{Attends};
 ghost use Rattle.program_runs.specs.WorkerTurnLaws.{attends_itself, attends_on};
 
 use crate::server::settling::Settling;
@@ -47,7 +47,7 @@ pub struct ConnectionHandler<'t, K: LogSink, L: Ledger, Y, S: PolledSource, D: P
 
 impl<'t, K: LogSink, L: Ledger, Y, S: PolledSource, D: PolledDrain, C> Model
     for ConnectionHandler<'t, K, L, Y, S, D, C> {
-    ghost use Rattle.program_runs.specs.WorkerTurns.{HandlerView};
+    ghost use Rattle.program_runs.specs.WorkerRequests.{HandlerView};
 
     ghost Value = { HandlerView };
 

@@ -6,7 +6,7 @@ ghost use Rattle.set_table.specs.CellStates.{CellIsWhole};
 ghost use Rattle.set_table.specs.PassTallies.{total_of};
 
 use crate::cell::Cell;
-use crate::counts::Tally;
+use crate::member_counts::Tally;
 use std::alloc::Allocator;
 use std::hash::BuildHasher;
 use std::sync::ledger::Ledger;

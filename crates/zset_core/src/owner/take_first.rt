@@ -3,7 +3,7 @@
 ghost use Rattle.std.specs.Prelude.{◌≡◌, ◌∷◌, [], None, IfSome, MatchOption};
 ghost use Rattle.std.specs.FinMap as map;
 ghost use Rattle.zset_core.specs.OwnerViewAndInvariant.{IsAfter, KeysRise};
-ghost use Rattle.zset_core.specs.FirstSetTaken.{IsFirst};
+ghost use Rattle.zset_core.specs.FirstKeyTakenOut.{IsFirst};
 
 use crate::owner::OneOwner;
 use crate::owner::set_tree::SetTree;

@@ -5,13 +5,13 @@ ghost use Rattle.resp_wire.specs.Response.{Array, Integer, response_of};
 ghost use Rattle.ripple_column.specs.Content.{Holds, IsUnchanged, SameContent};
 ghost use Rattle.zset_core.specs.CommandEffectsOnColumn.{Reads};
 ghost use Rattle.zset_core.specs.AnswerableAsItStands.{IsReady, ListsAWindow};
-ghost use Rattle.zset_core.specs.ParsedArguments.{question_of, IsWholeQuestion};
+ghost use Rattle.zset_core.specs.MeaningOfForm.{question_of, IsWholeQuestion};
 ghost use Rattle.zset_core.specs.SortedSet.{Members, listing, pairs};
 ghost use Rattle.zset_core.specs.Semantics.{answer, elements, apply_limit};
 ghost use Rattle.zset_core.specs.MembersWithStagedScores.{current_score, members_by, ScoresAreSettled, same_bytes};
 
+use crate::command::command_forms::QuestionForm;
 use crate::command::limit::Limit;
-use crate::command::parsed_arguments::QuestionForm;
 use crate::query::listing::elements_of;
 use crate::query::window::{
     is_wide, least_rows, piece_end, piece_start, ranks_of, select_listed, window_of,

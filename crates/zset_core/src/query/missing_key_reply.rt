@@ -4,11 +4,11 @@ ghost use Rattle.std.specs.Prelude.{◌≡◌, ℕ, List, false, Some, IfOk};
 ghost use Rattle.std.specs.FinMap as map;
 ghost use Rattle.resp_wire.specs.Response.{response_of};
 ghost use Rattle.zset_core.specs.AbstractCommand.{is_creating, makes_a_set};
-ghost use Rattle.zset_core.specs.ParsedArguments.{question_of, change_of};
+ghost use Rattle.zset_core.specs.MeaningOfForm.{question_of, change_of};
 ghost use Rattle.zset_core.specs.Semantics.{answer, changed_by, step};
 
 use crate::command::Command;
-use crate::command::parsed_arguments::{ChangeForm, Form, QuestionForm};
+use crate::command::command_forms::{ChangeForm, Form, QuestionForm};
 use crate::query::ping::pong;
 use resp_wire::{BytesList, Reply};
 use std::alloc::{AllocError, Allocator};

@@ -3,7 +3,7 @@ ghost use Rattle.std.specs.Prelude.{◌≡◌, ◌<◌, ◌+◌, ◌≤◌, ◌&
 ghost use Rattle.std.specs.FinMap as map;
 ghost use Rattle.std.specs.List.{list_any, range_with_len};
 ghost use Rattle.std.specs.Str.{bytes_eq};
-ghost use Rattle.zset_core.specs.ChangeEffect.{differs, moved_names};
+ghost use Rattle.zset_core.specs.MovedMembers.{differs, moved_names};
 ghost use Rattle.zset_core.specs.MembersWithStagedScores.{current_score, staged_score, members_by, name_at, names_at, IsWaiting, IsWithin};
 ghost use Rattle.zset_core.specs.NotedNames.{IsLed, noted_places};
 ghost use Rattle.zset_core.specs.PlaceMarks.{AreMarked};

@@ -5,7 +5,7 @@ ghost use Rattle.zset_core.specs.NotedNames.{IsLed, mention, mentions, noted_pla
 ghost use Rattle.std.specs.FinMap as map;
 ghost use Rattle.zset_core.specs.declared.set.members_with_staged_scores.ScoreSlot.{ScoreSlot as SlotType};
 ghost use Rattle.zset_core.specs.Semantics.{outcome_of, counted, put_one, put_all, count_all};
-ghost use Rattle.zset_core.specs.ParsedArguments.{given_pairs};
+ghost use Rattle.zset_core.specs.MeaningOfForm.{given_pairs};
 ghost use Rattle.zset_core.specs.RowEdits.{Notes};
 ghost use Rattle.zset_core.specs.MembersWithStagedScores.{Entry, current_score, staged_score, rows_by, members_by, name_at, names_at, slot_at, slots, ScoresAreSettled, IsWaiting, Grows};
 

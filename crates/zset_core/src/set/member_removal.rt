@@ -8,7 +8,7 @@ ghost use Rattle.resp_wire.specs.Response.{Integer};
 ghost use Rattle.ripple_column.specs.Content.{Holds};
 ghost use Rattle.zset_core.specs.Semantics.{remove_all};
 ghost use Rattle.zset_core.specs.MembersWithStagedScores.{current_score, members_by, name_at, names_at, ScoresAreSettled, IsWithin};
-ghost use Rattle.zset_core.specs.ChangeEffect.{moved_names};
+ghost use Rattle.zset_core.specs.MovedMembers.{moved_names};
 ghost use Rattle.zset_core.specs.FoundPlaces.{AreFoundPlaces};
 ghost use Rattle.zset_core.specs.NotedNames.{noted};
 ghost use Rattle.zset_core.specs.Plan.{MovesTo, NeedsAtMost, Prepares};

@@ -6,19 +6,19 @@ ghost use Rattle.zset_core.specs.CommandEffectsOnColumn.{MakesReady, MakesRoom, 
 ghost use Rattle.zset_core.specs.Semantics.{counted, outcome_of, put_one, put_all, count_all, remove_all, increase, changed_by};
 ghost use Rattle.zset_core.specs.AbstractCommand.{range_of_change};
 ghost use Rattle.resp_wire.specs.RequestEncoding.{most_arguments};
-ghost use Rattle.zset_core.specs.ParsedArguments.{change_of, given_pairs, IsWholeChange};
+ghost use Rattle.zset_core.specs.MeaningOfForm.{change_of, given_pairs, IsWholeChange};
 ghost use Rattle.ripple_column.specs.Content.{Holds, SameContent};
 ghost use Rattle.zset_core.specs.RowEdits.{most_edits};
 ghost use Rattle.zset_core.specs.MembersWithStagedScores.{current_score, staged_score, rows_by, members_by, ScoresAreSettled, IsBack, IsWaiting, Grows};
 ghost use Rattle.zset_core.specs.SortedSet.{names_of, pairs};
-ghost use Rattle.zset_core.specs.ChangeEffect.{names_of_change};
+ghost use Rattle.zset_core.specs.MovedMembers.{names_of_change};
 ghost use Rattle.zset_core.specs.Plan.{NeedsAtMost, Prepares, Plans, Moves, MovesTo, IsCounted, moved_places, range_of, rows_coming, rows_leaving};
 ghost use Rattle.zset_core.specs.SetViewAndInvariant.{HasRoomForPlan, IsReadyForPlan};
 ghost use Rattle.zset_core.specs.Refusal.{IsRefused};
 
+use crate::command::command_forms::ChangeForm;
 use crate::command::given_pairs::GivenPairs;
 use crate::command::pair_outcome::{Flags, Outcome, sum};
-use crate::command::parsed_arguments::ChangeForm;
 use crate::refusal::Refusal;
 use crate::score_and_count_replies::increase_reply;
 use crate::set::change_outline::{Outline, outline_staged};

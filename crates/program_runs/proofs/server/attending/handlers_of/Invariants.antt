@@ -1,6 +1,6 @@
 use Rattle.std.proofs.Common.{◌≡◌, ◌≤◌}
 use Rattle.std.specs.Prelude.{All, vec_len, vec_capacity}
-use Rattle.program_runs.specs.WorkerTurns.{new_handlers}
+use Rattle.program_runs.specs.WorkerRequests.{new_handlers}
 use Rattle.program_runs.proofs.server.attending.handlers_of.Given as goal
 
 abbrev pub invariant-loop-pass : goal.invariant-loop-pass

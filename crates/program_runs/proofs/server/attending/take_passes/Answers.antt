@@ -1,7 +1,7 @@
 use Rattle.std.proofs.Common.{subst, ◌∙◌}
 use Rattle.std.proofs.lemmas.List.Elements.{All-push}
 use Rattle.set_table.specs.WorkerPasses.{PassView, IsPassOf}
-use Rattle.program_runs.specs.WorkerTurns.{HandlerView}
+use Rattle.program_runs.specs.WorkerRequests.{HandlerView}
 use Rattle.program_runs.proofs.ServedLemmas.{passes_more}
 use Rattle.program_runs.proofs.server.attending.take_passes.Goals as goal
 

@@ -1,7 +1,7 @@
 use Rattle.std.proofs.Common.{◌≡◌}
 use Rattle.std.specs.Prelude.{All, vec_capacity}
 use Rattle.set_table.specs.WorkerPasses.{IsPassOf}
-use Rattle.program_runs.specs.WorkerTurns.{passes_of}
+use Rattle.program_runs.specs.WorkerRequests.{passes_of}
 use Rattle.program_runs.proofs.server.attending.take_passes.Given as goal
 
 abbrev pub invariant-loop-handler : goal.invariant-loop-handler

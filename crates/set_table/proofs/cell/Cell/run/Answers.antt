@@ -1,6 +1,6 @@
 use Rattle.std.proofs.Common.{◌<◌, ◌∙◌, sym, ap, arith, rules}
 use Rattle.resp_wire.specs.Response.{response_of}
-use Rattle.set_table.specs.declared.counts.Tally.{Tally}
+use Rattle.set_table.specs.declared.member_counts.Tally.{Tally}
 use Rattle.set_table.specs.PassTallies.{runs_of}
 use Rattle.set_table.specs.CellStates.{CellView, counts_of}
 use Rattle.set_table.proofs.TallyLemmas.{lawful, ran_as, ran_by, kept_whole}

@@ -1,7 +1,7 @@
 use Rattle.std.proofs.Common.{ℕ, List, subst, refl, Ok, Err}
 use Rattle.std.proofs.lemmas.Result.{err_from_is_err_and}
 use Rattle.zset_core.specs.CommandGrammar.{conditions, meaning}
-use Rattle.zset_core.specs.ParsedArguments.{meaning_of}
+use Rattle.zset_core.specs.MeaningOfForm.{meaning_of}
 use Rattle.zset_core.specs.ReadingMatchesGrammar.{IsReading}
 use Rattle.zset_core.proofs.Asked.{asked-ok, asked-err}
 use Rattle.zset_core.proofs.command.Command.read.Goals as goal

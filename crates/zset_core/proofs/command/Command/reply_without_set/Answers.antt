@@ -1,6 +1,6 @@
 use Rattle.std.proofs.Common.{◌∙◌, ap}
 use Rattle.resp_wire.specs.Response.{response_of}
-use Rattle.zset_core.specs.ParsedArguments.{meaning_of, question_of, change_of, word_at}
+use Rattle.zset_core.specs.MeaningOfForm.{meaning_of, question_of, change_of, word_at}
 use Rattle.zset_core.proofs.EmptySet.{altered_of, asked_of}
 use Rattle.zset_core.proofs.command.Command.reply_without_set.Goals as goal
 

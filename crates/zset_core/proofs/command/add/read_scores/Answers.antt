@@ -2,7 +2,7 @@ use Rattle.std.proofs.Common.{rules, ◌≡◌, ◌≤◌, ◌+◌, ◌*◌, [],
 use Rattle.std.proofs.lemmas.Int.{to_z-of_z}
 use Rattle.std.proofs.lemmas.Grind.{common_steps}
 use Rattle.score_bounds.specs.Scores.{score_value}
-use Rattle.zset_core.specs.ParsedArguments.{word_at}
+use Rattle.zset_core.specs.MeaningOfForm.{word_at}
 use Rattle.zset_core.proofs.Pairs.{pairs_step, drop_step, no_score, AreScores-end, two_left, length_step}
 use Rattle.zset_core.proofs.command.add.read_scores.Goals as goal
 

@@ -1,7 +1,7 @@
 use Rattle.std.proofs.Common.{◌≡◌, ◌+◌, ◌*◌, ◌++◌, length, drop}
 use Rattle.std.specs.Prelude.{option_map}
 use Rattle.zset_core.specs.CommandGrammar.{pairs_value}
-use Rattle.zset_core.specs.ParsedArguments.{scored}
+use Rattle.zset_core.specs.MeaningOfForm.{scored}
 use Rattle.zset_core.proofs.command.add.read_scores.Given as goal
 
 abbrev pub invariant-loop-rest : goal.invariant-loop-rest

@@ -2,7 +2,7 @@ use Rattle.std.proofs.Common.{◌≡◌, ◌<◌, ◌≤◌, true, false, length
 use Rattle.std.specs.Prelude.{codes}
 use Rattle.std.proofs.lemmas.Grind.{common_steps}
 use Rattle.zset_core.specs.CommandGrammar.{is_named, limit_value, range_options}
-use Rattle.zset_core.specs.ParsedArguments.{word_at}
+use Rattle.zset_core.specs.MeaningOfForm.{word_at}
 use Rattle.zset_core.proofs.Options.{with_scores_step, limit_step, no_options, options_end, range_options-short, range_options-other}
 use Rattle.zset_core.proofs.command.range_commands.read_choice.Goals as goal
 use Rattle.zset_core.proofs.command.range_commands.read_choice.Goals.{else-rest-ge3-via-then-rest-ge3+else-is_named-2, else-rest-ge3-via-else-rest-ge3}

@@ -3,7 +3,7 @@ use Rattle.score_bounds.specs.Bounds.{is_in}
 use Rattle.resp_wire.specs.Response.{response_of}
 use Rattle.ripple_column.specs.Content.{IsUnchanged}
 use Rattle.zset_core.specs.CommandEffectsOnColumn.{Reads}
-use Rattle.zset_core.specs.ParsedArguments.{question_of}
+use Rattle.zset_core.specs.MeaningOfForm.{question_of}
 use Rattle.zset_core.specs.MembersWithStagedScores.{current_score, members_by}
 use Rattle.zset_core.proofs.RangeRows.{Holds-same, IfOk-all, OnErr-any, OnOk-any, Reads-count, Reads-list, SameBag-range, count_reply, list_reply}
 use Rattle.zset_core.proofs.query.answer.answer_from.Goals as goal

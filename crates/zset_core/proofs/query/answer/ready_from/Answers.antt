@@ -1,7 +1,7 @@
 use Rattle.std.proofs.Common.{ap}
 use Rattle.score_bounds.specs.Bounds.{is_in}
 use Rattle.resp_wire.specs.Response.{response_of}
-use Rattle.zset_core.specs.ParsedArguments.{question_of}
+use Rattle.zset_core.specs.MeaningOfForm.{question_of}
 use Rattle.zset_core.specs.MembersWithStagedScores.{current_score, members_by}
 use Rattle.zset_core.proofs.RangeRows.{IfOk-all, SameBag-range, count_reply, list_reply}
 use Rattle.zset_core.proofs.query.answer.ready_from.Goals as goal

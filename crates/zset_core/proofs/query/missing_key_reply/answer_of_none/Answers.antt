@@ -1,6 +1,6 @@
 use Rattle.std.proofs.Common.{◌∙◌, ap, refl}
 use Rattle.resp_wire.specs.Response.{Array}
-use Rattle.zset_core.specs.ParsedArguments.{question_of}
+use Rattle.zset_core.specs.MeaningOfForm.{question_of}
 use Rattle.zset_core.proofs.EmptySet.{answered_of}
 use Rattle.zset_core.proofs.query.missing_key_reply.answer_of_none.Goals as goal
 

@@ -1,5 +1,5 @@
 use Rattle.std.proofs.Common.{ap, refl}
-use Rattle.zset_core.specs.ParsedArguments.{change_of}
+use Rattle.zset_core.specs.MeaningOfForm.{change_of}
 use Rattle.zset_core.proofs.EmptySet.{changed_of}
 use Rattle.zset_core.proofs.query.missing_key_reply.change_of_none.Goals as goal
 

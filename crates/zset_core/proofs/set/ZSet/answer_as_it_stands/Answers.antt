@@ -1,6 +1,6 @@
 use Rattle.std.proofs.Common.{◌∙◌, ap, sym, List, ℕ}
 use Rattle.zset_core.specs.AbstractCommand.{Asks}
-use Rattle.zset_core.specs.ParsedArguments.{meaning_of, question_of, word_at}
+use Rattle.zset_core.specs.MeaningOfForm.{meaning_of, question_of, word_at}
 use Rattle.zset_core.proofs.Planning.{column_shown}
 use Rattle.zset_core.proofs.ReadySets.{ready_shown, unready}
 use Rattle.zset_core.proofs.set.ZSet.answer_as_it_stands.Goals as goal

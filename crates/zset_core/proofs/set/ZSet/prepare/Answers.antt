@@ -2,8 +2,8 @@ use Rattle.std.proofs.Common.{◌∙◌, refl, sym, ap, subst, is_ok, List, ℕ}
 use Rattle.std.proofs.lemmas.Result.{err_from_is_err_and}
 use Rattle.zset_core.specs.CommandEffectsOnColumn.{PreparesColumn}
 use Rattle.zset_core.specs.AbstractCommand.{Asked, Changes, Meaning, range_to_remove}
-use Rattle.zset_core.specs.ChangeEffect.{names_in}
-use Rattle.zset_core.specs.ParsedArguments.{change_of, meaning_of, word_at}
+use Rattle.zset_core.specs.MovedMembers.{names_in}
+use Rattle.zset_core.specs.MeaningOfForm.{change_of, meaning_of, word_at}
 use Rattle.zset_core.specs.Plan.{Moves}
 use Rattle.zset_core.specs.MembersWithStagedScores.{current_score, members_by}
 use Rattle.zset_core.specs.Semantics.{changed_by}

@@ -1,6 +1,6 @@
 use Rattle.std.proofs.Common.{Vec, ◌+◌, ◌&&◌, not, ◌≡◌, ◌<◌, ◌++◌, ◌∷◌, [], ◌∙◌, ℕ, List, Bool, cond, length, take, get_or, refl, sym, ap, subst, arith, append-nil}
 use Rattle.std.specs.List.{range_with_len}
-use Rattle.zset_core.specs.ChangeEffect.{differs, moved_names}
+use Rattle.zset_core.specs.MovedMembers.{differs, moved_names}
 use Rattle.zset_core.specs.MembersWithStagedScores.{staged_score, members_by, name_at, names_at}
 use Rattle.zset_core.proofs.Outlines.{before, has}
 use Rattle.std.proofs.lemmas.Grind.{get_or_default_zero}

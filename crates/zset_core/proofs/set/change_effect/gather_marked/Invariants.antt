@@ -1,6 +1,6 @@
 use Rattle.std.proofs.Common.{◌≡◌, ◌≤◌, ◌++◌, ℕ, length, take, get_or}
 use Rattle.std.specs.List.{range_with_len}
-use Rattle.zset_core.specs.ChangeEffect.{moved_names}
+use Rattle.zset_core.specs.MovedMembers.{moved_names}
 use Rattle.zset_core.specs.PlaceMarks.{AreMarked}
 use Rattle.zset_core.specs.MembersWithStagedScores.{current_score, staged_score, members_by, names_at, IsWaiting}
 use Rattle.zset_core.proofs.set.change_effect.gather_marked.Given as goal

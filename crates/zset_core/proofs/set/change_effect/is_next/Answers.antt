@@ -1,5 +1,5 @@
 use Rattle.std.proofs.Common.{◌≡◌, ◌≤◌, ◌+◌, ◌&&◌, ◌∙◌, not, Bool, true, false, sym, ap, rules, arith}
-use Rattle.zset_core.specs.ChangeEffect.{differs}
+use Rattle.zset_core.specs.MovedMembers.{differs}
 use Rattle.zset_core.specs.MembersWithStagedScores.{staged_score, members_by, name_at}
 use Rattle.zset_core.proofs.Outlines.{before}
 use Rattle.zset_core.proofs.Gathered.{outside_range, there_leading, there_others}

@@ -1,7 +1,7 @@
 use Rattle.std.proofs.Common.{◌++◌, ◌≡◌, ◌∙◌, ◌<◌, ℕ, List, length, refl, sym, subst, ap, rules, pos, w64, true, arith}
 use Rattle.std.proofs.lemmas.Int.{to_z_pos}
 use Rattle.resp_wire.specs.Response.{Integer}
-use Rattle.zset_core.specs.ParsedArguments.{scored}
+use Rattle.zset_core.specs.MeaningOfForm.{scored}
 use Rattle.zset_core.specs.SortedSet.{Members}
 use Rattle.zset_core.specs.Semantics.{put_all, count_all, remove_all}
 use Rattle.zset_core.specs.MembersWithStagedScores.{current_score, staged_score, members_by, names_at, IsWithin}

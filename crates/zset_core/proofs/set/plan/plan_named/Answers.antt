@@ -1,5 +1,5 @@
 use Rattle.zset_core.specs.MembersWithStagedScores.{current_score, members_by}
-use Rattle.zset_core.specs.ParsedArguments.{change_of}
+use Rattle.zset_core.specs.MeaningOfForm.{change_of}
 use Rattle.zset_core.specs.Semantics.{changed_by}
 use Rattle.zset_core.proofs.Planning.{Prepares-some, room_fits, room_left}
 use Rattle.zset_core.proofs.set.plan.plan_named.Goals as goal

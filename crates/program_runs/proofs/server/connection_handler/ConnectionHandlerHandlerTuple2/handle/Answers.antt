@@ -1,5 +1,5 @@
 use Rattle.std.proofs.Common.{◌+◌, refl, subst}
-use Rattle.program_runs.specs.WorkerTurns.{HandlerView, Attends}
+use Rattle.program_runs.specs.WorkerRequests.{HandlerView, Attends}
 use Rattle.program_runs.proofs.WorkerTurnLemmas.{attends_by_added}
 use Rattle.program_runs.proofs.server.connection_handler.ConnectionHandlerHandlerTuple2.handle.Goals as goal
 

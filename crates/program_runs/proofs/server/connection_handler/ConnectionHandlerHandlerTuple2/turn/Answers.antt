@@ -1,5 +1,5 @@
 use Rattle.std.proofs.Common.{subst}
-use Rattle.program_runs.specs.WorkerTurns.{HandlerView, Attends}
+use Rattle.program_runs.specs.WorkerRequests.{HandlerView, Attends}
 use Rattle.program_runs.proofs.WorkerTurnLemmas.{attends_by_turn}
 use Rattle.program_runs.proofs.server.connection_handler.ConnectionHandlerHandlerTuple2.turn.Goals as goal
 

@@ -1,5 +1,5 @@
 use Rattle.std.proofs.Common.{◌≡◌, ◌++◌, ◌+◌, ◌*◌, ◌≤◌, ℕ, true, drop, length}
-use Rattle.zset_core.specs.ParsedArguments.{scored}
+use Rattle.zset_core.specs.MeaningOfForm.{scored}
 use Rattle.zset_core.specs.MembersWithStagedScores.{staged_score, members_by, names_at, IsWaiting, Grows}
 use Rattle.zset_core.specs.Semantics.{put_all, count_all}
 use Rattle.zset_core.specs.RowEdits.{Notes}

@@ -5,7 +5,7 @@ ghost use Rattle.resp_wire.specs.Device.{saturating_succ};
 ghost use Rattle.append_log.specs.FileOpening.{IsOfLock};
 
 use crate::sink::{LogSink, SinkFault};
-use crate::syncing::SyncHandle;
+use crate::syncer::SyncHandle;
 use resp_wire::{ATTEMPTS, is_interrupted, write_uninterrupted};
 use std::fs::{File, Metadata, OpenFile, TryLockError};
 use std::io::{Result as IoResult, Write};

@@ -1,7 +1,7 @@
 use Rattle.std.proofs.Common.{◌≡◌, ◌+◌, drop, length}
 use Rattle.std.specs.Vec.Iter.{into_iter_items, into_iter_len}
 use Rattle.set_table.proofs.OpeningLemmas.{NewSoFar}
-use Rattle.set_table.proofs.open.cells.new_cells.Given as goal
+use Rattle.set_table.proofs.open.making_cells.new_cells.Given as goal
 
 abbrev pub invariant-loop-set : goal.invariant-loop-set
 invariant-loop-set g l = record {

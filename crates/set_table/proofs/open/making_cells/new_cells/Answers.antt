@@ -1,7 +1,7 @@
 use Rattle.std.proofs.Common.{◌≡◌, ◌+◌, ◌∙◌, drop, sym, ap, arith, length}
 use Rattle.std.specs.Vec.Iter.{into_iter_items}
 use Rattle.set_table.proofs.OpeningLemmas.{next_of, idle_at, after_push, one_made, all_made}
-use Rattle.set_table.proofs.open.cells.new_cells.Goals as goal
+use Rattle.set_table.proofs.open.making_cells.new_cells.Goals as goal
 
 pub split-share-requires : goal.split-share-requires
 split-share-requires g c =

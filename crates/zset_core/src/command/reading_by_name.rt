@@ -3,12 +3,12 @@
 ghost use Rattle.std.specs.Prelude.{◌≡◌, ◌<◌, ◌≤◌, true, length, drop};
 ghost use Rattle.resp_wire.specs.RequestEncoding.{most_arguments};
 ghost use Rattle.zset_core.specs.CommandGrammar.{conditions, has_arity, meaning, command_conditions, command_meaning};
-ghost use Rattle.zset_core.specs.ParsedArguments.{word_at};
+ghost use Rattle.zset_core.specs.MeaningOfForm.{word_at};
 ghost use Rattle.zset_core.specs.ReadingMatchesGrammar.{IsReading};
 
 use crate::command::add::read_add;
+use crate::command::command_forms::{ChangeForm, Form, QuestionForm};
 use crate::command::name::CommandName;
-use crate::command::parsed_arguments::{ChangeForm, Form, QuestionForm};
 use crate::command::range_commands::{read_count, read_list_range, read_remove_range};
 use crate::refusal::Refusal;
 use resp_wire::Bytes;

@@ -1,8 +1,8 @@
 use Rattle.std.proofs.Common.{◌≡◌, ◌∙◌, rules}
 use Rattle.resp_wire.specs.Response.{response_of}
 use Rattle.set_table.proofs.StepLemmas.{becomes_other, hinders, moved, stayed}
-use Rattle.set_table.proofs.cell.step.take_step.Goals as goal
-use Rattle.set_table.proofs.cell.step.take_step.Goals.{then-outline+in_default, else-outline}
+use Rattle.set_table.proofs.cell.logged_step.take_step.Goals as goal
+use Rattle.set_table.proofs.cell.logged_step.take_step.Goals.{then-outline+in_default, else-outline}
 
 pub returns-in-Err-clause-cause : goal.returns-in-Err-clause-cause
 returns-in-Err-clause-cause g c =

@@ -9,8 +9,8 @@ use Rattle.zset_core.specs.RowEdits.{most_edits}
 use Rattle.zset_core.specs.Semantics.{step}
 use Rattle.zset_core.specs.declared.refusal.Refusal.{Refusal}
 use Rattle.zset_core.specs.declared.refusal.Refusal.TheVariants.{NoMemory, ScoreOverflow, LogBroken, LogFull, LogRefused}
-use Rattle.set_table.specs.declared.counts.Counts.{Counts}
-use Rattle.set_table.specs.declared.counts.OwnCounts.{OwnCounts}
+use Rattle.set_table.specs.declared.member_counts.Counts.{Counts}
+use Rattle.set_table.specs.declared.member_counts.OwnCounts.{OwnCounts}
 
 -- what a command made of a set, its reply, and how many members came in and left
 pub record SetStepped (old new : Members) (command : Asked) (reply : Response) (own : OwnCounts) : Type 0 where
