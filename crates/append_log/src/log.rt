@@ -183,15 +183,15 @@ impl<S: LogSink, L: Ledger> Log<S, L> {
         self.appended
     }
 
-    /// Writes a record out whole, and syncs it, unless the log is deferred. `share` counts one record more then. It takes no
-    /// memory of its own.
+    /// Writes a record out whole, and syncs it, unless the log is deferred. The log and `share` count one record more
+    /// then. It takes no memory of its own.
     ///
     /// # Errors
     ///
-    /// [`Refusal::LogBroken`] where an earlier append or sync failed, and [`Refusal::LogFull`] where as
-    /// many records were appended as may be: the sink is not touched. [`Refusal::LogRefused`] where
-    /// the sink failed in this call: the record may stand there in part or whole, and the log is
-    /// broken for good.
+    /// Log and `share` count no record more. [`Refusal::LogBroken`] where an earlier append or sync failed, and
+    /// [`Refusal::LogFull`] where as many records were appended as may be: the log stays as it is, and the sink is not
+    /// touched. [`Refusal::LogRefused`] where the sink failed in this call: the record may stand there in part or whole,
+    /// and the log is broken for good.
     pub fn append<A: Allocator>(
         &mut self,
         share: &mut RecordShare<L>,

@@ -94,18 +94,19 @@ fn tell_totals<D: ByteDrain>(
 }
 
 /// Serves connections from the sets of an owner, until as many came as the settings say, the arrivals close, or accepting
-/// fails; those that came then are served to their end. Each worker is a thread that serves many connections.
+/// fails. Each worker is a thread that serves many connections.
 ///
 /// Either it does not begin: nothing is accepted and nothing printed. The status is 3 where there are more keys than
 /// places, 4 where there is no memory or no thread.
 ///
-/// Or one table is opened with the owner's sets. What each worker's pass knows in the end is what some requests made of
-/// it, each answered lawfully. Then the line `connections C sets S members M added A removed R records L` is printed with
-/// the table's totals. The status is 0; 1 where accepting failed, the line could not be printed, or the table's numbers
-/// disagree; 4 where there was no memory for the line.
+/// Or one table is opened, in which each key's place has as many members as the owner's set. What each worker's pass
+/// knows in the end is what some requests made of it, each answered lawfully. Then the line `connections C sets S members
+/// M added A removed R records L` is printed: so many connections came, S, M, A and R are the passes' totals, and of L no
+/// clause speaks. The status is 0; else 4 where there was no memory for the line, and else 1: accepting failed, the line
+/// could not be written, or the table's numbers disagree.
 ///
-/// Where the journal has a handle, the workers settle its records by it, and no reply leaves before what it tells of is
-/// settled: tests show that, no clause.
+/// No clause says that a connection is served to its end, that the requests are the connections' own, or that a reply
+/// waits until what it tells of is settled, as it does where the journal has a handle: tests show these.
 pub fn serve_run<A, S, D, K, L, Y, W, R>(
     rt: &R,
     arrivals: &mut A,

@@ -105,20 +105,19 @@ impl<H: BuildHasher, S: LogSink, L: Ledger, A: Allocator + Copy> Table<H, S, L, 
         }
     }
 
-    /// Runs a command for a worker at its key's place. The worker's pass knows places of keys, and of each a share: the sum
-    /// of what the worker was answered there. A command that creates gives its key a place where it has none. Any other
-    /// gets the reply of an empty set then, and PING its own.
+    /// Answers a command from its key's place, by one step on some set with as many members as the answer's `found` tells,
+    /// at least as many as this pass was told. That it is the key's own set no clause says, since others write the sets
+    /// between two calls: tests show it. A command that creates gives its key a place where it has none. Any other whose
+    /// key's place the pass does not know gets the reply of an empty set, and PING its own.
     ///
-    /// The reply is that of one step of the command on some set with as many members as the answer's `found` tells; `own`
-    /// is what came in and left by that step. `found` is at least what this pass was told. That it is the key's own set,
-    /// and `found` what all passes were told, is shown by tests alone: others write the sets between two calls.
-    ///
-    /// The pass's share of the place counts the run and `own`, or stays where a reading was answered under the shared
-    /// lock. Other shares stay. `rt` waits for locks, and the gate is called inside each.
+    /// The pass's share of that place counts the run and what came in and left by it (`own`), or stays where a question
+    /// was answered under the shared lock. All other shares stay. The names that the pass knows stay, and there may be
+    /// more, where it is refused too. An answered command that creates leaves memory kept back for removals. `rt` waits
+    /// for locks, and the gate is called inside each.
     ///
     /// # Errors
     ///
-    /// The pass's shares stay. Which refusal may come to which command, the clauses say; exactly when it comes is told by
+    /// All of the pass's shares stay. Which refusal may come to which command, the clauses say; exactly when it comes is told by
     /// [`crate::Cell::run`], behind the lock. [`Refusal::TableFull`] where a command that creates finds no place;
     /// [`Refusal::OutOfStep`], which a pass of this table met in no test; [`Refusal::Spent`] where the place has no run
     /// left; [`Refusal::ScoreOverflow`] to ZADD with INCR alone; those of the log to changes; [`Refusal::NoMemory`].
