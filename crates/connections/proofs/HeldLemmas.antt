@@ -10,7 +10,8 @@ use Rattle.connections.specs.declared.visit.Stage.{Stage}
 use Rattle.connections.specs.declared.visit.Stage.TheVariants.{Reads, Runs, Ended}
 use Rattle.connections.specs.Places.{ValueIsAt, MayPut, EachWas}
 use Rattle.connections.specs.VisitState.{VisitState, Stands, GoesOn, HasBegun, visit_state, new_state}
-use Rattle.connections.specs.HeldConnections.{HeldState, AllGoOn, AllStand, IsAdded, HaveLeft, ConnectionWaits, AllWait, AllMayLeave, RisesBy}
+use Rattle.connections.specs.HeldConnections.{HeldState, HeldConnections, AllGoOn, AllStand, IsAdded, HaveLeft, ConnectionWaits, AllWait, AllMayLeave, RisesBy, TurnsAreTaken}
+use Rattle.session_core.proofs.Interleaving.{moves-refl, moves-trans}
 use Rattle.connections.proofs.PlaceLemmas.{at_set, at_grown, was_trans, was_so, each_now, all_shown, exchanged_alike, exchanged_was, emptied_was}
 
 module _ {S : Type 0} (allows : S → Asked → Result Response Refusal → S → Type 0) where
@@ -83,6 +84,27 @@ waits_on fewer more rises a b c first second behind =
 
 pub all_wait_trans : (fewer more : ℕ) → fewer ≤ more → (first second third : List (Option HeldState)) → AllWait fewer first second → AllWait more second third → AllWait more first third
 all_wait_trans fewer more rises first second third one other = was_trans (ConnectionWaits fewer) (ConnectionWaits more) (ConnectionWaits more) (waits_on fewer more rises) first second third one other
+
+module _ {S : Type 0} (allows : S → Asked → Result Response Refusal → S → Type 0) (is_settled : S → Type 0) where
+  -- no turn was taken
+  pub turns_refl : (held : HeldConnections) (here : S) → is_settled here → TurnsAreTaken allows is_settled held here held here
+  turns_refl held here settled = record {
+    settled = settled;
+    moves = moves-refl allows here;
+    goes_on = all_go_on_refl allows held.held here;
+    waits = all_wait_refl held.settled held.held;
+    known = refl;
+  }
+
+  pub turns_trans : (first second third : HeldConnections) (a b c : S) → TurnsAreTaken allows is_settled first a second b → TurnsAreTaken allows is_settled second b third c → TurnsAreTaken allows is_settled first a third c
+  turns_trans first second third a b c one other = record {
+    settled = other.settled;
+    moves = moves-trans allows a b c one.moves other.moves;
+    goes_on = all_go_on_trans allows first.held second.held third.held a b c one.goes_on other.goes_on;
+    waits = all_wait_trans first.settled first.settled (omega arith) first.held second.held third.held one.waits
+    (subst (λ (n : ℕ). AllWait n second.held third.held) one.known other.waits);
+    known = other.known ∙ one.known;
+  }
 
 pub may_leave_refl : (settled : ℕ) (held : List (Option HeldState)) → AllMayLeave settled held held
 may_leave_refl settled held place connection at = (connection, at, (refl, λ behind. refl))

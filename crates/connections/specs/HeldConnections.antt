@@ -3,6 +3,7 @@ use Rattle.std.specs.Prelude.{◌≡◌, ℕ, ◌≤◌, ◌<◌, ◌⊎◌, Lis
 use Rattle.resp_wire.specs.Response.{Response}
 use Rattle.zset_core.specs.AbstractCommand.{Asked}
 use Rattle.zset_core.specs.declared.refusal.Refusal.{Refusal}
+use Rattle.session_core.specs.Interleaved.{StateMoves}
 use Rattle.connections.specs.Places.{IsGrown, MayPut, EachWas, Each}
 use Rattle.connections.specs.VisitState.{VisitState, GoesOn, HasBegun}
 
@@ -52,6 +53,16 @@ ConnectionWaits settled before after = settled < before.awaited → after ≡ be
 
 abbrev pub AllWait : ℕ → List (Option HeldState) → List (Option HeldState) → Type 0
 AllWait settled old new = EachWas (ConnectionWaits settled) old new
+
+module _ {S : Type 0} (allows : S → Asked → Result Response Refusal → S → Type 0) (is_settled : S → Type 0) where
+  -- turns were taken, one behind the other: the executor's state is a settled one, moved by requests alone; each connection goes
+  -- on, and none moves that waits for a record behind those that are known to be settled
+  pub record TurnsAreTaken (old : HeldConnections) (here : S) (new : HeldConnections) (there : S) : Type 0 where
+    pub settled : is_settled there
+    pub moves : StateMoves allows here there
+    pub goes_on : AllGoOn allows old.held here new.held there
+    pub waits : AllWait old.settled old.held new.held
+    pub known : new.settled ≡ old.settled
 
 -- replies may have left: no request was run, no reply was made, and none left that waits for a record behind so many
 abbrev pub MayLeave : ℕ → HeldState → HeldState → Type 0

@@ -3,7 +3,7 @@
 ghost use Rattle.std.specs.Prelude.{◌≡◌, ◌<◌, length, IfOk};
 ghost use Rattle.session_core.specs.Interleaved.{StateMoves};
 ghost use Rattle.connections.specs.Places.{IsGrown};
-ghost use Rattle.connections.specs.HeldConnections.{AllGoOn, AllMayLeave, AllWait, HaveLeft, IsAdded, RisesBy, no_connections};
+ghost use Rattle.connections.specs.HeldConnections.{AllGoOn, AllMayLeave, AllWait, HaveLeft, IsAdded, RisesBy, TurnsAreTaken, no_connections};
 ghost use Rattle.connections.specs.VisitState.{new_state};
 
 mod waiting_reads;
@@ -201,11 +201,7 @@ impl<S: PolledSource + Watched + Drop, D: PolledDrain + Drop, A: Allocator + Cop
         exec: &mut E,
     )
         requires settled { E.settled exec.old }
-        ensures settled { E.settled exec.new }
-        ensures moves { StateMoves E.allows exec.old exec.new }
-        ensures goes_on { AllGoOn E.allows self.old.held exec.old self.new.held exec.new }
-        ensures waits { AllWait self.old.settled self.old.held self.new.held }
-        ensures known { self.new.settled ≡ self.old.settled }
+        ensures { TurnsAreTaken E.allows E.settled self.old exec.old self.new exec.new }
     {
         takes_turns::<R, A, E>();
         if place >= self.slots.len() {
@@ -233,11 +229,7 @@ impl<S: PolledSource + Watched + Drop, D: PolledDrain + Drop, A: Allocator + Cop
         exec: &mut E,
     )
         requires settled { E.settled exec.old }
-        ensures settled { E.settled exec.new }
-        ensures moves { StateMoves E.allows exec.old exec.new }
-        ensures goes_on { AllGoOn E.allows self.old.held exec.old self.new.held exec.new }
-        ensures waits { AllWait self.old.settled self.old.held self.new.held }
-        ensures known { self.new.settled ≡ self.old.settled }
+        ensures { TurnsAreTaken E.allows E.settled self.old exec.old self.new exec.new }
     {
         let mut woken = mem::replace(&mut self.woken, Vec::new(self.alloc));
         for place in woken.iter() {
@@ -256,11 +248,7 @@ impl<S: PolledSource + Watched + Drop, D: PolledDrain + Drop, A: Allocator + Cop
         exec: &mut E,
     )
         requires settled { E.settled exec.old }
-        ensures settled { E.settled exec.new }
-        ensures moves { StateMoves E.allows exec.old exec.new }
-        ensures goes_on { AllGoOn E.allows self.old.held exec.old self.new.held exec.new }
-        ensures waits { AllWait self.old.settled self.old.held self.new.held }
-        ensures known { self.new.settled ≡ self.old.settled }
+        ensures { TurnsAreTaken E.allows E.settled self.old exec.old self.new exec.new }
     {
         let mut round = mem::replace(&mut self.round, Vec::new(self.alloc));
         mem::swap(&mut round, &mut self.ready);

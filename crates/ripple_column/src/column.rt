@@ -165,7 +165,7 @@ impl<A: Allocator + Copy> Column<A> {
             .give_back(self.pieces.cracked.rows.len(), SMALL_ROOM);
     }
 
-    /// Merges all that waits. On Err, the column is unchanged.
+    /// Merges all that waits. On Err, the column is unchanged but for its spare room.
     pub fn merge_all(&mut self) -> Result<(), AllocError>
         ensures content { SameContent self.old self.new }
         ensures values { values self.new.pivots ≡ values self.old.pivots }
@@ -178,9 +178,14 @@ impl<A: Allocator + Copy> Column<A> {
 
     /// Where the rows with scores in the range stand: from the first place on and before the
     /// second. What waits in the range is merged, and the cuts of the range become pivots; where
-    /// there would be more than 4,096 of them, the others are dropped. A range whose first cut is
-    /// not below its second holds no row, and is answered by (0, 0). On Err, the
-    /// column is unchanged.
+    /// there would be more than 4,096 of them, the others are dropped. What waits outside the range
+    /// goes on waiting. A range whose first cut is not below its second holds no row, is answered
+    /// by (0, 0), and changes nothing.
+    ///
+    /// Where nothing waits in the range and no pivot is dropped, rows outside the pieces in which a
+    /// cut falls stand still.
+    ///
+    /// On Err, the column is unchanged but for its spare room.
     pub fn select(&mut self, range: &Range) -> Result<(usize, usize), AllocError>
         ensures content { SameContent self.old self.new }
 
@@ -188,8 +193,7 @@ impl<A: Allocator + Copy> Column<A> {
         ensures answer { IfOk result (λ answer. IsAnswer self.new range.now answer) }
         ensures rows { IfOk result (λ answer. HoldsRange self.new range.now answer) }
 
-        // What waits outside the range goes on waiting, the other pivots stay where there is room for all, and with
-        // nothing to merge rows outside the pieces in which a cut falls stand still.
+        // What becomes of the rest of the column.
         ensures selects { OnOk result (Selects range.now self.old self.new) }
         ensures empty { is_before (low_cut range.now) (high_cut range.now) ≡ false → result ≡ Ok (0, 0) }
         ensures refused { OnErr result (IsUnchanged self.old self.new) }

@@ -1,8 +1,7 @@
 //! A worker that waits in the reads of its only connection.
 
 ghost use Rattle.std.specs.Prelude.{◌≡◌};
-ghost use Rattle.session_core.specs.Interleaved.{StateMoves};
-ghost use Rattle.connections.specs.HeldConnections.{AllGoOn, AllWait};
+ghost use Rattle.connections.specs.HeldConnections.{TurnsAreTaken};
 
 use crate::held_connection::Moment;
 use crate::many::Connections;
@@ -110,11 +109,7 @@ impl<S: PolledSource + Watched + Drop, D: PolledDrain + Drop, A: Allocator + Cop
         exec: &mut E,
     )
         requires settled { E.settled exec.old }
-        ensures settled { E.settled exec.new }
-        ensures moves { StateMoves E.allows exec.old exec.new }
-        ensures goes_on { AllGoOn E.allows self.old.held exec.old self.new.held exec.new }
-        ensures waits { AllWait self.old.settled self.old.held self.new.held }
-        ensures known { self.new.settled ≡ self.old.settled }
+        ensures { TurnsAreTaken E.allows E.settled self.old exec.old self.new exec.new }
     {
         if !self.reads_wait() {
             return;
