@@ -201,8 +201,8 @@ impl<S: LogSink, L: Ledger> Log<S, L> {
         ensures err { IfErr result
             (λ refusal. NotAppended refusal self.old self.new (request entry.now)) }
         ensures share { share.new ≡ share_after share.old result }
-        // Where the sink ends with such records before the call, it ends with them and this one afterwards; on
-        // Err with them and at most a prefix of one more. Of a sink that does not tell its bytes this says nothing.
+        // Whatever records the sink ends with before the call, it ends with them and this one on Ok, and on Err with them
+        // and at most a prefix of one more. Of a sink that does not tell its bytes this says nothing.
         ensures records { (records : _) → HasRecords self.old records
             → HasRecords self.new (records_after records entry.now result) }
     {

@@ -231,14 +231,16 @@ impl<H: BuildHasher + Clone + Drop, S: LogSink, L: Ledger, A: Allocator + Copy> 
             command,
         );
         // A removal that finds no memory lets go what the owner keeps back, and is run again.
-        if matches!(ran, Err(Refusal::NoMemory)) && self.owner.lets_go(command) {
-            return run_writing_once(
-                self.alloc,
-                &mut self.owner,
-                &mut self.log,
-                &mut self.share,
-                command,
-            );
+        if let Err(refusal) = ran {
+            if self.owner.lets_go_for::<()>(command, &Err(refusal)) {
+                return run_writing_once(
+                    self.alloc,
+                    &mut self.owner,
+                    &mut self.log,
+                    &mut self.share,
+                    command,
+                );
+            }
         }
         ran
     }

@@ -115,34 +115,25 @@ pub enum Found<C> {
     Nothing,
 }
 
-/// The next message for a worker, for which it waits.
-pub fn await_message<C: Drop, R: Wait>(
+/// The next message for a worker. One that waits finds some message, unless the channel has failed; another finds nothing
+/// where none is there.
+pub fn take_message<C: Drop, R: Wait>(
     rt: &R,
     receiver: &Receiver<C>,
     pass: &mut ChannelPass<C>,
+    waits: bool,
 ) -> Found<C>
     requires pass { IsSeatAt (receives_on receiver.now) pass.old }
     requires part { 0 < (view pass.old).parts }
     ensures pass { IsSeatAt (receives_on receiver.now) pass.new }
     ensures found { IsFound result (view pass.old) (view pass.new) }
 {
-    match receiver.recv_as::<Takes, R>(rt, pass) {
-        Ok(Message::Connection(number, connection)) => Found::Connection(number, connection),
-        Ok(Message::Stop) | Err(_) => Found::Stop,
+    if waits {
+        return match receiver.recv_as::<Takes, R>(rt, pass) {
+            Ok(Message::Connection(number, connection)) => Found::Connection(number, connection),
+            Ok(Message::Stop) | Err(_) => Found::Stop,
+        };
     }
-}
-
-/// The next message for a worker, if one is there.
-pub fn look_for_message<C: Drop, R: Wait>(
-    rt: &R,
-    receiver: &Receiver<C>,
-    pass: &mut ChannelPass<C>,
-) -> Found<C>
-    requires pass { IsSeatAt (receives_on receiver.now) pass.old }
-    requires part { 0 < (view pass.old).parts }
-    ensures pass { IsSeatAt (receives_on receiver.now) pass.new }
-    ensures found { IsFound result (view pass.old) (view pass.new) }
-{
     match receiver.try_recv_as::<Takes, R>(rt, pass) {
         Ok(Message::Connection(number, connection)) => Found::Connection(number, connection),
         Ok(Message::Stop) | Err(TryRecvError::Disconnected) => Found::Stop,

@@ -2,7 +2,7 @@
 
 ghost use Rattle.std.specs.Prelude.{◌≡◌, true, None};
 ghost use Rattle.resp_wire.specs.Device.{Rose};
-ghost use Rattle.program_runs.specs.DeviceStates.{drain_state, source_state};
+ghost use Rattle.program_runs.specs.DeviceStates.{drain_state, held_state, source_state};
 ghost use Rattle.program_runs.specs.FileExitStatus.{ServesFile, ServesFrom};
 
 use crate::exit_lines::Finish;
@@ -33,16 +33,8 @@ fn serve_shared<L: Ledger, R, K: LogSink + Drop, S: ByteSource, D: ByteDrain>(
     ensures { ServesFrom true opened.owner.world
         (source_state S.told S.calls S.failures source.old)
         (source_state S.told S.calls S.failures source.new)
-        (record {
-          told = ⟦<HeldReplies<D, Global> as ByteDrain>⟧.told replies.old;
-          flushed = D.flushed replies.old.inner;
-          failures = replies.old.failures;
-        })
-        (record {
-          told = ⟦<HeldReplies<D, Global> as ByteDrain>⟧.told replies.new;
-          flushed = D.flushed replies.new.inner;
-          failures = replies.new.failures;
-        })
+        (held_state ⟦<HeldReplies<D, Global> as ByteDrain>⟧.told D.flushed replies.old)
+        (held_state ⟦<HeldReplies<D, Global> as ByteDrain>⟧.told D.flushed replies.new)
         result }
 {
     let Opened { owner, sink } = opened;
@@ -67,16 +59,8 @@ where
     ensures { ServesFile true
         (source_state S.told S.calls S.failures source.old)
         (source_state S.told S.calls S.failures source.new)
-        (record {
-          told = ⟦<HeldReplies<D, Global> as ByteDrain>⟧.told replies.old;
-          flushed = D.flushed replies.old.inner;
-          failures = replies.old.failures;
-        })
-        (record {
-          told = ⟦<HeldReplies<D, Global> as ByteDrain>⟧.told replies.new;
-          flushed = D.flushed replies.new.inner;
-          failures = replies.new.failures;
-        })
+        (held_state ⟦<HeldReplies<D, Global> as ByteDrain>⟧.told D.flushed replies.old)
+        (held_state ⟦<HeldReplies<D, Global> as ByteDrain>⟧.told D.flushed replies.new)
         (drain_state E.told E.flushed E.failures errors.old)
         (drain_state E.told E.flushed E.failures errors.new)
         result }

@@ -1,11 +1,11 @@
 -- What a merge of pending rows keeps of a column.
-use Rattle.std.specs.Prelude.{◌≡◌, ◌≤◌, ℕ, ℤ, true, false, List, length, vec_capacity}
+use Rattle.std.specs.Prelude.{◌≡◌, ◌+◌, ◌≤◌, ℕ, ℤ, true, false, List, [], length, max, min, vec_capacity, vec_len}
 use Rattle.std.specs.List.{AllWithin}
 use Rattle.std.specs.declared.vec.Vec.{Vec}
 use Rattle.crack_kernel.specs.RowBag.{IsSubBag}
 use Rattle.crack_kernel.specs.PivotList.{PivotList}
 use Rattle.score_bounds.specs.declared.bounds.Range.{Range}
-use Rattle.ripple_column.specs.Content.{KeepsContent, has_score_in}
+use Rattle.ripple_column.specs.Content.{KeepsContent, has_score_in, max_pending}
 use Rattle.ripple_column.specs.CutPivots.{values}
 use Rattle.ripple_column.specs.declared.cracked_rows.Cracked.{Cracked}
 use Rattle.ripple_column.specs.declared.pending_lists.Pending.{Pending}
@@ -40,3 +40,16 @@ pub record HasLast (range : Range) (rows : List (ℤ × List ℕ)) (from : ℕ) 
 pub record ArePassed (range : Range) (rows : List (ℤ × List ℕ)) (count : ℕ) : Type 0 where
   pub within : count ≤ length rows
   pub outside : AllWithin (λ r. has_score_in range r ≡ false) rows 0 count
+
+-- how many rows wait in the longer list
+abbrev pub most_waiting : {A : Type 0} → Pending A → ℕ
+most_waiting pending = max (length pending.deletions.items) (length pending.insertions.items)
+
+-- no row waits
+abbrev pub NoneWaits : {A : Type 0} → Pending A → Type 0
+NoneWaits pending = (pending.deletions.items ≡ []) × (pending.insertions.items ≡ [])
+
+-- so many more rows find room in either list, and no list gets too long by them
+abbrev pub HasRoomFor : {A : Type 0} → ℕ → Pending A → Type 0
+HasRoomFor n pending = (vec_len pending.deletions + n ≤ min (vec_capacity pending.deletions) max_pending)
+    × (vec_len pending.insertions + n ≤ min (vec_capacity pending.insertions) max_pending)

@@ -3,12 +3,12 @@
 //!
 //! The order of the rows that go on waiting is left open.
 
-ghost use Rattle.std.specs.Prelude.{◌≡◌, ◌+◌, ◌<◌, ◌≤◌, OnOk, OnErr, [], false, min, max, length, count_by, vec_len, vec_capacity};
+ghost use Rattle.std.specs.Prelude.{◌≡◌, ◌+◌, ◌<◌, ◌≤◌, OnOk, OnErr, [], false, length, count_by, vec_len, vec_capacity};
 ghost use Rattle.std.specs.List.{AllWithin};
 ghost use Rattle.crack_kernel.specs.RowBag.{Test, IsSubBag};
 ghost use Rattle.ripple_column.specs.Content.{has_score_in, NoneIn, SameOutside};
 ghost use Rattle.ripple_column.specs.CutPivots.{values};
-ghost use Rattle.ripple_column.specs.MergeEffects.{HasLast, KeepsFrame, Merges, StaysAsItWas};
+ghost use Rattle.ripple_column.specs.MergeEffects.{HasLast, HasRoomFor, KeepsFrame, Merges, NoneWaits, StaysAsItWas, most_waiting};
 
 use crate::bulk_merge::merge_many;
 use crate::cracked_rows::Cracked;
@@ -165,19 +165,11 @@ pub fn reserve_write<A: Allocator + Copy>(
     requires few_insertions { length pending.old.insertions.items ≤ MAX_PENDING }
     ensures merges { Merges cracked.old cracked.new pending.old pending.new }
     ensures values { values cracked.new.pivots.list ≡ values cracked.old.pivots.list }
-    ensures room_deletions { OnOk result (vec_len pending.new.deletions + n
-        ≤ min (vec_capacity pending.new.deletions) MAX_PENDING) }
-    ensures room_insertions { OnOk result (vec_len pending.new.insertions + n
-        ≤ min (vec_capacity pending.new.insertions) MAX_PENDING) }
+    ensures room { OnOk result (HasRoomFor n pending.new) }
 
     // All is merged exactly where one of the lists would pass its limit.
-    ensures merged_deletions { OnOk result (MAX_PENDING
-        < max (length pending.old.deletions.items) (length pending.old.insertions.items) + n
-        → pending.new.deletions.items ≡ []) }
-    ensures merged_insertions { OnOk result (MAX_PENDING
-        < max (length pending.old.deletions.items) (length pending.old.insertions.items) + n
-        → pending.new.insertions.items ≡ []) }
-    ensures still { max (length pending.old.deletions.items) (length pending.old.insertions.items) + n ≤ MAX_PENDING
+    ensures merged { OnOk result (MAX_PENDING < most_waiting pending.old + n → NoneWaits pending.new) }
+    ensures still { most_waiting pending.old + n ≤ MAX_PENDING
         → StaysAsItWas cracked.old cracked.new pending.old pending.new }
 {
     if pending.deletions.len().max(pending.insertions.len()) + n > MAX_PENDING {

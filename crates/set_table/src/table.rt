@@ -212,8 +212,10 @@ impl<H: BuildHasher, S: LogSink, L: Ledger, A: Allocator + Copy> Table<H, S, L, 
             return self.run_at(pass, at);
         }
         let ran = self.run_at(pass, at);
-        if matches!(ran, Err(Refusal::NoMemory)) && at.command.removes() && pass.spare.let_go() {
-            return self.run_at(pass, at);
+        if let Err(refusal) = ran {
+            if pass.spare.lets_go_for::<()>(at.command, &Err(refusal)) {
+                return self.run_at(pass, at);
+            }
         }
         ran
     }

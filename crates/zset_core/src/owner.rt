@@ -1,11 +1,12 @@
 //! Sets by key.
-ghost use Rattle.std.specs.Prelude.{◌≡◌, None, IfOk, IfErr, IfSome, OnOk, OnErr, IsSome, IsTrue, MatchOption, option_map, slice_get};
+ghost use Rattle.std.specs.Prelude.{◌≡◌, None, Err, IfOk, IfErr, IfSome, OnOk, OnErr, IsSome, IsTrue, MatchOption, option_map, slice_get};
 ghost use Rattle.std.specs.FinMap as map;
 ghost use Rattle.std.specs.Option.{option_copied};
 ghost use Rattle.resp_wire.specs.Response.{response_of};
-ghost use Rattle.zset_core.specs.AbstractCommand.{is_writing, key_of};
+ghost use Rattle.zset_core.specs.AbstractCommand.{is_removing, is_writing, key_of};
 ghost use Rattle.zset_core.specs.ChangeOutline.{IsOutline};
 ghost use Rattle.zset_core.specs.Refusal.{IsRefused};
+ghost use Rattle.zset_core.specs.declared.refusal.Refusal.TheVariants.{NoMemory};
 ghost use Rattle.zset_core.specs.ExpressibleWorld.{IsBoundedWorld};
 ghost use Rattle.zset_core.specs.SortedSet.{whole};
 ghost use Rattle.zset_core.specs.SetAndOwnerViews.{HasNoSet, IsPreparedAt, IsSetAt};
@@ -141,12 +142,13 @@ impl<H: BuildHasher + Clone + Drop, A: Allocator + Copy> OneOwner<H, A> {
         }
     }
 
-    /// Lets go the memory that is kept back for removals, if the command is one, and answers whether there was any.
-    /// Nothing that a contract tells of changes.
-    pub fn lets_go(&mut self, command: &Command<A>) -> bool
-        ensures { self.new ≡ self.old }
+    /// Whether a command is to be run again: a removal that found no memory, while some was kept back for it, which is let
+    /// go then. Nothing that a contract tells of the owner changes.
+    pub fn lets_go_for<T>(&mut self, command: &Command<A>, ran: &Result<T, Refusal>) -> bool
+        ensures same { self.new ≡ self.old }
+        ensures again { IsTrue result → (ran.now ≡ Err NoMemory) × IsTrue (is_removing command.now.meaning) }
     {
-        command.removes() && self.spare.let_go()
+        self.spare.lets_go_for(command, ran)
     }
 
     /// Makes the change that is prepared in the set of the command's key, and gives its reply. It

@@ -130,10 +130,14 @@ impl<H: BuildHasher, A: Allocator + Copy> ZSet<H, A> {
     }
 
     /// Prepares a command that changes sets: takes all the memory that it needs, and leaves the
-    /// members as they are until `commit` or `drop_prepared`. The outline tells how many members it
-    /// will add and take out, and whether it changes the set. ZREMRANGEBYSCORE takes no memory for the
-    /// members that leave. Refused when out of memory, or where a sum of INCR is no score; nothing is
-    /// prepared then.
+    /// members as they are until `commit` or `drop_prepared`. `next` is then what the command's
+    /// definition (`step`) makes of the members, with its reply: this `commit` leaves and gives. The
+    /// outline tells how many members it will add and take out, and whether it changes the set.
+    /// ZREMRANGEBYSCORE takes no memory for the members that leave.
+    ///
+    /// # Errors
+    ///
+    /// Nothing is prepared. [`Refusal::NoMemory`], or [`Refusal::ScoreOverflow`] where a sum of INCR is no score.
     pub fn prepare(&mut self, command: &Command<A>) -> Result<Outline, Refusal>
         requires idle { self.old.next ≡ None }
         requires writing { IsTrue (is_writing command.now.meaning) }

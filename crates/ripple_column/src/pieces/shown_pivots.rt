@@ -1,11 +1,11 @@
 //! The pivots that a column shows: a list of their own beside all pivots, while there are inner ones.
 
-ghost use Rattle.std.specs.Prelude.{◌≡◌, ◌+◌, ◌<◌, ◌≤◌, ◌++◌, ℤ, ℕ, List, [], true, false, length, Contains, IsPermutation, OnOk, OnErr, min, max, vec_len, vec_capacity};
+ghost use Rattle.std.specs.Prelude.{◌≡◌, ◌+◌, ◌<◌, ◌≤◌, ◌++◌, ℤ, ℕ, List, [], true, false, length, Contains, IsPermutation, OnOk, OnErr, vec_len, vec_capacity};
 ghost use Rattle.crack_kernel.specs.RowBag.{IsSubBag};
 ghost use Rattle.crack_kernel.specs.PivotList.{IsRising};
 ghost use Rattle.ripple_column.specs.CutPivots.{is_before, values, count_with_cuts, new_values, values_with_cuts, StandsAt};
 ghost use Rattle.ripple_column.specs.ShownPivots.{HasCut, IsAmong, shown_of};
-ghost use Rattle.ripple_column.specs.MergeEffects.{Merges};
+ghost use Rattle.ripple_column.specs.MergeEffects.{HasRoomFor, Merges, NoneWaits, most_waiting};
 ghost use Rattle.ripple_column.specs.EffectsOnPieces.{HasRoom, StaysAsShown, shown};
 
 use crate::merge::{merge_all, reserve_write};
@@ -39,19 +39,11 @@ impl<A: Allocator + Copy> Pieces<A> {
         requires few_insertions { length pending.old.insertions.items ≤ MAX_PENDING }
         ensures merges { Merges self.old.cracked self.new.cracked pending.old pending.new }
         ensures values { values (shown self.new) ≡ values (shown self.old) }
-        ensures room_deletions { OnOk result (vec_len pending.new.deletions + n
-            ≤ min (vec_capacity pending.new.deletions) MAX_PENDING) }
-        ensures room_insertions { OnOk result (vec_len pending.new.insertions + n
-            ≤ min (vec_capacity pending.new.insertions) MAX_PENDING) }
+        ensures room { OnOk result (HasRoomFor n pending.new) }
 
         // All is merged exactly where one of the lists would pass its limit.
-        ensures merged_deletions { OnOk result (MAX_PENDING
-            < max (length pending.old.deletions.items) (length pending.old.insertions.items) + n
-            → pending.new.deletions.items ≡ []) }
-        ensures merged_insertions { OnOk result (MAX_PENDING
-            < max (length pending.old.deletions.items) (length pending.old.insertions.items) + n
-            → pending.new.insertions.items ≡ []) }
-        ensures still { max (length pending.old.deletions.items) (length pending.old.insertions.items) + n ≤ MAX_PENDING
+        ensures merged { OnOk result (MAX_PENDING < most_waiting pending.old + n → NoneWaits pending.new) }
+        ensures still { most_waiting pending.old + n ≤ MAX_PENDING
             → StaysAsShown self.old self.new pending.old pending.new }
     {
         let merging = pending.deletions.len().max(pending.insertions.len()) + n > MAX_PENDING;

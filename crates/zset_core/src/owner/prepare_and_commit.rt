@@ -70,7 +70,7 @@ pub fn prepare_at<H: BuildHasher + Clone + Drop, A: Allocator + Copy>(
         spare.keep()?;
     }
     let outline = prepare_once_at(alloc, hasher, sets, key, command);
-    if matches!(outline, Err(Refusal::NoMemory)) && command.removes() && spare.let_go() {
+    if spare.lets_go_for(command, &outline) {
         return prepare_once_at(alloc, hasher, sets, key, command);
     }
     outline

@@ -93,7 +93,7 @@ pub fn run_at<H: BuildHasher + Clone + Drop, A: Allocator + Copy>(
         spare.keep()?;
     }
     let ran = run_once_at(alloc, hasher, sets, key, command);
-    if matches!(ran, Err(Refusal::NoMemory)) && command.removes() && spare.let_go() {
+    if spare.lets_go_for(command, &ran) {
         return run_once_at(alloc, hasher, sets, key, command);
     }
     ran
