@@ -1,10 +1,11 @@
 -- What swaps of a slice's elements, and writes into a part of it, do to what holds of its elements.
-use Rattle.std.proofs.Common.{◌≡◌, ◌≢◌, ℕ, ◌<◌, ◌≤◌, List, length, get_or, inl, inr, ◌∙◌, subst, take, ◌++◌, ◌+◌, ◌-◌, arith}
+use Rattle.std.proofs.Common.{◌≡◌, ◌≢◌, ℕ, ◌<◌, ◌≤◌, List, length, get_or, inl, inr, ◌∙◌, subst, ap, take, drop, map, ◌++◌, ◌+◌, ◌-◌, arith, length-append}
 use Rattle.std.proofs.lemmas.Grind.{common_steps}
 use borrow.Rule.Slice.PartMut.{put_mid, post_of}
 use Rattle.std.specs.List.{AllWithin, SwappedAt}
 use Rattle.std.proofs.lemmas.Bool.{cases_eq}
-use Rattle.std.proofs.lemmas.List.{get_or_default, get_or-append_right}
+use Rattle.std.proofs.lemmas.List.{get_or_default, get_or-append_right, length-drop, length-map, length-take-le, take-append-le, take_rest}
+use Rattle.std.proofs.lemmas.Slice.{take-put_mid}
 
 -- P holds of each element of a part after a swap, if it held of those that came to stand there
 pub AllWithin-swapped : {X : Type 0} (P : X → Type 0) (xs ys : List X) (i j low high : ℕ) → SwappedAt xs ys i j
@@ -31,3 +32,16 @@ get_or-put_mid a n xs ys k d fits from to =
     let front : length (take a xs) ≡ a = grind (arith, common_steps) in
     let room : k - a < length ys = omega arith in
     get_or-append_right (take a xs) (ys ++ post_of a n xs) a k d front from ∙ grind (arith, common_steps)
+
+-- what a list is in its buffer, once each element from an index on has been changed there
+pub take-put_map : {X : Type 0} (f : X → X) (a n : ℕ) (xs lent ys buffer : List X) → lent ≡ xs → a ≤ length xs → n ≡ length xs → ys ≡ map f (take (length lent - a) (drop a lent))
+    → take n (put_mid a (length lent - a) lent ys ++ drop (length (put_mid a (length lent - a) lent ys)) buffer) ≡ take a xs ++ map f (drop a xs)
+take-put_map f a n xs lent ys buffer same within all changed =
+    let k = length lent - a in
+    let fits : a ≤ length lent = omega (arith, ap length same) in
+    let is : ys ≡ map f (drop a lent) = changed ∙ ap (map f) (take_rest lent a) in
+    let end : n ≡ a + length ys = omega (arith, ap length same, ap length is, length-map (drop a lent) f, length-drop a lent) in
+    let front : length (take a lent) ≡ a = length-take-le a lent fits in
+    let long : n ≤ length (put_mid a k lent ys) = omega (arith, length-append (take a lent) (ys ++ post_of a k lent), length-append ys (post_of a k lent)) in
+    take-append-le n (put_mid a k lent ys) (drop (length (put_mid a k lent ys)) buffer) long ∙ take-put_mid a k lent ys n end fits
+    ∙ ap (λ qs. take a lent ++ qs) is ∙ ap (λ qs. take a qs ++ map f (drop a qs)) same

@@ -1,7 +1,6 @@
 //! The pivots of a column, by rising value.
 
-ghost use Rattle.std.specs.Prelude.{◌≡◌, ◌+◌, ◌<◌, ◌≤◌, ◌^◌, [], ◌∷◌, ◌++◌, ◌↔◌, true, false, take, drop, map, pos, set, slice_index_or, length, All, Contains, IsPermutation, IsTrue, IsFalse, IsOk, OnOk, MatchOption, vec_len, vec_capacity};
-ghost use Rattle.std.specs.List.{AllWithin};
+ghost use Rattle.std.specs.Prelude.{◌≡◌, ◌+◌, ◌<◌, ◌≤◌, ◌^◌, [], ◌∷◌, ◌↔◌, true, false, drop, map, pos, set, slice_index_or, length, All, Contains, IsPermutation, IsTrue, IsFalse, IsOk, OnOk, MatchOption};
 ghost use Rattle.crack_kernel.specs.PivotList.{ArePlacedInOrder, IsRising, IsNewValue, RisesPast, IsPieceOf, piece_start, piece_end, shifted_pivot, shifted, closed_up};
 
 use crate::pivot_insertion::put_last_at;
@@ -69,7 +68,7 @@ impl<A: Allocator> Pivots<A> {
     pub fn count_upto(&self, v: i64) -> usize
         ensures { RisesPast v self.now.list result }
     {
-        count_upto(&self.list, v)
+        self.list.partition_point(|pivot| pivot.0 <= v)
     }
 
     /// The place of the pivot with the value `v`, if there is one.
@@ -94,7 +93,11 @@ impl<A: Allocator> Pivots<A> {
         ensures { MatchOption result (IsNewValue v self.now.list) (λ place. Contains self.now.list
             (v, place)) }
     {
-        find_at(&self.list, index, v)
+        if index == 0 {
+            return None;
+        }
+        let (value, place) = self.list[index - 1];
+        if value == v { Some(place) } else { None }
     }
 
     /// The piece below the pivot of the index `index`, or behind the last pivot, among `rows_len` rows: where
@@ -136,8 +139,8 @@ impl<A: Allocator> Pivots<A> {
         ensures rising { IsRising self.new.list }
         ensures spare { self.new.spare + 1 ≡ self.old.spare }
     {
-        let index = count_upto(&self.list, v);
-        add_at(&mut self.list, index, v, place);
+        let index = self.count_upto(v);
+        self.add_at(index, v, place);
     }
 
     /// The same where `index` pivots have a value up to `v`: nothing is searched for.
@@ -150,7 +153,8 @@ impl<A: Allocator> Pivots<A> {
         ensures rising { IsRising self.new.list }
         ensures spare { self.new.spare + 1 ≡ self.old.spare }
     {
-        add_at(&mut self.list, index, v, place);
+        self.list.push_reserved((v, place));
+        put_last_at(&mut self.list[..], index);
     }
 
     /// Moves the places of the pivots from the index `from_index` on one up or one down.
@@ -161,7 +165,12 @@ impl<A: Allocator> Pivots<A> {
         ensures list { self.new.list ≡ shifted from_index up self.old.list }
         ensures spare { self.new.spare ≡ self.old.spare }
     {
-        shift(&mut self.list, from_index, up);
+        let moving = &mut self.list[from_index..];
+        if up {
+            raise(moving);
+        } else {
+            lower(moving);
+        }
     }
 
     /// Puts the places where they belong once the rows from the place `from` on and before the
@@ -171,7 +180,7 @@ impl<A: Allocator> Pivots<A> {
         ensures list { self.new.list ≡ map (λ p. (p.0, closed_up from to p.1)) self.old.list }
         ensures spare { self.new.spare ≡ self.old.spare }
     {
-        close_up(&mut self.list, from, to);
+        close_places(&mut self.list[..], from, to);
     }
 
     /// The same where places rise with values or stay: the pivots with places up to `from`, which stay, are not
@@ -182,8 +191,8 @@ impl<A: Allocator> Pivots<A> {
         ensures list { self.new.list ≡ map (λ p. (p.0, closed_up from to p.1)) self.old.list }
         ensures spare { self.new.spare ≡ self.old.spare }
     {
-        let first = count_placed_upto(&self.list, from);
-        close_up_behind(&mut self.list, first, from, to);
+        let first = self.list.partition_point(|pivot| pivot.1 <= from);
+        close_places(&mut self.list[first..], from, to);
     }
 
     /// Gives the pivot of the index `i` another place.
@@ -192,7 +201,7 @@ impl<A: Allocator> Pivots<A> {
         ensures list { self.new.list ≡ set self.old.list i ((slice_index_or self.old.list i (pos 0, 0)).0, place) }
         ensures spare { self.new.spare ≡ self.old.spare }
     {
-        set_place(&mut self.list, i, place);
+        self.list[i].1 = place;
     }
 
     /// Takes the pivots of another list in the place of its own. It takes no memory.
@@ -203,7 +212,10 @@ impl<A: Allocator> Pivots<A> {
         ensures few { length self.new.list ≤ MAX_PIVOTS }
         ensures spare { self.new.spare + length other.now.list ≡ self.old.spare + length self.old.list }
     {
-        copy_from(&mut self.list, &other.list);
+        self.list.clear();
+        for pivot in &other.list {
+            self.list.push_reserved(*pivot);
+        }
     }
 
     /// Drops all pivots. The room stays.
@@ -212,82 +224,6 @@ impl<A: Allocator> Pivots<A> {
         ensures spare { self.new.spare ≡ self.old.spare + length self.old.list }
     {
         self.list.clear();
-    }
-}
-
-/// How many pivots have a value up to `v`.
-fn count_upto(list: &[(i64, usize)], v: i64) -> usize
-    requires { IsRising list.now }
-    ensures { RisesPast v list.now result }
-{
-    list.partition_point(|pivot| pivot.0 <= v)
-}
-
-/// The place of the pivot with the value `v`, if there is one, where the first `index` pivots have a value up to `v`, and
-/// the others have not.
-fn find_at(list: &[(i64, usize)], index: usize, v: i64) -> Option<usize>
-    requires rising { IsRising list.now }
-    requires past { RisesPast v list.now index }
-    ensures { MatchOption result (IsNewValue v list.now) (λ place. Contains list.now (v, place)) }
-{
-    if index == 0 {
-        return None;
-    }
-    let (value, place) = list[index - 1];
-    if value == v { Some(place) } else { None }
-}
-
-/// Adds a pivot behind the first `index` ones, which have values up to its own.
-fn add_at<A: Allocator>(list: &mut Vec<(i64, usize), A>, index: usize, v: i64, place: usize)
-    requires rising { IsRising list.old.items }
-    requires room { vec_len list.old < vec_capacity list.old }
-    requires new { IsNewValue v list.old.items }
-    requires past { RisesPast v list.old.items index }
-    ensures list { IsPermutation ((v, place) ∷ list.old.items) list.new.items }
-    ensures rising { IsRising list.new.items }
-    ensures len { vec_len list.new ≡ vec_len list.old + 1 }
-    ensures capacity { vec_capacity list.new ≡ vec_capacity list.old }
-{
-    list.push_reserved((v, place));
-    put_last_at(&mut list[..], index);
-}
-
-/// Takes other pivots in the place of those in the list.
-fn copy_from<A: Allocator>(list: &mut Vec<(i64, usize), A>, other: &[(i64, usize)])
-    requires { length other.now ≤ vec_capacity list.old }
-    ensures list { list.new.items ≡ other.now }
-    ensures capacity { vec_capacity list.new ≡ vec_capacity list.old }
-{
-    list.clear();
-    for pivot in other {
-        list.push_reserved(*pivot);
-    }
-}
-
-/// Gives the pivot of the index `i` another place.
-fn set_place<A: Allocator>(list: &mut Vec<(i64, usize), A>, i: usize, place: usize)
-    requires { i < length list.old.items }
-    ensures list { list.new.items ≡ set list.old.items i ((slice_index_or list.old.items i (pos 0, 0)).0, place) }
-    ensures len { vec_len list.new ≡ vec_len list.old }
-    ensures capacity { vec_capacity list.new ≡ vec_capacity list.old }
-{
-    list[i].1 = place;
-}
-
-/// Moves the places from the index `from_index` on.
-fn shift<A: Allocator>(list: &mut Vec<(i64, usize), A>, from_index: usize, up: bool)
-    requires from { from_index ≤ length list.old.items }
-    requires low { IsFalse up → All (λ p. 0 < p.1) (drop from_index list.old.items) }
-    requires high { IsTrue up → All (λ p. p.1 + 1 < 2 ^ 64) (drop from_index list.old.items) }
-    ensures list { list.new.items ≡ shifted from_index up list.old.items }
-    ensures len { vec_len list.new ≡ vec_len list.old }
-    ensures capacity { vec_capacity list.new ≡ vec_capacity list.old }
-{
-    let moving = &mut list[from_index..];
-    if up {
-        raise(moving);
-    } else {
-        lower(moving);
     }
 }
 
@@ -309,43 +245,6 @@ fn lower(pivots: &mut [(i64, usize)])
     for pivot in pivots.iter_mut() {
         pivot.1 -= 1;
     }
-}
-
-/// Moves each place by the rows that are gone below it.
-fn close_up<A: Allocator>(list: &mut Vec<(i64, usize), A>, from: usize, to: usize)
-    requires { from ≤ to }
-    ensures list { list.new.items ≡ map (λ p. (p.0, closed_up from to p.1)) list.old.items }
-    ensures len { vec_len list.new ≡ vec_len list.old }
-    ensures capacity { vec_capacity list.new ≡ vec_capacity list.old }
-{
-    close_places(&mut list[..], from, to);
-}
-
-/// How many pivots have places up to `place`.
-fn count_placed_upto(list: &[(i64, usize)], place: usize) -> usize
-    requires rising { IsRising list.now }
-    requires places { ArePlacedInOrder list.now }
-    ensures within { result ≤ length list.now }
-    ensures upto { AllWithin (λ p. p.1 ≤ place) list.now 0 result }
-{
-    list.partition_point(|pivot| pivot.1 <= place)
-}
-
-/// Moves each place from the index `first` on by the rows that are gone below it.
-fn close_up_behind<A: Allocator>(
-    list: &mut Vec<(i64, usize), A>,
-    first: usize,
-    from: usize,
-    to: usize,
-)
-    requires first { first ≤ length list.old.items }
-    requires order { from ≤ to }
-    ensures list { list.new.items ≡ take first list.old.items
-        ++ map (λ p. (p.0, closed_up from to p.1)) (drop first list.old.items) }
-    ensures len { vec_len list.new ≡ vec_len list.old }
-    ensures capacity { vec_capacity list.new ≡ vec_capacity list.old }
-{
-    close_places(&mut list[first..], from, to);
 }
 
 /// Moves each place by the rows that are gone below it.

@@ -34,9 +34,6 @@ const LOOKED_AT: usize = 8;
 fn piece_len<A: Allocator>(pivots: &Pivots<A>, place: usize, rows_len: usize) -> usize {
     let list = pivots.list();
     let i = list.partition_point(|pivot| pivot.1 <= place);
-    if i > list.len() {
-        return rows_len;
-    }
     let (from, to) = pivots.piece_at(i, rows_len);
     to.saturating_sub(from)
 }
@@ -44,12 +41,10 @@ fn piece_len<A: Allocator>(pivots: &Pivots<A>, place: usize, rows_len: usize) ->
 /// Whether pivots part the rows into short pieces, as far as a few of these tell.
 pub fn are_short<A: Allocator>(pivots: &Pivots<A>, rows_len: usize) -> bool {
     let step = rows_len / LOOKED_AT;
-    let mut place = 0usize;
-    for _piece in 0..LOOKED_AT {
-        if piece_len(pivots, place, rows_len) >= LONG_PIECE {
+    for i in 0..LOOKED_AT {
+        if piece_len(pivots, i * step, rows_len) >= LONG_PIECE {
             return false;
         }
-        place = place.saturating_add(step);
     }
     true
 }
@@ -95,7 +90,7 @@ fn crack_center<A: Allocator>(pieces: &mut Pieces<A>, v: i64) -> bool
     }
     let rows_len = cracked.rows.len();
     let (from, to) = cracked.pivots.piece_at(index, rows_len);
-    if from >= to || to > rows_len || to - from < CENTERED_ROWS {
+    if to - from < CENTERED_ROWS {
         return false;
     }
     let Some(center) = center_score(&cracked.rows.list()[from..to], v) else {

@@ -3,6 +3,7 @@
 //!
 //! Where a range cuts nothing, as one from -inf to +inf, its piece would stay the whole column.
 
+ghost use Rattle.std.specs.Prelude.{◌<◌, ◌≤◌, length, MatchOption};
 ghost use Rattle.ripple_column.specs.EffectsOnPieces.{AreCracked, RestStays};
 
 use crate::cracked_rows::Cracked;
@@ -57,16 +58,16 @@ pub fn crack_inside<A: Allocator>(pieces: &mut Pieces<A>, v: i64) -> bool
 }
 
 /// The scores of so many of these rows, at equal distances. None where there are fewer rows.
-pub fn sample_of<A: Allocator>(rows: &[Row<A>]) -> Option<[i64; SAMPLE]> {
+pub fn sample_of<A: Allocator>(rows: &[Row<A>]) -> Option<[i64; SAMPLE]>
+    ensures { MatchOption result (length rows.now < SAMPLE) (λ sample. SAMPLE ≤ length rows.now) }
+{
     let step = rows.len() / SAMPLE;
     if step == 0 {
         return None;
     }
     let mut sample = [0; SAMPLE];
-    let mut at = 0usize;
     for i in 0..SAMPLE {
-        sample[i] = rows.get(at)?.score();
-        at = at.saturating_add(step);
+        sample[i] = rows[i * step].score();
     }
     Some(sample)
 }
@@ -85,14 +86,16 @@ pub fn parting_score_at(sample: &[i64; SAMPLE], index: usize) -> Option<i64> {
 /// A score that parts these rows, from a sample: the one that a row at the place has once they are
 /// in order, and `beside` places of the sample beside it, on the side where more rows are. None where
 /// the sample has one score alone.
-fn parting_score<A: Allocator>(rows: &[Row<A>], place: usize, beside: usize) -> Option<i64> {
+fn parting_score<A: Allocator>(rows: &[Row<A>], place: usize, beside: usize) -> Option<i64>
+    requires { beside ≤ BESIDE }
+{
     let mut sample = sample_of(rows)?;
     sample.sort_unstable();
-    let near = place / (rows.len() / SAMPLE).max(1);
+    let near = place / (rows.len() / SAMPLE);
     let index = if near < SAMPLE / 2 {
-        near.saturating_add(beside)
+        near + beside
     } else {
-        near.saturating_sub(beside)
+        near - beside
     };
     parting_score_at(&sample, index)
 }
@@ -108,7 +111,7 @@ fn break_piece<A: Allocator>(pieces: &mut Pieces<A>, score: i64)
 {
     let cracked = &pieces.cracked;
     let (from, to) = cracked.pivots.piece_of(score, cracked.rows.len());
-    if from > to || to > cracked.rows.len() || !is_coarse(to - from, cracked.pivots.len()) {
+    if !is_coarse(to - from, cracked.pivots.len()) {
         return;
     }
     if let Some(v) = parting_score(&cracked.rows.list()[from..to], (to - from) / 2, 0) {
@@ -135,11 +138,8 @@ pub fn break_up<A: Allocator>(pieces: &mut Pieces<A>, waiting: &PendingList<A>, 
 fn score_beside<A: Allocator>(cracked: &Cracked<A>, place: usize) -> Option<i64> {
     let list = cracked.pivots.list();
     let i = list.partition_point(|pivot| pivot.1 <= place);
-    if i > list.len() {
-        return None;
-    }
     let (from, to) = cracked.pivots.piece_at(i, cracked.rows.len());
-    if from >= place || place >= to || to > cracked.rows.len() {
+    if from >= place || place >= to {
         return None;
     }
     let len = to - from;

@@ -5,6 +5,12 @@ use Rattle.ripple_column.proofs.CrackSteps.{IsPiece, IsApart-alike, IsPiece-at, 
 use Rattle.ripple_column.proofs.Values.{IsApart-new, IsNewValue-none}
 use Rattle.ripple_column.proofs.center_cracks.crack_center.Goals as goal
 
+pub overflow_sub-to : goal.overflow_sub-to
+overflow_sub-to g c =
+    let cracked = c.args.pieces.now.cracked in
+    let piece = IsPiece-at _ c.args.v c.count_upto-index.result cracked.pivots.list cracked.rows.items _ c.piece_at-from.result (omega (arith, ints)) c.len-rows_len.ensures cracked.law c.count_upto-index.ensures c.piece_at-from.ensures.start c.piece_at-from.ensures.end in
+    piece.order
+
 pub returns-clause-still : goal.returns-clause-still
 returns-clause-still g c k d outside =
     let ps = c.args.pieces.now.cracked.pivots.list in
@@ -16,4 +22,4 @@ returns-clause-still g c k d outside =
     IsPiece-at _ v c.count_upto-index.result ps rows _ c.piece_at-from.result (omega (arith, ints)) c.len-rows_len.ensures law c.count_upto-index.ensures c.piece_at-from.ensures.start c.piece_at-from.ensures.end in
     let center = IsPiece-from _ _ ps rows c.piece_of-center_from.result refl law (rw c.len-rows_len.ensures at c.piece_of-center_from.ensures) in
     let alike = rw c.if-center_to-to.false at (rw c.if-center_from-from.false at center) in
-    c.crack_inside.ensures.rest k d (IsApart-alike v _ ps rows _ _ (omega (arith, c.if-from-to.false)) piece alike k (IsApart-new v ps k new outside))
+    c.crack_inside.ensures.rest k d (IsApart-alike v _ ps rows _ _ (omega (arith, c.if-to-from-lt-CENTERED_ROWS.false, piece.order)) piece alike k (IsApart-new v ps k new outside))
