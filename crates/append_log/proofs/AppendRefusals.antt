@@ -2,7 +2,7 @@
 use Rattle.std.proofs.Common.{◌≡◌, ◌⊎◌, ◌↔◌, ℕ, List, inl, inr, refl, sym, ◌∙◌, subst, true, false, Result, Ok, Err, OnOk, IfErr, IsErr, IsErrOf}
 use Rattle.zset_core.specs.declared.refusal.Refusal.{Refusal}
 use Rattle.zset_core.specs.declared.refusal.Refusal.TheVariants.{LogBroken, LogFull, LogRefused}
-use Rattle.append_log.specs.Log.{LogView, Appends, Breaks, NotAppended, NotSettled}
+use Rattle.append_log.specs.LogViewAndSteps.{LogView, Appends, Breaks, NotAppended, NotSettled}
 
 not_both : (log : LogView) → log.broken ≡ false → log.broken ≡ true → ⊥
 not_both log good bad = let no : true ≡ false = sym bad ∙ good in cc

@@ -7,7 +7,7 @@ use Rattle.std.specs.Io.KnownBytes.{append_known}
 use Rattle.zset_core.specs.SetsByKey.{World, set_at}
 use Rattle.append_log.specs.Records.{Record, text_of_records}
 use Rattle.append_log.specs.Dump.{set_records, records_at, dump}
-use Rattle.append_log.specs.Rewrite.{TakesPrefix}
+use Rattle.append_log.specs.RewriteOutcome.{TakesPrefix}
 use Rattle.resp_wire.proofs.CallerLemmas.{append_known-append_known}
 use Rattle.append_log.proofs.RecordPieces.{text_of_records-append, front_all, front_first, front_behind}
 

@@ -5,11 +5,11 @@ use Rattle.std.specs.Ordering.{eq_by_cmp}
 use Rattle.std.specs.Cmp.{eq_by_cmp_equiv}
 use Rattle.std.specs.FinMap as fin
 use Rattle.std.proofs.lemmas.List.{append-nil, take-append-drop}
-use Rattle.score_bounds.specs.Scores.{IsScore, IsPlain, score_text, score_value}
+use Rattle.score_bounds.specs.ScoreTexts.{IsScore, IsPlain, score_text, score_value}
 use Rattle.zset_core.specs.SortedSet.{Members, Pair, bytes_cmp, whole}
 use Rattle.zset_core.specs.Semantics.{put_all}
 use Rattle.zset_core.specs.SetsByKey.{World, is_empty, set_at, put_set}
-use Rattle.zset_core.specs.ExpressibleWorld.{IsSpelled, IsBoundedSet, IsBoundedAt, IsBoundedWorld}
+use Rattle.zset_core.specs.WorldWithinRequestLimits.{IsSpelled, IsBoundedSet, IsBoundedAt, IsBoundedWorld}
 use Rattle.zset_core.proofs.CallerLemmas.{total, exact}
 use Rattle.zset_core.proofs.CallerLemmas.{get_put_set, filled}
 use Rattle.append_log.specs.Records.{Record}

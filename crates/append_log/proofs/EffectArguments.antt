@@ -7,7 +7,7 @@ use Rattle.std.specs.Cmp.Lexicographic.{nat_list_eq_equiv}
 use Rattle.std.specs.FinMap as fin
 use Rattle.std.proofs.lemmas.Bool.{le-leb}
 use Rattle.resp_wire.specs.RequestEncoding.{IsArgument, IsRequest, most_arguments}
-use Rattle.score_bounds.specs.Scores.{IsScore, score_text}
+use Rattle.score_bounds.specs.ScoreTexts.{IsScore, score_text}
 use Rattle.zset_core.specs.SortedSet.{Members}
 use Rattle.zset_core.specs.AbstractCommand.{Meaning}
 use Rattle.zset_core.specs.AbstractCommand as meanings

@@ -4,7 +4,7 @@ use Rattle.std.specs.Prelude.{Result, Ok, Err, OnOk}
 use Rattle.std.specs.Fmt.{signed_decimal}
 use Rattle.std.specs.List.{AllByRecursion, flat_map}
 use Rattle.resp_wire.specs.RequestEncoding.{argument}
-use Rattle.score_bounds.specs.Scores.{score_text}
+use Rattle.score_bounds.specs.ScoreTexts.{score_text}
 use Rattle.append_log.specs.EffectRecords.{EffectEntry, HasScore, entry_words, effect_words, words_behind}
 
 -- one entry more

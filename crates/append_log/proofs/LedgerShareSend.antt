@@ -3,8 +3,8 @@ use denote.RattleType.{RattleType}
 use denote.Param.Send.{IsSend, IsSync, part_keyless}
 use Rattle.std.specs.declared.sync.ledger.Ledger.{Ghosts}
 use Rattle.std.proofs.sync.ledger.Share.TheSendSync as share
-use Rattle.append_log.specs.contracts.ledger_share.LedgerShare.{the_row}
-use Rattle.append_log.specs.contracts.ledger_share.LedgerShare.TheInside as Inside
+use Rattle.append_log.specs.contracts.thread_safe_ledger_share.LedgerShare.{the_row}
+use Rattle.append_log.specs.contracts.thread_safe_ledger_share.LedgerShare.TheInside as Inside
 
 inside_send : (L : RattleType) (g : Ghosts L.Denot) → IsSend (Inside.the_row L g)
 inside_send L g = record { owned = λ d vs. ((λ vss. (tt, ((share.the_send L g).owned d.share vss.0, tt))), tt); leaving = λ k f vs. (tt, tt) }

@@ -5,7 +5,7 @@ use Rattle.std.specs.Io.KnownBytes.{append_known}
 use Rattle.std.specs.Prelude.{codes}
 use Rattle.resp_wire.specs.RequestEncoding.{request}
 use Rattle.append_log.specs.Records.{Record, IsRecord, text_of_records}
-use Rattle.append_log.specs.Log.{LogView, IsLog, HasRecords, Ends, Appends, Breaks, Settles, Unsettled, settled_with}
+use Rattle.append_log.specs.LogViewAndSteps.{LogView, IsLog, HasRecords, Ends, Appends, Breaks, Settles, Unsettled, settled_with}
 use Rattle.append_log.proofs.EffectArguments.{asked_remove, effect_request}
 use Rattle.append_log.proofs.RecordTexts.{text_of_records-push, AreRecords-push}
 

@@ -7,15 +7,15 @@ use Rattle.zset_core.specs.AbstractCommand.{Meaning, Asked, key_of, is_writing}
 use Rattle.zset_core.specs.AbstractCommand as meanings
 use Rattle.zset_core.specs.Semantics.{step, act_at, act}
 use Rattle.zset_core.specs.SetAndOwnerViews.{Next, ShowsAt, IsPreparedAt}
-use Rattle.zset_core.specs.ChangeOutline.{IsOutline}
-use Rattle.zset_core.specs.declared.set.change_outline.Outline.{Outline}
+use Rattle.zset_core.specs.ChangeCounts.{IsOutline}
+use Rattle.zset_core.specs.declared.set.change_counts.Outline.{Outline}
 use Rattle.zset_core.specs.declared.refusal.Refusal.{Refusal}
 use Rattle.zset_core.specs.declared.refusal.Refusal.TheVariants.{NoMemory, ScoreOverflow}
 use Rattle.zset_core.specs.SetsByKey.{World, set_at, put_set}
 use Rattle.append_log.specs.Records.{Record}
 use Rattle.append_log.specs.Replay.{after}
 use Rattle.append_log.specs.declared.version.Version.TheVariants.{Effects}
-use Rattle.append_log.specs.Log.{LogView, HasRecords, IsLog, Ends, NotAppended}
+use Rattle.append_log.specs.LogViewAndSteps.{LogView, HasRecords, IsLog, Ends, NotAppended}
 use Rattle.append_log.specs.LoggedOwner.{LoggedView, AreSame, ChangesWorld, NotRecorded, NotRun, Replays}
 use Rattle.append_log.proofs.ReplayLemmas.{replay-push}
 use Rattle.append_log.proofs.SameWorlds.{some_is, AreSame-put_back, AreSame-put_set, set_at-put_set-same}

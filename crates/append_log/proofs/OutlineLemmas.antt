@@ -4,8 +4,8 @@ use Rattle.std.specs.Prelude.{◌≢◌}
 use base.Stored.{Gv, gnil, gnum, gcons, num, Coded}
 use Rattle.zset_core.specs.SortedSet.{Members}
 use Rattle.zset_core.specs.SetAndOwnerViews.{coded_members}
-use Rattle.zset_core.specs.ChangeOutline.{IsOutline}
-use Rattle.zset_core.specs.declared.set.change_outline.Outline.{Outline}
+use Rattle.zset_core.specs.ChangeCounts.{IsOutline}
+use Rattle.zset_core.specs.declared.set.change_counts.Outline.{Outline}
 
 numbers : (m n : ℕ) → (m ≡ n) ⊎ (m ≡ n → ⊥)
 numbers zero zero = inl refl

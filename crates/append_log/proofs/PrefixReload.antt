@@ -8,7 +8,7 @@ use Rattle.resp_wire.specs.RequestEncoding.{Item, Ask, IsItem, IsRequest, reques
 use Rattle.resp_wire.specs.Parser.{item_at}
 use Rattle.resp_wire.specs.Stream.{items, rest}
 use Rattle.append_log.specs.Records.{Record, text_of_records, ReadsPrefix}
-use Rattle.append_log.specs.Log.{LogView, IsLog, Ends, Readable}
+use Rattle.append_log.specs.LogViewAndSteps.{LogView, IsLog, Ends, Readable}
 use Rattle.append_log.proofs.RecordTexts.{AreRequests, requests_of, text_of_records-push, AreRecords-push, reads_text, nothing_short}
 
 -- a prefix by its parts: whole records, and less than one more

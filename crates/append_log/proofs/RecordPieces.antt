@@ -1,6 +1,6 @@
 -- Pieces of pairs.
 use Rattle.std.proofs.Common.{◌≡◌, ℕ, zero, suc, ◌+◌, ◌<◌, ◌≤◌, List, [], ◌∷◌, ◌++◌, length, take, drop, map, refl, sym, ◌∙◌, ap, subst, arith, append_assoc, length-drop, min, ◌⊎◌, inl, inr, get_or, Option, Result, Ok, Err}
-use Rattle.score_bounds.specs.Scores.{score_text}
+use Rattle.score_bounds.specs.ScoreTexts.{score_text}
 use Rattle.std.proofs.lemmas.List.{append-nil, map-append, take_more, take-append-drop, take_all, append_cancel_left}
 use Rattle.std.proofs.lemmas.Grind.{flat_map-append}
 use Rattle.std.specs.List.{flat_map}
@@ -9,7 +9,7 @@ use Rattle.resp_wire.specs.RequestEncoding.{request}
 use Rattle.zset_core.specs.SortedSet.{Pair}
 use Rattle.append_log.specs.Records.{Record, text_of_records}
 use Rattle.append_log.specs.Dump.{cut_pieces, pieces, add_record, piece_records}
-use Rattle.append_log.specs.Rewrite.{SinkFailed, TakesPrefix, Writes}
+use Rattle.append_log.specs.RewriteOutcome.{SinkFailed, TakesPrefix, Writes}
 use Rattle.append_log.specs.declared.rewriting.RewriteFault.{RewriteFault}
 use Rattle.resp_wire.proofs.CallerLemmas.{append_known-append_known, append_known-nil}
 

@@ -7,13 +7,13 @@ use Rattle.std.proofs.lemmas.List.{length-map}
 use Rattle.resp_wire.specs.RequestEncoding.{Item, IsArgument, IsItem, IsRequest, encoding_of, most_arguments, request}
 use Rattle.resp_wire.specs.Stream.{items, rest}
 use Rattle.resp_wire.specs.Response.{Response, Integer, NullBulk}
-use Rattle.score_bounds.specs.Scores.{IsScore, IsPlain, score_text, score_value}
+use Rattle.score_bounds.specs.ScoreTexts.{IsScore, IsPlain, score_text, score_value}
 use Rattle.zset_core.specs.SortedSet.{Members, Pair, names_of}
 use Rattle.zset_core.specs.AbstractCommand.{Meaning, Asked, key_of, is_writing, Ping, Asks, Changes, Add, Increase, Remove, RemoveRange}
 use Rattle.zset_core.specs.MovedMembers.{differs, effect, effect_of_next, moved_names, prepared_effect, same_score}
 use Rattle.zset_core.specs.SetAndOwnerViews.{IsPreparedFor, Next, SetView, Shows}
 use Rattle.zset_core.specs.CommandGrammar.{asked}
-use Rattle.zset_core.specs.ExpressibleWorld.{FitsRequest, IsBoundedMeaning}
+use Rattle.zset_core.specs.WorldWithinRequestLimits.{FitsRequest, IsBoundedMeaning}
 use Rattle.zset_core.specs.Semantics.{count_all, put_one, put_all, remove_all, step, act, act_at, increase_reply, is_barred, outcome_of, sum_of}
 use Rattle.zset_core.specs.SetsByKey.{World, set_at, put_set}
 use Rattle.zset_core.specs.declared.refusal.Refusal.{Refusal}

@@ -2,7 +2,7 @@
 use Rattle.std.specs.Prelude.{ℕ, zero, suc, List, [], ◌∷◌, length, take, drop, map, codes}
 use Rattle.std.specs.List.{flat_map}
 use Rattle.std.specs.FinMap as fin
-use Rattle.score_bounds.specs.Scores.{score_text}
+use Rattle.score_bounds.specs.ScoreTexts.{score_text}
 use Rattle.zset_core.specs.SortedSet.{Pair, Members, whole}
 use Rattle.zset_core.specs.SetsByKey.{World, set_at}
 use Rattle.append_log.specs.Records.{Record}

@@ -1,7 +1,7 @@
 -- The record of a change: what it leaves of the members that its command names, whatever was asked for.
 use Rattle.std.specs.Prelude.{ℕ, ℤ, List, [], ◌∷◌, codes, Option, Some, None, unwrap_or, slice_get, IfSome}
 use Rattle.std.specs.List.{flat_map}
-use Rattle.score_bounds.specs.Scores.{IsScore, score_text}
+use Rattle.score_bounds.specs.ScoreTexts.{IsScore, score_text}
 use Rattle.resp_wire.specs.Stream.{requests}
 use Rattle.zset_core.specs.SortedSet.{Members}
 use Rattle.resp_wire.specs.Response.{Response}

@@ -2,11 +2,11 @@ pub mod Records
 pub mod Replay
 pub mod SyncedBytes
 pub mod LedgerShareView
-pub mod Log
+pub mod LogViewAndSteps
 pub mod Reload
 pub mod ReloadSteps
 pub mod LoggedOwner
 pub mod Dump
 pub mod EffectRecords
-pub mod Rewrite
+pub mod RewriteOutcome
 pub mod FileOpening

@@ -10,7 +10,7 @@ use Rattle.zset_core.specs.declared.refusal.Refusal.TheVariants.{NoMemory, Score
 use Rattle.append_log.specs.Records.{Record}
 use Rattle.append_log.specs.EffectRecords.{change_record, record_made}
 use Rattle.append_log.specs.Replay.{replay}
-use Rattle.append_log.specs.Log.{LogView, HasRecords, Appends, NotAppended}
+use Rattle.append_log.specs.LogViewAndSteps.{LogView, HasRecords, Appends, NotAppended}
 
 -- its sets, its log, and how many records it appended
 pub record LoggedView : Type 0 where

@@ -4,8 +4,8 @@ ghost use Rattle.std.specs.Prelude.{◌≡◌, ℕ, ◌≤◌, None, length, IfO
 ghost use Rattle.resp_wire.specs.Device.{saturating_succ};
 ghost use Rattle.append_log.specs.FileOpening.{IsOfLock};
 
-use crate::sink::{LogSink, SinkFault};
-use crate::syncer::SyncHandle;
+use crate::group_commit::SyncHandle;
+use crate::log_sinks::{LogSink, SinkFault};
 use resp_wire::{ATTEMPTS, is_interrupted, write_uninterrupted};
 use std::fs::{File, Metadata, OpenFile, TryLockError};
 use std::io::{Result as IoResult, Write};

@@ -2,11 +2,11 @@
 
 ghost use Rattle.std.specs.Prelude.{◌≡◌, ◌≢◌, ℕ, ◌+◌, ◌≤◌, ◌^◌, ◌↔◌, length, true, false, OnOk, IfErr, IfSome, IsTrue};
 ghost use Rattle.resp_wire.specs.RequestEncoding.{request};
-ghost use Rattle.append_log.specs.Log.{Appends, HasRecords, IsLog, NotAppended, NotSettled, Readable, Settles, WroteOut, empty_log, settled_with, share_after, records_after};
+ghost use Rattle.append_log.specs.LogViewAndSteps.{Appends, HasRecords, IsLog, NotAppended, NotSettled, Readable, Settles, WroteOut, empty_log, settled_with, share_after, records_after};
 
+use crate::log_sinks::LogSink;
 use crate::record::Record;
-use crate::record_share::RecordShare;
-use crate::sink::LogSink;
+use crate::record_count_share::RecordShare;
 use resp_wire::laws;
 use std::alloc::Allocator;
 use std::marker::Model;
@@ -31,7 +31,7 @@ pub struct Log<S: LogSink, L: Ledger> {
 
 impl<S: LogSink, L: Ledger> Model for Log<S, L> {
     ghost use Rattle.std.specs.Prelude.{◌≡◌};
-    ghost use Rattle.append_log.specs.Log.{LogView, IsLog};
+    ghost use Rattle.append_log.specs.LogViewAndSteps.{LogView, IsLog};
 
     ghost Value = { LogView };
 

@@ -7,15 +7,15 @@ ghost use Rattle.zset_core.specs.AbstractCommand.{is_writing, key_of};
 ghost use Rattle.zset_core.specs.SetAndOwnerViews.{IsPreparedAt, IsPreparedFor};
 ghost use Rattle.zset_core.specs.SetsByKey.{World as WorldType, put_set, set_at};
 ghost use Rattle.append_log.specs.EffectRecords.{next_record, prepared_record};
-ghost use Rattle.append_log.specs.Log.{LogView, Appends, HasRecords, NotSettled, Settles, records_after, share_after};
+ghost use Rattle.append_log.specs.LogViewAndSteps.{LogView, Appends, HasRecords, NotSettled, Settles, records_after, share_after};
 ghost use Rattle.append_log.specs.Replay.{after};
 ghost use Rattle.append_log.specs.declared.version.Version.TheVariants.{Effects};
 ghost use Rattle.append_log.specs.LoggedOwner.{LoggedView, AreSame, Replays, NotRecorded, Ran, Refused};
 
 use crate::log::Log;
+use crate::log_sinks::LogSink;
 use crate::record::Record;
-use crate::record_share::RecordShare;
-use crate::sink::LogSink;
+use crate::record_count_share::RecordShare;
 use resp_wire::Reply;
 use std::alloc::Allocator;
 use std::hash::BuildHasher;

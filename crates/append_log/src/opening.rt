@@ -8,8 +8,8 @@ ghost use Rattle.append_log.specs.declared.file_sink.FileFault.TheVariants as fi
 
 use crate::file_sink::{FileFault, FileSink, LockFile, is_named_by, sync_uninterrupted};
 use crate::loading::{Loaded, ReloadFault, reload};
+use crate::log_sinks::LogSink;
 use crate::new_file::{NewFileFault, replace_old};
-use crate::sink::LogSink;
 use resp_wire::{MAX_READS, READ_BUFFER, Reading};
 use std::alloc::Allocator;
 use std::fs::{self, Files, OpenFile, OpenOptions};

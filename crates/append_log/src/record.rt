@@ -3,7 +3,7 @@
 ghost use Rattle.std.specs.Prelude.{◌≡◌, ◌≢◌, ◌+◌, ◌≤◌, ◌++◌, ◌∷◌, codes, length, List, ℕ, Some, IfOk, IfSome, OnOk, IsTrue};
 ghost use Rattle.std.specs.List.{AllByRecursion, flat_map};
 ghost use Rattle.resp_wire.specs.RequestEncoding.{argument, most_arguments, request};
-ghost use Rattle.score_bounds.specs.Scores.{IsScore};
+ghost use Rattle.score_bounds.specs.ScoreTexts.{IsScore};
 ghost use Rattle.zset_core.specs.AbstractCommand.{key_of, is_writing};
 ghost use Rattle.zset_core.specs.MovedMembers.{prepared_effect};
 ghost use Rattle.zset_core.specs.SetAndOwnerViews.{IsPreparedFor};
@@ -14,7 +14,7 @@ ghost use Rattle.append_log.specs.Replay.{after};
 ghost use Rattle.append_log.specs.declared.version.Version.TheVariants.{Effects};
 
 use resp_wire::{laws, write_array_header, write_bulk, write_number_bulk, write_request};
-use score_bounds::laws::printed_scores;
+use score_bounds::grammar_laws::printed_scores;
 use std::alloc::{AllocError, Allocator};
 use std::hash::BuildHasher;
 use std::marker::Model;

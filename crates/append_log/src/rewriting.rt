@@ -4,15 +4,15 @@ ghost use Rattle.std.specs.Prelude.{◌≡◌, ◌≤◌, [], ◌∷◌, ◌++�
 ghost use Rattle.resp_wire.specs.RequestEncoding.{request};
 ghost use Rattle.append_log.specs.Dump.{add_record, pieces, piece_records, set_records, dump, image};
 ghost use Rattle.append_log.specs.Records.{text_of_records};
-ghost use Rattle.append_log.specs.Rewrite.{ReplaysTo, Writes};
+ghost use Rattle.append_log.specs.RewriteOutcome.{ReplaysTo, Writes};
 ghost use Rattle.append_log.specs.declared.rewriting.RewriteFault.TheVariants as faults;
-ghost use Rattle.score_bounds.specs.Scores.{score_text};
+ghost use Rattle.score_bounds.specs.ScoreTexts.{score_text};
 
 use crate::log::write_out;
-use crate::sink::LogSink;
+use crate::log_sinks::LogSink;
 use crack_kernel::Row;
 use resp_wire::{Bytes, BytesList, Reply, laws, write_reply};
-use score_bounds::laws::printed_scores;
+use score_bounds::grammar_laws::printed_scores;
 use score_bounds::write_score;
 use std::alloc::{AllocError, Allocator};
 use std::hash::BuildHasher;

@@ -4,12 +4,12 @@ use Rattle.resp_wire.specs.DecoderView.{DecoderView}
 use Rattle.resp_wire.specs.Response.{Response}
 use Rattle.zset_core.specs.AbstractCommand.{Asked}
 use Rattle.zset_core.specs.declared.refusal.Refusal.{Refusal}
-use Rattle.session_core.specs.declared.session.Progress.{Progress}
+use Rattle.session_core.specs.declared.resumable_session.Progress.{Progress}
 use Rattle.session_core.specs.Interleaved.{StateMoves, TakesTurns}
-use Rattle.connections.specs.declared.visit.Stage.{Stage}
-use Rattle.connections.specs.declared.visit.Stage.TheVariants.{Reads, Runs, Ended}
+use Rattle.connections.specs.declared.connection_in_turns.Stage.{Stage}
+use Rattle.connections.specs.declared.connection_in_turns.Stage.TheVariants.{Reads, Runs, Ended}
 use Rattle.connections.specs.Places.{ValueIsAt, MayPut, EachWas}
-use Rattle.connections.specs.VisitState.{VisitState, Stands, GoesOn, HasBegun, visit_state, new_state}
+use Rattle.connections.specs.ConnectionTurnState.{VisitState, Stands, GoesOn, HasBegun, visit_state, new_state}
 use Rattle.connections.specs.HeldConnections.{HeldState, HeldConnections, AllGoOn, AllStand, IsAdded, HaveLeft, ConnectionWaits, AllWait, AllMayLeave, RisesBy, TurnsAreTaken}
 use Rattle.session_core.proofs.Interleaving.{moves-refl, moves-trans}
 use Rattle.connections.proofs.PlaceLemmas.{at_set, at_grown, was_trans, was_so, each_now, all_shown, exchanged_alike, exchanged_was, emptied_was}
@@ -102,7 +102,7 @@ module _ {S : Type 0} (allows : S → Asked → Result Response Refusal → S �
     moves = moves-trans allows a b c one.moves other.moves;
     goes_on = all_go_on_trans allows first.held second.held third.held a b c one.goes_on other.goes_on;
     waits = all_wait_trans first.settled first.settled (omega arith) first.held second.held third.held one.waits
-    (subst (λ (n : ℕ). AllWait n second.held third.held) one.known other.waits);
+        (subst (λ (n : ℕ). AllWait n second.held third.held) one.known other.waits);
     known = other.known ∙ one.known;
   }
 

@@ -5,14 +5,14 @@ use Rattle.resp_wire.specs.DecoderView.{DecoderView}
 use Rattle.resp_wire.specs.Response.{Response}
 use Rattle.zset_core.specs.AbstractCommand.{Asked}
 use Rattle.zset_core.specs.declared.refusal.Refusal.{Refusal}
-use Rattle.session_core.specs.declared.fault.SessionFault.{SessionFault}
-use Rattle.session_core.specs.declared.session.Progress.{Progress}
+use Rattle.session_core.specs.declared.session_end.SessionFault.{SessionFault}
+use Rattle.session_core.specs.declared.resumable_session.Progress.{Progress}
 use Rattle.session_core.specs.ServeSteps.{SessionUnderway}
 use Rattle.session_core.specs.Interleaved.{PartWay, StateMoves, Talk, Turn, TakesTurns}
 use Rattle.session_core.proofs.Interleaving.{moves-trans, moved_by}
-use Rattle.connections.specs.declared.visit.Stage.{Stage}
-use Rattle.connections.specs.declared.visit.Stage.TheVariants.{Reads, Runs, Ended}
-use Rattle.connections.specs.VisitState.{IsTaken, Stands, GoesOn, VisitState, visit_state}
+use Rattle.connections.specs.declared.connection_in_turns.Stage.{Stage}
+use Rattle.connections.specs.declared.connection_in_turns.Stage.TheVariants.{Reads, Runs, Ended}
+use Rattle.connections.specs.ConnectionTurnState.{IsTaken, Stands, GoesOn, VisitState, visit_state}
 
 module _ {S : Type 0} (allows : S → Asked → Result Response Refusal → S → Type 0) where
   -- a piece was read

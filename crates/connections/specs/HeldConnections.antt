@@ -5,7 +5,7 @@ use Rattle.zset_core.specs.AbstractCommand.{Asked}
 use Rattle.zset_core.specs.declared.refusal.Refusal.{Refusal}
 use Rattle.session_core.specs.Interleaved.{StateMoves}
 use Rattle.connections.specs.Places.{IsGrown, MayPut, EachWas, Each}
-use Rattle.connections.specs.VisitState.{VisitState, GoesOn, HasBegun}
+use Rattle.connections.specs.ConnectionTurnState.{VisitState, GoesOn, HasBegun}
 
 -- what contracts see of a connection that is held: its visit, the number of the last record that its replies wait for (0:
 -- none), and the bytes that left, as far as they are known

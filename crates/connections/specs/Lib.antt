@@ -1,3 +1,3 @@
 pub mod HeldConnections
 pub mod Places
-pub mod VisitState
+pub mod ConnectionTurnState

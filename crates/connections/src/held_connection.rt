@@ -2,12 +2,12 @@
 
 ghost use Rattle.std.specs.Prelude.{◌≡◌, ◌<◌, ◌⊎◌};
 ghost use Rattle.session_core.specs.Interleaved.{StateMoves};
-ghost use Rattle.connections.specs.declared.visit.Next.TheVariants.{Ends, Settles};
+ghost use Rattle.connections.specs.declared.connection_in_turns.Next.TheVariants.{Ends, Settles};
 ghost use Rattle.connections.specs.HeldConnections.{Begins};
-ghost use Rattle.connections.specs.VisitState.{GoesOn, WaitsForTold, new_state};
+ghost use Rattle.connections.specs.ConnectionTurnState.{GoesOn, WaitsForTold, new_state};
 
 use crate::buffers::Buffers;
-use crate::visit::{Next, Visit};
+use crate::connection_in_turns::{Next, Visit};
 use crate::watch::Watched;
 use resp_wire::{PolledDrain, PolledSource};
 use session_core::Exec;
@@ -40,7 +40,7 @@ pub struct Held<S: PolledSource, D: PolledDrain, A: Allocator> {
 /// Seen as its visit shows itself, with what its replies wait for and what left.
 impl<S: PolledSource, D: PolledDrain, A: Allocator> Model for Held<S, D, A> {
     ghost use Rattle.connections.specs.HeldConnections.{HeldState};
-    ghost use Rattle.connections.specs.VisitState.{visit_state, told_by_outbox};
+    ghost use Rattle.connections.specs.ConnectionTurnState.{visit_state, told_by_outbox};
 
     ghost Value = { HeldState };
 

@@ -10,19 +10,19 @@
 #![tactic(auto)]
 
 mod buffers;
+mod connection_in_turns;
 mod held_connection;
+mod keep_alive_and_descriptors;
 mod many;
 mod replies;
-mod settle;
+mod settle_records;
 mod slots;
-mod socket_limits;
 mod turn_lists;
-mod visit;
 mod watch;
 
 pub use buffers::Buffers;
+pub use connection_in_turns::{MOST_HELD, MOST_MILLIS, MOST_REQUESTS, Next, Stage, Visit};
+pub use keep_alive_and_descriptors::{descriptor_limit, keep_alive};
 pub use many::Connections;
-pub use settle::{AtOnce, Settle};
-pub use socket_limits::{descriptor_limit, keep_alive};
-pub use visit::{MOST_HELD, MOST_MILLIS, MOST_REQUESTS, Next, Stage, Visit};
+pub use settle_records::{AtOnce, Settle};
 pub use watch::{Ringer, Watched};

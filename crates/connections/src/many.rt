@@ -4,14 +4,14 @@ ghost use Rattle.std.specs.Prelude.{◌≡◌, ◌<◌, length, IfOk};
 ghost use Rattle.session_core.specs.Interleaved.{StateMoves};
 ghost use Rattle.connections.specs.Places.{IsGrown};
 ghost use Rattle.connections.specs.HeldConnections.{AllGoOn, AllMayLeave, AllWait, HaveLeft, IsAdded, RisesBy, TurnsAreTaken, no_connections};
-ghost use Rattle.connections.specs.VisitState.{new_state};
+ghost use Rattle.connections.specs.ConnectionTurnState.{new_state};
 
-mod waiting_reads;
+mod blocking_reads_when_alone;
 
 use crate::buffers::Buffers;
 use crate::held_connection::{Held, Moment};
-use crate::many::waiting_reads::WaitingReads;
-use crate::settle::{Settle, settle_to};
+use crate::many::blocking_reads_when_alone::WaitingReads;
+use crate::settle_records::{Settle, settle_to};
 use crate::slots::Slots;
 use crate::turn_lists::{begin, queue, queue_again};
 use crate::watch::{Ringer, Watch, Watched};

@@ -1,6 +1,6 @@
 //! The lists in which the connections of a worker wait for their turns.
 
-use crate::visit::Next;
+use crate::connection_in_turns::Next;
 use crate::watch::Watch;
 use std::alloc::Allocator;
 use std::os::fd::RawFd;

@@ -7,7 +7,7 @@ ghost use Rattle.hand_over.specs.declared.arrivals.ArrivalKind.TheVariants.{End,
 ghost use Rattle.hand_over.specs.ChannelInvariant.{pass_view, times, once_below, IsHandedOut};
 
 use crate::arrivals::{Arrival, Arrivals};
-use crate::channel::{ChannelEnds, ChannelPass, Sender, send_connection};
+use crate::channel_protocol::{ChannelEnds, ChannelPass, Sender, send_connection};
 use crate::handler::Bell;
 use std::alloc::{AllocError, Global};
 use std::sync::Wait;

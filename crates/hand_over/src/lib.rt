@@ -8,16 +8,16 @@
 
 mod accepting;
 mod arrivals;
-mod channel;
-mod door;
-mod handing_over;
+mod channel_protocol;
 mod handler;
+mod load_balancing;
 mod outcome;
 mod recalling_workers;
+mod run_worker_pool;
 mod starting_workers;
 mod worker;
 
 pub use arrivals::{Arrival, ArrivalKind, Arrivals};
-pub use handing_over::hand_over;
 pub use handler::{Bell, Handler};
 pub use outcome::{HandOverFault, HandedOver};
+pub use run_worker_pool::hand_over;

@@ -7,7 +7,7 @@ ghost use Rattle.std.specs.List.Sorted.{IsStrictlyIncreasing};
 ghost use Rattle.hand_over.specs.ChannelInvariant.{pass_view, with_pass};
 ghost use Rattle.hand_over.specs.Outcome.{all_of, HandlersServed};
 
-use crate::channel::{ChannelEnds, ChannelPass, Sender, SplitPass, dismiss};
+use crate::channel_protocol::{ChannelEnds, ChannelPass, Sender, SplitPass, dismiss};
 use crate::handler::Handler;
 use crate::starting_workers::Child;
 use crate::worker::Finished;

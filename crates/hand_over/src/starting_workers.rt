@@ -5,9 +5,9 @@ ghost use Rattle.crossbeam_channel.specs.Claims.{view, IsSeatAt};
 ghost use Rattle.crossbeam_channel.specs.Ends.{sends_on, receives_on, ruled_capacity};
 ghost use Rattle.hand_over.specs.ChannelInvariant.{pass_view};
 
-use crate::channel::{ChannelEnds, ChannelPass, Receiver, SplitPass};
-use crate::door::Post;
+use crate::channel_protocol::{ChannelEnds, ChannelPass, Receiver, SplitPass};
 use crate::handler::Handler;
+use crate::load_balancing::Post;
 use crate::outcome::HandOverFault;
 use crate::worker::{Desk, Finished, Worked, work};
 use std::alloc::{AllocError, Global};

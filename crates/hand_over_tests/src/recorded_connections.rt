@@ -1,7 +1,7 @@
 //! Connections in memory, handed over to recording handlers.
 
 ghost use Rattle.std.specs.Prelude.{◌≡◌, Some, ◌+◌, ◌<◌, ◌≤◌, ◌^◌, IfOk, All, vec_len, ⊤};
-ghost use Rattle.hand_over.specs.Arriving.{came_after, kind_of};
+ghost use Rattle.hand_over.specs.ArrivalCounts.{came_after, kind_of};
 
 use hand_over::{Arrival, ArrivalKind, Arrivals, Bell, HandedOver, Handler, hand_over};
 use std::alloc::{AllocError, AllocGlobal, Global};

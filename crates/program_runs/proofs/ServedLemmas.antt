@@ -12,7 +12,7 @@ use Rattle.hand_over.specs.Outcome.{all_of, HandlersServed, IsHandedOver}
 use Rattle.hand_over.specs.declared.arrivals.ArrivalKind.{ArrivalKind}
 use Rattle.hand_over.specs.declared.arrivals.ArrivalKind.TheVariants.{End, Failure}
 use Rattle.hand_over.specs.declared.outcome.HandedOver.{HandedOver}
-use Rattle.set_table.specs.WorkerPasses.{TableView, PassView, IsPassOf}
+use Rattle.set_table.specs.TableAndPassViews.{TableView, PassView, IsPassOf}
 use Rattle.session_core.specs.WorkerAnswers.{WorkerView}
 use Rattle.program_runs.specs.ServerRun.{IsAttended}
 use Rattle.program_runs.specs.WorkerRequests.{HandlerView, Keeps, Attends, worker_on, new_handler, new_handlers, passes_of, AllKeep}

@@ -7,12 +7,12 @@ use Rattle.zset_core.specs.SetsByKey.{World}
 use Rattle.hand_over.specs.declared.outcome.HandOverFault.{HandOverFault}
 use Rattle.hand_over.specs.declared.outcome.HandOverFault.TheVariants as hands
 use Rattle.set_table.specs.Opening.{AreNewPasses, IsTableOpenFault, no_pass, pass_at}
-use Rattle.set_table.specs.ClosingTotals.{AreNumbered}
-use Rattle.set_table.specs.WorkerPasses.{TableView, PassView, IsPassOf}
+use Rattle.set_table.specs.ClosingAudit.{AreNumbered}
+use Rattle.set_table.specs.TableAndPassViews.{TableView, PassView, IsPassOf}
 use Rattle.set_table.specs.declared.open.TableOpenFault.{TableOpenFault}
 use Rattle.set_table.specs.declared.open.TableOpenFault.TheVariants as opens
-use Rattle.set_table.specs.declared.table.close.CloseFault.{CloseFault}
-use Rattle.set_table.specs.declared.table.close.CloseFault.TheVariants.{MissingPass, OutOfStep}
+use Rattle.set_table.specs.declared.table.closing_audit.CloseFault.{CloseFault}
+use Rattle.set_table.specs.declared.table.closing_audit.CloseFault.TheVariants.{MissingPass, OutOfStep}
 use Rattle.program_runs.specs.WorkerRequests.{Keeps, worker_on, AllKeep}
 use Rattle.program_runs.specs.ServerRun.{IsStartFault, table_open_line, hand_over_line}
 

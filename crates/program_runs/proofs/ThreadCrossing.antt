@@ -14,16 +14,16 @@ use Rattle.std.specs.contracts.impls.GlobalAllocator.TheImpl as blocks
 use Rattle.std.specs.declared.sync.ledger.Ledger as ledger
 use Rattle.resp_wire.specs.declared.device.ByteSource as source
 use Rattle.resp_wire.specs.declared.device.ByteDrain as drain
-use Rattle.append_log.specs.declared.sink.LogSink as sink
+use Rattle.append_log.specs.declared.log_sinks.LogSink as sink
 use Rattle.std.specs.contracts.sync.Mutex as Mutex
 use Rattle.std.proofs.sync.Mutex.TheSendSync as mutex
-use Rattle.append_log.specs.contracts.syncer.Syncer as Syncer
-use Rattle.append_log.proofs.syncer.Syncer.TheSendSync as syncer
+use Rattle.append_log.specs.contracts.group_commit.Syncer as Syncer
+use Rattle.append_log.proofs.group_commit.Syncer.TheSendSync as syncer
 use Rattle.set_table.specs.contracts.test_gate.NoGate as NoGate
 use Rattle.set_table.proofs.ThreadCrossing.{table_shared, pass_sent}
 use Rattle.connections.proofs.many.Connections.TheSendSync as connections
-use Rattle.session_core.specs.contracts.worker.Worker as Worker
-use Rattle.session_core.specs.contracts.worker.Worker.TheInside as WorkerFields
+use Rattle.session_core.specs.contracts.table_executor.Worker as Worker
+use Rattle.session_core.specs.contracts.table_executor.Worker.TheInside as WorkerFields
 use Rattle.program_runs.specs.contracts.server.connection_handler.ConnectionHandler as ConnectionHandler
 use Rattle.program_runs.specs.contracts.server.connection_handler.ConnectionHandler.TheInside as HandlerFields
 

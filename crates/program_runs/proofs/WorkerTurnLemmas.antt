@@ -8,10 +8,10 @@ use Rattle.session_core.specs.Exchange.{ExchangeOf, Exchanges}
 use Rattle.session_core.specs.Interleaved.{StateMoves, TakesTurns}
 use Rattle.session_core.specs.WorkerAnswers.{WorkerView, WorkerAnswers}
 use Rattle.connections.specs.HeldConnections.{AllStand, AllGoOn, IsAdded}
-use Rattle.connections.specs.VisitState.{new_state}
+use Rattle.connections.specs.ConnectionTurnState.{new_state}
 use Rattle.connections.proofs.HeldLemmas.{all_stand_on, added_stands}
 use Rattle.program_runs.specs.WorkerRequests.{HandlerView, Keeps, Attends}
-use Rattle.program_runs.specs.WorkerTurnLaws.{keeps_itself}
+use Rattle.program_runs.specs.WorkerRequestsCompose.{keeps_itself}
 
 abbrev Stays : WorkerView → WorkerView → Type 0
 Stays old new = (new.table ≡ old.table) × (new.pass.number ≡ old.pass.number)

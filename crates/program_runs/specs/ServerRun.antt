@@ -3,25 +3,25 @@ use Rattle.std.specs.Prelude.{◌≡◌, ℕ, ◌+◌, ◌<◌, ◌≤◌, ◌�
 use Rattle.std.specs.FinMap as fin
 use Rattle.zset_core.specs.SetsByKey.{World}
 use Rattle.set_table.specs.Opening.{IsOpened, AreNewPasses}
-use Rattle.set_table.specs.ClosingTotals.{AddsUp, HaveOnePlace}
+use Rattle.set_table.specs.ClosingAudit.{AddsUp, HaveOnePlace}
 use Rattle.set_table.specs.declared.limits.TheConstants.{MAX_RUNS}
-use Rattle.set_table.specs.WorkerPasses.{TableView, PassView, IsPassOf}
+use Rattle.set_table.specs.TableAndPassViews.{TableView, PassView, IsPassOf}
 use Rattle.hand_over.specs.declared.arrivals.ArrivalKind.{ArrivalKind}
 use Rattle.hand_over.specs.declared.arrivals.ArrivalKind.TheVariants as arrived
 use Rattle.hand_over.specs.declared.outcome.HandOverFault.{HandOverFault}
 use Rattle.hand_over.specs.declared.outcome.HandOverFault.TheVariants as hands
 use Rattle.set_table.specs.declared.open.TableOpenFault.{TableOpenFault}
 use Rattle.set_table.specs.declared.open.TableOpenFault.TheVariants as opens
-use Rattle.set_table.specs.declared.table.close.totals.Totals.{Totals}
-use Rattle.set_table.specs.declared.table.close.CloseFault.{CloseFault}
-use Rattle.set_table.specs.declared.table.close.CloseFault.TheVariants.{OutOfStep}
+use Rattle.set_table.specs.declared.table.closing_audit.totals.Totals.{Totals}
+use Rattle.set_table.specs.declared.table.closing_audit.CloseFault.{CloseFault}
+use Rattle.set_table.specs.declared.table.closing_audit.CloseFault.TheVariants.{OutOfStep}
 use Rattle.program_runs.specs.DeviceStates.{DrainState}
-use Rattle.program_runs.specs.ExitStatus.{status_of, finish_by, IsPrinted}
+use Rattle.program_runs.specs.ExitStatusAndLines.{status_of, finish_by, IsPrinted}
 use Rattle.program_runs.specs.WorkerRequests.{AllKeep}
 use Rattle.program_runs.specs.declared.exit_lines.Line.{Line}
 use Rattle.program_runs.specs.declared.exit_lines.Line.TheVariants as lines
 use Rattle.program_runs.specs.declared.exit_lines.Finish.{Finish}
-use Rattle.program_runs.specs.declared.server.settings.Settings.{Settings}
+use Rattle.program_runs.specs.declared.server.server_sizes.Settings.{Settings}
 
 -- what became of the arrivals and of a table's passes while connections were handed over
 pub record IsAttended {A : Type 0} (came : A → ℕ) (last : A → Option ArrivalKind) (before after : A) (limit : ℕ) (table : TableView) (first passes : List PassView) (connections : ℕ) (fault : Bool) : Type 0 where

@@ -2,7 +2,7 @@
 use Rattle.std.specs.Prelude.{◌≡◌, ℕ, List, [], map, Option}
 use Rattle.std.specs.List.{AllZip}
 use Rattle.resp_wire.specs.Response.{Response}
-use Rattle.set_table.specs.WorkerPasses.{TableView, PassView}
+use Rattle.set_table.specs.TableAndPassViews.{TableView, PassView}
 use Rattle.session_core.specs.Exchange.{Exchanges}
 use Rattle.session_core.specs.WorkerAnswers.{WorkerView, WorkerAnswers}
 use Rattle.connections.specs.HeldConnections.{HeldState, AllStand}

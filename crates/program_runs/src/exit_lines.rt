@@ -1,9 +1,9 @@
 //! How the program ends.
 
 ghost use Rattle.std.specs.Prelude.{◌≡◌, None, Some, [], ◌∷◌};
-ghost use Rattle.program_runs.specs.ExitStatus as ends;
+ghost use Rattle.program_runs.specs.ExitStatusAndLines as ends;
 ghost use Rattle.program_runs.specs.declared.exit_lines.Line.TheVariants as lines;
-ghost use Rattle.program_runs.specs.ExitStatus.{noticed};
+ghost use Rattle.program_runs.specs.ExitStatusAndLines.{noticed};
 
 use append_log::FileFault;
 use std::fmt;

@@ -1,11 +1,11 @@
 //! What stands behind the lines of an end: which file or address, why, and what to do.
 
 ghost use Rattle.std.specs.Prelude.{◌≡◌};
-ghost use Rattle.program_runs.specs.ExitStatus.{finish_by};
+ghost use Rattle.program_runs.specs.ExitStatusAndLines.{finish_by};
 ghost use Rattle.program_runs.specs.declared.exit_lines.Line.TheVariants as lines;
 
 use crate::exit_lines::{Finish, Line, Unusable};
-use crate::watching::WatchedFiles;
+use crate::file_progress_reports::WatchedFiles;
 use append_log::FileFault;
 use std::alloc::Global;
 use std::net::SocketAddr;

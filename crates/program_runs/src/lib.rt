@@ -7,20 +7,20 @@
 
 mod exit_lines;
 mod explanations;
-mod file_runs;
-mod group;
-mod logs;
+mod file_progress_reports;
+mod file_sessions_and_rewrites;
+mod group_commit_session;
+mod new_log;
 mod printing;
 mod server;
+mod standard_streams;
 mod stdio;
-mod streams;
-mod watching;
 
 pub use exit_lines::{Finish, Line, Unusable};
 pub use explanations::Ending;
-pub use file_runs::{open_file, rewrite_run, serve_file};
-pub use group::serve_group;
+pub use file_progress_reports::{Telling, WatchedFiles};
+pub use file_sessions_and_rewrites::{open_file, rewrite_run, serve_file};
+pub use group_commit_session::serve_group;
 pub use server::{Settings, Stock, TcpArrivals, serve_stock, serve_tcp};
+pub use standard_streams::StandIns;
 pub use stdio::{after_session, stdio_run};
-pub use streams::StandIns;
-pub use watching::{Telling, WatchedFiles};

@@ -1,28 +1,28 @@
 //! A server: connections handed over to workers that share a table of sets.
 
 ghost use Rattle.std.specs.Prelude.{◌≡◌, ◌<◌, ◌⊎◌, None, All};
-ghost use Rattle.set_table.specs.ClosingTotals.{AreNumbered};
-ghost use Rattle.set_table.specs.WorkerPasses.{IsPassOf};
+ghost use Rattle.set_table.specs.ClosingAudit.{AreNumbered};
+ghost use Rattle.set_table.specs.TableAndPassViews.{IsPassOf};
 ghost use Rattle.program_runs.specs.DeviceStates.{drain_state};
 ghost use Rattle.program_runs.specs.ServerRun as server;
 ghost use Rattle.program_runs.specs.ServerRun.{HasNotServed, HasServed, HasTotals, IsTold};
 
-mod attending;
+mod checked_server_options;
+mod client_limit;
 mod connection_handler;
-mod seats;
-mod server_plan;
-mod settings;
-mod settling;
+mod serve_by_table_workers;
+mod server_sizes;
+mod settle_by_group_commit;
 mod startup;
-mod tcp_arrivals;
+mod tcp_sockets_and_arrivals;
 mod totals_line;
 
 use crate::exit_lines::{Finish, Line};
-use crate::server::attending::attend;
-pub use crate::server::settings::Settings;
-use crate::server::settling::Journal;
+use crate::server::serve_by_table_workers::attend;
+pub use crate::server::server_sizes::Settings;
+use crate::server::settle_by_group_commit::Journal;
 pub use crate::server::startup::{Stock, serve_stock, serve_tcp};
-pub use crate::server::tcp_arrivals::TcpArrivals;
+pub use crate::server::tcp_sockets_and_arrivals::TcpArrivals;
 use crate::server::totals_line::{print_totals, server_finish};
 use append_log::{LogSink, SyncHandle, Syncer};
 use connections::Watched;

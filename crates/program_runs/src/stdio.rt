@@ -3,7 +3,7 @@
 ghost use Rattle.std.specs.Prelude.{◌≡◌, ◌+◌, ◌≤◌};
 ghost use Rattle.session_core.specs.Exchange.{Exchanges};
 ghost use Rattle.program_runs.specs.DeviceStates.{drain_state, source_state};
-ghost use Rattle.program_runs.specs.ExitStatus.{finish_of, Finishes, most_reads};
+ghost use Rattle.program_runs.specs.ExitStatusAndLines.{finish_of, Finishes, most_reads};
 
 use crate::exit_lines::{Finish, Line};
 use resp_wire::{ByteDrain, ByteSource, MAX_READS, READ_BUFFER};

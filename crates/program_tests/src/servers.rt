@@ -2,7 +2,7 @@
 
 ghost use Rattle.std.specs.Prelude.{◌≡◌, ◌+◌, ◌≤◌, IfOk, Some, None};
 ghost use Rattle.std.specs.Thread.{IsSync};
-ghost use Rattle.hand_over.specs.Arriving.{came_after, kind_of};
+ghost use Rattle.hand_over.specs.ArrivalCounts.{came_after, kind_of};
 
 use append_log::{FileHandle, FuseSink, LogSink, MemorySink, NoSink};
 use hand_over::{Arrival, ArrivalKind, Arrivals};

@@ -7,7 +7,7 @@ pub mod FaultTexts
 pub mod FirstWrongByte
 pub mod DecoderView
 pub mod Device
-pub mod ParserAgreement
+pub mod ParserCodeAgreement
 pub mod DecoderSteps
 pub mod DecoderFields
 pub mod PolledDevices

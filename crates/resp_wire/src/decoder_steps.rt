@@ -5,7 +5,7 @@
 
 ghost use Rattle.std.specs.Prelude.{◌≡◌, ℕ, ◌≤◌, ◌<◌, ◌++◌, length, take, All, Some, IfOk, OnOk};
 ghost use Rattle.std.specs.List.{flat_map};
-ghost use Rattle.resp_wire.specs.ParserAgreement.{Gives};
+ghost use Rattle.resp_wire.specs.ParserCodeAgreement.{Gives};
 ghost use Rattle.resp_wire.specs.RequestEncoding.{IsArgument, argument};
 ghost use Rattle.resp_wire.specs.Parser.{head_at};
 ghost use Rattle.resp_wire.specs.DecoderSteps.{SkipsTo, ArgumentStops, Went, Steps};

@@ -1,7 +1,7 @@
 //! Parsing at the start of a slice: a value and the bytes behind it, or where parsing stops.
 
 ghost use Rattle.std.specs.Prelude.{◌≡◌, ℕ, ◌+◌, ◌*◌, ◌≤◌, ◌<◌, ◌^◌, List, length, Ok};
-ghost use Rattle.resp_wire.specs.ParserAgreement.{Gives, GivesUnlessFull};
+ghost use Rattle.resp_wire.specs.ParserCodeAgreement.{Gives, GivesUnlessFull};
 ghost use Rattle.resp_wire.specs.Parser.{byte_at, line_end_at, digits_at, number_at, head_at, body_at, argument_at};
 
 use crate::bytes::Bytes;

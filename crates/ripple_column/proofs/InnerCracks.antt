@@ -2,7 +2,7 @@
 use Rattle.std.proofs.Common.{◌∙◌, refl, arith}
 use Rattle.std.proofs.lemmas.List.Sorted.{IsPermutation-refl, IsPermutation-trans}
 use Rattle.ripple_column.specs.EffectsOnPieces.{AreCracked}
-use Rattle.ripple_column.specs.declared.pieces.Pieces.{Pieces}
+use Rattle.ripple_column.specs.declared.cracked_with_shown_pivots.Pieces.{Pieces}
 
 -- nothing was cracked
 pub AreCracked-none : {A : Type 0} (p : Pieces A) → AreCracked p p

@@ -6,12 +6,12 @@ use Rattle.std.proofs.lemmas.Int.{ints}
 use Rattle.std.proofs.lemmas.List.{get_or_default, get_or-take, get_or-drop}
 use Rattle.std.proofs.lemmas.List.Edits.{get_or-between, length-between, split_between}
 use Rattle.std.proofs.lemmas.List.Sums.{sum_by-append}
-use Rattle.score_bounds.specs.declared.bounds.Cut.{Cut}
-use Rattle.score_bounds.specs.declared.bounds.Cut.TheVariants.{Start, At, End}
-use Rattle.score_bounds.specs.declared.bounds.Range.{Range}
-use Rattle.score_bounds.specs.Bounds.{is_in, is_below}
+use Rattle.score_bounds.specs.declared.ranges_and_cuts.Cut.{Cut}
+use Rattle.score_bounds.specs.declared.ranges_and_cuts.Cut.TheVariants.{Start, At, End}
+use Rattle.score_bounds.specs.declared.ranges_and_cuts.Range.{Range}
+use Rattle.score_bounds.specs.RangesAndCuts.{is_in, is_below}
 use Rattle.score_bounds.proofs.Cuts.{is_under-first_cut, is_over-second_cut}
-use Rattle.score_bounds.specs.Scores.{greatest}
+use Rattle.score_bounds.specs.ScoreTexts.{greatest}
 use Rattle.crack_kernel.specs.RowBag.{Test}
 use Rattle.crack_kernel.specs.PartedRows.{IsBelow, IsFrom, IsParted}
 use Rattle.crack_kernel.specs.PivotList.{IsNewValue, IsRising, ObeysPivots}

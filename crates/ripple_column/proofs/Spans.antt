@@ -1,7 +1,7 @@
 -- The span of the scores of a list's rows.
 use Rattle.std.proofs.Common.{◌≡◌, ℕ, ℤ, Bool, false, List, [], ◌∷◌, ◌++◌, get_or, arith}
-use Rattle.score_bounds.specs.Bounds.{is_in}
-use Rattle.score_bounds.specs.declared.bounds.Range.{Range}
+use Rattle.score_bounds.specs.RangesAndCuts.{is_in}
+use Rattle.score_bounds.specs.declared.ranges_and_cuts.Range.{Range}
 use Rattle.ripple_column.specs.Content.{NoneIn}
 use Rattle.ripple_column.specs.declared.score_span.ScoreSpan.{ScoreSpan}
 use Rattle.ripple_column.specs.ScoreSpan.{is_outside, Spans}

@@ -3,7 +3,7 @@ use Rattle.std.proofs.Common.{◌≡◌, ℕ, zero, suc, refl, [], ◌∷◌, tr
 use Rattle.std.specs.List.{AllWithin, list_any}
 use Rattle.std.proofs.lemmas.List.{length-drop, get_or-drop, get_or-take, take-append-drop}
 use Rattle.std.proofs.lemmas.List.Sorted.{IsPermutation-refl}
-use Rattle.score_bounds.specs.declared.bounds.Range.{Range}
+use Rattle.score_bounds.specs.declared.ranges_and_cuts.Range.{Range}
 use Rattle.crack_kernel.specs.RowBag.{Test, IsSubBag}
 use Rattle.ripple_column.specs.Content.{has_score_in, NoneIn, SameOutside}
 use Rattle.ripple_column.specs.MergeGap.{TakenFrom}

@@ -8,8 +8,8 @@ use Rattle.std.proofs.lemmas.Bool.Decides.{Decides-int_eq}
 use Rattle.std.proofs.lemmas.List.{get_or-map, get_or_default, length-map}
 use Rattle.std.proofs.lemmas.List.Folds.{Any-from_list_any, list_any-append, list_any_at, list_any_none}
 use Rattle.std.proofs.lemmas.List.Sorted.{Contains-permutation, IsPermutation-map, list_any-IsPermutation}
-use Rattle.score_bounds.specs.declared.bounds.Cut.{Cut}
-use Rattle.score_bounds.specs.declared.bounds.Cut.TheVariants.{Start, At, End}
+use Rattle.score_bounds.specs.declared.ranges_and_cuts.Cut.{Cut}
+use Rattle.score_bounds.specs.declared.ranges_and_cuts.Cut.TheVariants.{Start, At, End}
 use Rattle.crack_kernel.specs.PivotList.{IsNewValue}
 use Rattle.ripple_column.specs.CutPivots.{is_before, values, cut_values, new_values, StandsAt, IsApart, IsUncracked}
 

@@ -1,8 +1,8 @@
 -- What a column holds.
 use Rattle.std.specs.Prelude.{◌≡◌, ◌<◌, ◌≤ℤ◌, ◌+◌, ◌-◌, ◌&&◌, not, true, false, ℕ, max, ℤ, List, ◌∷◌, length, All, Contains, IsPermutation, count_by}
-use Rattle.score_bounds.specs.declared.bounds.Range.{Range}
-use Rattle.score_bounds.specs.Bounds.{is_in}
-use Rattle.score_bounds.specs.Scores.{greatest}
+use Rattle.score_bounds.specs.declared.ranges_and_cuts.Range.{Range}
+use Rattle.score_bounds.specs.RangesAndCuts.{is_in}
+use Rattle.score_bounds.specs.ScoreTexts.{greatest}
 use Rattle.crack_kernel.specs.RowBag.{Test}
 
 -- a row's score is in the range

@@ -2,8 +2,8 @@
 use Rattle.std.specs.Prelude.{◌≡◌, ◌+◌, ◌<◌, ◌≤◌, ◌<ℤ◌, ◌≤ℤ◌, ◌⊎◌, ℕ, ℤ, Bool, true, false, int_lt, List, [], ◌∷◌, ◌++◌, length, map, Any, Contains, if◌then◌else◌}
 use Rattle.std.specs.List.{list_any}
 use Rattle.std.specs.Ordering.{int_eq}
-use Rattle.score_bounds.specs.declared.bounds.Cut.{Cut}
-use Rattle.score_bounds.specs.declared.bounds.Cut.TheVariants.{Start, At, End}
+use Rattle.score_bounds.specs.declared.ranges_and_cuts.Cut.{Cut}
+use Rattle.score_bounds.specs.declared.ranges_and_cuts.Cut.TheVariants.{Start, At, End}
 
 -- a cut lies below another: Start is the lowest, End the highest, and numbers lie between them in their order
 abbrev pub is_before : Cut → Cut → Bool

@@ -3,7 +3,7 @@ use Rattle.std.specs.Prelude.{◌≡◌, ◌≤◌, ℕ, ℤ, true, min, max, Li
 use Rattle.ripple_column.specs.CutPivots.{IsApart}
 use Rattle.ripple_column.specs.ShownPivots.{IsAmong, shown_of}
 use Rattle.ripple_column.specs.declared.pending_lists.Pending.{Pending}
-use Rattle.ripple_column.specs.declared.pieces.Pieces.{Pieces}
+use Rattle.ripple_column.specs.declared.cracked_with_shown_pivots.Pieces.{Pieces}
 
 -- the greatest number of pivots that inner ones make: two less than the greatest of all, for the cuts of a range
 abbrev pub most_with_inner : ℕ

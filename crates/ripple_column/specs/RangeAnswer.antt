@@ -1,9 +1,9 @@
 -- The answers for a range of scores: where its rows stand.
 use Rattle.std.specs.Prelude.{◌≡◌, ◌<◌, ◌≤◌, ◌++◌, ◌&&◌, ℕ, ℤ, List, length, count_by, slice_index_or, slice_range, IsPermutation}
 use Rattle.std.specs.Bool.{MatchBool}
-use Rattle.score_bounds.specs.declared.bounds.Range.{Range}
-use Rattle.score_bounds.specs.declared.bounds.Cut.{Cut}
-use Rattle.score_bounds.specs.Bounds.{first_cut, second_cut}
+use Rattle.score_bounds.specs.declared.ranges_and_cuts.Range.{Range}
+use Rattle.score_bounds.specs.declared.ranges_and_cuts.Cut.{Cut}
+use Rattle.score_bounds.specs.RangesAndCuts.{first_cut, second_cut}
 use Rattle.crack_kernel.specs.RowBag.{Test}
 use Rattle.crack_kernel.specs.PivotList.{max_pivots}
 use Rattle.ripple_column.specs.Content.{ColumnState, content_count, has_score_in, NoneIn}

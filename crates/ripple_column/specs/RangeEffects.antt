@@ -1,6 +1,6 @@
 -- What the calls that have to do with ranges do to a column.
 use Rattle.std.specs.Prelude.{◌≡◌, ◌≤◌, ◌&&◌, ℕ, not, true, false, IsPermutation}
-use Rattle.score_bounds.specs.declared.bounds.Range.{Range}
+use Rattle.score_bounds.specs.declared.ranges_and_cuts.Range.{Range}
 use Rattle.crack_kernel.specs.PivotList.{max_pivots}
 use Rattle.crack_kernel.specs.RowBag.{SameBag, Test}
 use Rattle.ripple_column.specs.ClosedUp.{closed_up_pivots, closed_up_rows}

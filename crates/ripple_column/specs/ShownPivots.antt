@@ -3,8 +3,8 @@
 use Rattle.std.specs.Prelude.{◌≡◌, ◌==◌, ◌&&◌, ℕ, ℤ, Bool, true, List, Contains, if◌then◌else◌}
 use Rattle.std.specs.List.{list_any}
 use Rattle.std.specs.Ordering.{int_eq}
-use Rattle.score_bounds.specs.declared.bounds.Cut.{Cut}
-use Rattle.score_bounds.specs.declared.bounds.Cut.TheVariants.{Start, At, End}
+use Rattle.score_bounds.specs.declared.ranges_and_cuts.Cut.{Cut}
+use Rattle.score_bounds.specs.declared.ranges_and_cuts.Cut.TheVariants.{Start, At, End}
 
 -- each of the first pivots is one of the others, at the same place
 abbrev pub IsAmong : List (ℤ × ℕ) → List (ℤ × ℕ) → Type 0

@@ -13,7 +13,7 @@ ghost use Rattle.ripple_column.specs.MergeEffects.{KeepsFrame};
 
 use crate::cracked_rows::Cracked;
 use crate::deletion_bloom::DeletionBloom;
-use crate::merge_gap::Direction;
+use crate::merge_at_gap::Direction;
 use crate::merge_pass::{Pass, run_pass};
 use crate::pending_lists::{Pending, RangeTails};
 use crack_kernel::{Pivots, Row};

@@ -7,10 +7,10 @@
 ghost use Rattle.std.specs.Prelude.{◌≡◌, ℕ, ℤ, List, slice_index_or};
 ghost use Rattle.ripple_column.specs.CutPivots.{IsUncracked};
 ghost use Rattle.ripple_column.specs.EffectsOnPieces.{AreCracked, shown};
-ghost use Rattle.score_bounds.specs.declared.bounds.Cut.TheVariants.{At};
+ghost use Rattle.score_bounds.specs.declared.ranges_and_cuts.Cut.TheVariants.{At};
 
+use crate::cracked_with_shown_pivots::Pieces;
 use crate::inner_cracks::{SAMPLE, crack_inside, parting_score_at, sample_of};
-use crate::pieces::Pieces;
 use crack_kernel::{Pivots, Row};
 use score_bounds::Cut;
 use std::alloc::Allocator;

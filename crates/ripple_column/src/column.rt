@@ -1,7 +1,7 @@
 //! The column.
 
 ghost use Rattle.std.specs.Prelude.{◌≡◌, ◌+◌, ◌<◌, ◌≤◌, ℕ, [], ◌∷◌, false, length, count_by, slice_range, IfOk, IfSome, OnOk, OnErr};
-ghost use Rattle.score_bounds.specs.declared.bounds.Range.{Range};
+ghost use Rattle.score_bounds.specs.declared.ranges_and_cuts.Range.{Range};
 ghost use Rattle.crack_kernel.specs.RowBag.{IsSubBag, Test};
 ghost use Rattle.crack_kernel.specs.PivotList.{ObeysPivots};
 ghost use Rattle.ripple_column.specs.RangeAnswer.{AnswersSome, HoldsRange, IsAnswer, low_cut, high_cut};
@@ -10,10 +10,10 @@ ghost use Rattle.ripple_column.specs.Content.{HasRow, IsUnchanged, Pends, SameCo
 ghost use Rattle.ripple_column.specs.CutPivots.{is_before, values};
 ghost use Rattle.ripple_column.specs.ShownPivots.{IsAmong};
 
+use crate::cracked_with_shown_pivots::Pieces;
 use crate::cut_cracks::is_before;
 use crate::inner_cracks::{is_wide, narrow};
 use crate::pending_lists::{KEEPS_ROOM_FROM, MAX_PENDING, MAX_RESERVED, Pending, SMALL_ROOM};
-use crate::pieces::Pieces;
 use crate::range_removal::remove_between;
 use crate::select::{select_between, settled_places};
 use crack_kernel::Row;

@@ -7,9 +7,9 @@ ghost use Rattle.std.specs.Prelude.{◌<◌, ◌≤◌, length, MatchOption};
 ghost use Rattle.ripple_column.specs.EffectsOnPieces.{AreCracked, RestStays};
 
 use crate::cracked_rows::Cracked;
+use crate::cracked_with_shown_pivots::Pieces;
 use crate::cut_cracks::crack_at;
 use crate::pending_lists::PendingList;
-use crate::pieces::Pieces;
 use crack_kernel::{MAX_PIVOTS, Row};
 use std::alloc::Allocator;
 

@@ -11,7 +11,7 @@ ghost use Rattle.ripple_column.specs.GapEffects.{IsCarried};
 use crate::cracked_rows::Cracked;
 use crate::deletion_bloom::DeletionBloom;
 use crate::gapped_rows::GappedRows;
-use crate::merge_gap::{Direction, Tail, is_in_piece};
+use crate::merge_at_gap::{Direction, Tail, is_in_piece};
 use crate::pending_lists::Pending;
 use crack_kernel::{Pivots, Row};
 use std::alloc::Allocator;

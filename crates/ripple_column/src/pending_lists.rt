@@ -2,14 +2,14 @@
 
 ghost use Rattle.std.specs.Prelude.{◌≡◌, ◌+◌, ◌-◌, ◌<◌, ◌≤◌, ◌≢◌, ◌≤ℤ◌, ◌++◌, ◌∷◌, ◌↔◌, ◌&&◌, not, true, false, ℕ, ℤ, List, [], Some, IsSome, length, take, Contains, MatchOption, OnOk, IsFalse, IsTrue, count_by, slice_index_or, option_to_list, IsPermutation, vec_len, vec_capacity};
 ghost use Rattle.std.specs.List.{AllWithin, HoldsAt, list_any, remove, swap_remove};
-ghost use Rattle.score_bounds.specs.Scores.{greatest};
+ghost use Rattle.score_bounds.specs.ScoreTexts.{greatest};
 ghost use Rattle.crack_kernel.specs.RowBag.{Test};
 ghost use Rattle.ripple_column.specs.Content.{has_score_in, NoneIn, Pends};
 ghost use Rattle.ripple_column.specs.MergeEffects.{HasLast};
 ghost use Rattle.ripple_column.specs.RowHash.{hash_of};
 
 use crate::pending_bloom::PendingBloom;
-use crate::pending_rows::PendingRows;
+use crate::range_gathered_rows::PendingRows;
 use crate::row_hash::hash_of;
 use crate::score_span::ScoreSpan;
 use crack_kernel::Row;

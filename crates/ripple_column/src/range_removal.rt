@@ -14,9 +14,9 @@ ghost use Rattle.ripple_column.specs.MergeEffects.{KeepsFrame};
 ghost use Rattle.ripple_column.specs.MergeGap.{AllParted, StandFrom, blank};
 
 use crate::cracked_rows::Cracked;
+use crate::cracked_with_shown_pivots::Pieces;
 use crate::fingerprinted_rows::Rows;
 use crate::gapped_rows::GappedRows;
-use crate::pieces::Pieces;
 use crack_kernel::Pivots;
 use std::alloc::Allocator;
 

@@ -2,7 +2,7 @@
 //! its score alone, and of its hash.
 
 ghost use Rattle.std.specs.Prelude.{◌≡◌, ◌+◌, ◌*◌, ◌≤◌, ◌≤ℤ◌, length};
-ghost use Rattle.score_bounds.specs.Scores.{greatest};
+ghost use Rattle.score_bounds.specs.ScoreTexts.{greatest};
 ghost use Rattle.ripple_column.specs.RowHash.{hash_of, mix, mix_all, mix_bytes, mix_words, eight_bytes_at};
 
 use crack_kernel::Row;

@@ -2,8 +2,8 @@
 
 ghost use Rattle.std.specs.Prelude.{◌≡◌, ◌↔◌, ℤ, false, IsTrue};
 ghost use Rattle.std.specs.Int.{int_max, int_min};
-ghost use Rattle.score_bounds.specs.Bounds.{is_in};
-ghost use Rattle.score_bounds.specs.Scores.{greatest, least};
+ghost use Rattle.score_bounds.specs.RangesAndCuts.{is_in};
+ghost use Rattle.score_bounds.specs.ScoreTexts.{greatest, least};
 ghost use Rattle.ripple_column.specs.ScoreSpan.{is_outside};
 
 use score_bounds::Interval;

@@ -9,12 +9,12 @@ ghost use Rattle.ripple_column.specs.EffectsOnPieces.{HasRoom, StaysAsShown, mos
 ghost use Rattle.ripple_column.specs.CutPivots.{is_before, values, cut_values, count_with_cuts, new_values, values_with_cuts, StandsAt, IsUncracked};
 
 use crate::center_cracks::{approach_cuts, are_short, is_short_at};
+use crate::cracked_with_shown_pivots::Pieces;
+use crate::cracked_with_shown_pivots::shown_pivots::{renew_places, show_cuts};
 use crate::cut_cracks::{count_missing, crack_between, is_before};
 use crate::inner_cracks::break_up;
 use crate::merge::merge_gathered;
 use crate::pending_lists::Pending;
-use crate::pieces::Pieces;
-use crate::pieces::shown_pivots::{renew_places, show_cuts};
 use crack_kernel::{MAX_PIVOTS, Pivots};
 use score_bounds::{Cut, Range};
 use std::alloc::{AllocError, Allocator};

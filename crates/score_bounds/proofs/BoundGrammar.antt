@@ -9,11 +9,11 @@ use Rattle.std.specs.Cmp.Lexicographic.{bytes_decides}
 use Rattle.std.proofs.lemmas.Bool.{and_parts, eqb-true, ne_eqb}
 use Rattle.std.proofs.lemmas.Bool.Decides.{nat_tests}
 use Rattle.std.proofs.lemmas.Str.Parse.{digit_at}
-use Rattle.score_bounds.specs.Scores.{score_value, IsSign, IsFraction, SpellsInteger, SpellsScore}
-use Rattle.score_bounds.specs.Bounds.{bound_at, end_value, bound_value, range_value, IsWord, IsMark, SpellsEnd, SpellsBound, SpellsRange}
-use Rattle.score_bounds.specs.declared.bounds.Bound.{Bound}
-use Rattle.score_bounds.specs.declared.bounds.Bound.TheVariants.{NegInf, Incl, Excl, PosInf}
-use Rattle.score_bounds.specs.declared.bounds.Range.{Range}
+use Rattle.score_bounds.specs.ScoreTexts.{score_value, IsSign, IsFraction, SpellsInteger, SpellsScore}
+use Rattle.score_bounds.specs.RangesAndCuts.{bound_at, end_value, bound_value, range_value, IsWord, IsMark, SpellsEnd, SpellsBound, SpellsRange}
+use Rattle.score_bounds.specs.declared.ranges_and_cuts.Bound.{Bound}
+use Rattle.score_bounds.specs.declared.ranges_and_cuts.Bound.TheVariants.{NegInf, Incl, Excl, PosInf}
+use Rattle.score_bounds.specs.declared.ranges_and_cuts.Range.{Range}
 use Rattle.score_bounds.proofs.Grammar.{score_value-spelled, SpellsScore-read}
 
 -- the bytes of a score's text are digits, signs and a point: none is '(' or a letter

@@ -2,10 +2,10 @@
 use Rattle.std.proofs.Common.{◌≡◌, not, refl, sym, ℤ, ◌≤ℤ◌, arith}
 use Rattle.std.proofs.lemmas.Int.{ints}
 use Rattle.std.specs.Prelude.{int_lt}
-use Rattle.score_bounds.specs.Scores.{greatest}
-use Rattle.score_bounds.specs.Bounds.{is_under, is_over, is_below, cut_above, first_cut, second_cut}
-use Rattle.score_bounds.specs.declared.bounds.Bound.{Bound}
-use Rattle.score_bounds.specs.declared.bounds.Bound.TheVariants.{NegInf, Incl, Excl, PosInf}
+use Rattle.score_bounds.specs.ScoreTexts.{greatest}
+use Rattle.score_bounds.specs.RangesAndCuts.{is_under, is_over, is_below, cut_above, first_cut, second_cut}
+use Rattle.score_bounds.specs.declared.ranges_and_cuts.Bound.{Bound}
+use Rattle.score_bounds.specs.declared.ranges_and_cuts.Bound.TheVariants.{NegInf, Incl, Excl, PosInf}
 
 pub is_below-cut_above : (limit score : ℤ) → score ≤ℤ greatest → is_below score (cut_above limit) ≡ not (int_lt limit score)
 is_below-cut_above limit score within = grind (arith, ints)

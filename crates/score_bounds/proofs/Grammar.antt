@@ -14,7 +14,7 @@ use Rattle.std.proofs.lemmas.List.Folds.{Any-from_list_any, list_any_at}
 use Rattle.std.proofs.lemmas.List.Sums.{position_or_len_is, fails_before_first, passes_at_first, split_at_first}
 use Rattle.std.proofs.lemmas.Str.Parse.{digit_at}
 use Rattle.memchr.specs.Find.{IsFirstByte, is_byte}
-use Rattle.score_bounds.specs.Scores.{is_point, is_zeros, integer_value, score_value, score_text, IsScore, IsSign, IsFraction, SpellsInteger, SpellsScore, IsPlain, HasNoLeadingZero}
+use Rattle.score_bounds.specs.ScoreTexts.{is_point, is_zeros, integer_value, score_value, score_text, IsScore, IsSign, IsFraction, SpellsInteger, SpellsScore, IsPlain, HasNoLeadingZero}
 use Rattle.score_bounds.proofs.Numerals.{is_numeral-Decides, is_score-Decides, integer_value-some}
 use Rattle.score_bounds.proofs.Points.{score_value-no_point, score_value-point}
 

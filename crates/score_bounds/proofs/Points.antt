@@ -6,7 +6,7 @@ use Rattle.std.proofs.lemmas.List.{get_or_default, take_all}
 use Rattle.std.proofs.lemmas.List.Folds.{list_any_none, list_any_at}
 use Rattle.std.proofs.lemmas.List.Sums.{position_or_len_is}
 use Rattle.memchr.specs.Find.{IsFirstByte, is_byte}
-use Rattle.score_bounds.specs.Scores.{is_point, is_zeros, integer_value, score_value}
+use Rattle.score_bounds.specs.ScoreTexts.{is_point, is_zeros, integer_value, score_value}
 
 fails_before : (text : List ℕ) (end : ℕ) → ((k : ℕ) → 0 ≤ k → k < end → is_point (get_or text k 0) ≡ true → ⊥) → (k : ℕ) → k < end → is_point (get_or text k 0) ≡ false
 fails_before text end nowhere k below = false_from_ne_true _ (nowhere k (omega arith) below)

@@ -1,2 +1,2 @@
-pub mod Bounds
-pub mod Scores
+pub mod RangesAndCuts
+pub mod ScoreTexts

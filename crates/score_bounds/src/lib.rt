@@ -5,11 +5,11 @@
 //! (CIDR 2007).
 #![tactic(auto)]
 
-mod bounds;
-mod interval;
-pub mod laws;
+mod closed_interval;
+pub mod grammar_laws;
+mod ranges_and_cuts;
 mod score_texts;
 
-pub use bounds::{Bound, Cut, Range};
-pub use interval::Interval;
+pub use closed_interval::Interval;
+pub use ranges_and_cuts::{Bound, Cut, Range};
 pub use score_texts::{read_integer, read_score, write_score};

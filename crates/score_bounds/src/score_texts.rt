@@ -1,7 +1,7 @@
 //! The texts of scores and integers.
 ghost use Rattle.std.specs.Prelude.{◌≡◌, ◌==◌, ◌++◌, OnOk, OnErr};
 ghost use Rattle.std.specs.List.{list_all};
-ghost use Rattle.score_bounds.specs.Scores.{integer_value, score_value, score_text, is_zeros};
+ghost use Rattle.score_bounds.specs.ScoreTexts.{integer_value, score_value, score_text, is_zeros};
 
 use memchr::memchr;
 use std::alloc::{AllocError, Allocator};
@@ -39,7 +39,7 @@ pub fn read_score(text: &[u8]) -> Option<i64>
 /// # Errors
 ///
 /// Want of memory; `out`'s bytes are then as they were.
-#[tactic(auto, unfolding(crate::specs::Scores::score_text))]
+#[tactic(auto, unfolding(crate::specs::ScoreTexts::score_text))]
 pub fn write_score<A: Allocator>(score: i64, out: &mut Vec<u8, A>) -> Result<(), AllocError>
     ensures written { OnOk result (out.new.items ≡ out.old.items ++ score_text score) }
     ensures refused { OnErr result (out.new.items ≡ out.old.items) }

@@ -9,9 +9,9 @@ use Rattle.zset_core.specs.declared.refusal.Refusal.{Refusal}
 use Rattle.session_core.specs.Exchange.{ExchangeOf, Exchanges}
 use Rattle.session_core.specs.SessionEnd.{Served, SessionEnds}
 use Rattle.session_core.specs.WorkerAnswers.{WorkerView, WorkerAnswers}
-use Rattle.session_core.specs.declared.fault.Ended.{Ended}
-use Rattle.session_core.specs.declared.fault.SessionFault.{SessionFault}
-use Rattle.session_core.specs.declared.fault.SessionFault.TheVariants.{NoMemory, ReadFault, WriteFault, Wire, TooManyReads}
+use Rattle.session_core.specs.declared.session_end.Ended.{Ended}
+use Rattle.session_core.specs.declared.session_end.SessionFault.{SessionFault}
+use Rattle.session_core.specs.declared.session_end.SessionFault.TheVariants.{NoMemory, ReadFault, WriteFault, Wire, TooManyReads}
 
 stays_in_exchange : (old new : WorkerView) (words : List (List ℕ)) (meant : Result Meaning Refusal) (reply : Response) → ExchangeOf WorkerAnswers old words meant reply new → new.table ≡ old.table
 stays_in_exchange old new words (Ok meaning) reply (inl answers) = answers.1.table

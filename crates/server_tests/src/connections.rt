@@ -1,8 +1,8 @@
 //! Tables with two passes, and connections in memory that a worker serves.
 
 ghost use Rattle.std.specs.Prelude.{◌≡◌, ◌≤◌, None, length, IfOk};
-ghost use Rattle.set_table.specs.ClosingTotals.{pass_at};
-ghost use Rattle.set_table.specs.WorkerPasses.{IsPassOf};
+ghost use Rattle.set_table.specs.ClosingAudit.{pass_at};
+ghost use Rattle.set_table.specs.TableAndPassViews.{IsPassOf};
 
 use crate::requests::Owner;
 use append_log::{Log, LogSink};

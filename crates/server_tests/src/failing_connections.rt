@@ -2,7 +2,7 @@
 //! has lost no count.
 
 ghost use Rattle.std.specs.Prelude.{◌≡◌, ◌≤◌, None, IfOk};
-ghost use Rattle.set_table.specs.WorkerPasses.{IsPassOf};
+ghost use Rattle.set_table.specs.TableAndPassViews.{IsPassOf};
 
 use crate::connections::{
     Connection, Device, Served, Sets, WHOLE, closed, opened, replies_to, serve_connection,

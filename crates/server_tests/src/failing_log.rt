@@ -1,7 +1,7 @@
 //! A log that fails at each of its calls once, under the workers of a table.
 
 ghost use Rattle.std.specs.Prelude.{◌≡◌, ◌≤◌, None, IfOk};
-ghost use Rattle.set_table.specs.WorkerPasses.{IsPassOf};
+ghost use Rattle.set_table.specs.TableAndPassViews.{IsPassOf};
 
 use crate::connections::{Sets, closed, opened, replies_to};
 use crate::requests::{

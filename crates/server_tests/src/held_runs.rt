@@ -1,7 +1,7 @@
 //! A worker that is held inside a set's lock until another worker, on a thread beside it, has replied.
 
 ghost use Rattle.std.specs.Prelude.{◌≡◌, ◌≤◌, None, IfOk};
-ghost use Rattle.set_table.specs.WorkerPasses.{IsPassOf};
+ghost use Rattle.set_table.specs.TableAndPassViews.{IsPassOf};
 
 use crate::connections::{Sets, closed, opened, replies_to};
 use crate::requests::{Owner, bytes_of, new_owner, text_of};

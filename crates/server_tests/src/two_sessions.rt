@@ -1,7 +1,7 @@
 //! Two workers on threads of their own, each with a connection in memory.
 
 ghost use Rattle.std.specs.Prelude.{◌≡◌, ◌≤◌, None, IfOk};
-ghost use Rattle.set_table.specs.WorkerPasses.{IsPassOf};
+ghost use Rattle.set_table.specs.TableAndPassViews.{IsPassOf};
 
 use crate::connections::{Sets, closed, opened, replies_to};
 use crate::requests::{Owner, ask, bytes_of, new_owner, text_of};

@@ -6,17 +6,17 @@ use Rattle.resp_wire.specs.Stream.{requests, rest, fault}
 use Rattle.resp_wire.specs.DecoderView.{DecoderView}
 use Rattle.resp_wire.specs.Response.{Response}
 use Rattle.append_log.specs.LoggedOwner.{LoggedView}
-use Rattle.session_core.specs.declared.fault.Ended.{Ended}
-use Rattle.session_core.specs.declared.fault.SessionFault.{SessionFault}
-use Rattle.session_core.specs.declared.fault.SessionFault.TheVariants.{NoMemory, ReadFault, WriteFault, Wire, TooManyReads}
-use Rattle.session_core.specs.declared.session.Progress.{Progress}
+use Rattle.session_core.specs.declared.session_end.Ended.{Ended}
+use Rattle.session_core.specs.declared.session_end.SessionFault.{SessionFault}
+use Rattle.session_core.specs.declared.session_end.SessionFault.TheVariants.{NoMemory, ReadFault, WriteFault, Wire, TooManyReads}
+use Rattle.session_core.specs.declared.resumable_session.Progress.{Progress}
 use Rattle.session_core.specs.OwnerAnswers.{LoggedAnswers}
 use Rattle.session_core.specs.Exchange.{Exchanges}
 use Rattle.session_core.specs.SessionEnd.{Served}
 use Rattle.session_core.specs.SendOutcome.{DrainFailed, SessionSourceFailed, SentOn}
 use Rattle.session_core.specs.ServeSteps.{IsBetween, SessionUnderway, Answered, Halfway, Halted, fed}
 use Rattle.session_core.specs.Interleaved.{PartWay}
-use Rattle.session_core.specs.DeferredSession.{IsAt, IsPast, IsSynced, TalkBetweenSyncs}
+use Rattle.session_core.specs.ExchangesBetweenSyncs.{IsAt, IsPast, IsSynced, TalkBetweenSyncs}
 use Rattle.resp_wire.proofs.CallerLemmas.{prepend_known-nil}
 use Rattle.session_core.proofs.HeldRequests.{halted_unfed}
 use Rattle.session_core.proofs.ServeProgress as serves

@@ -8,10 +8,10 @@ use Rattle.resp_wire.specs.DecoderView.{DecoderView}
 use Rattle.resp_wire.specs.Response.{Response}
 use Rattle.zset_core.specs.AbstractCommand.{Asked}
 use Rattle.zset_core.specs.declared.refusal.Refusal.{Refusal}
-use Rattle.session_core.specs.declared.session.Progress.{Progress}
-use Rattle.session_core.specs.declared.fault.Ended.{Ended}
-use Rattle.session_core.specs.declared.fault.SessionFault.{SessionFault}
-use Rattle.session_core.specs.declared.fault.SessionFault.TheVariants.{NoMemory, ReadFault, WriteFault, Wire, TooManyReads}
+use Rattle.session_core.specs.declared.resumable_session.Progress.{Progress}
+use Rattle.session_core.specs.declared.session_end.Ended.{Ended}
+use Rattle.session_core.specs.declared.session_end.SessionFault.{SessionFault}
+use Rattle.session_core.specs.declared.session_end.SessionFault.TheVariants.{NoMemory, ReadFault, WriteFault, Wire, TooManyReads}
 use Rattle.session_core.specs.Exchange.{Exchanges}
 use Rattle.session_core.specs.SessionEnd.{Replied, Broken, Finished, Served, SessionEnds}
 use Rattle.session_core.specs.ServeSteps.{SessionUnderway, fed}

@@ -4,9 +4,9 @@ use Rattle.std.specs.Prelude.{OnOk, IfErr}
 use Rattle.zset_core.specs.SetsByKey.{World}
 use Rattle.zset_core.specs.declared.refusal.Refusal.{Refusal}
 use Rattle.zset_core.specs.declared.refusal.Refusal.TheVariants.{LogBroken, LogRefused}
-use Rattle.append_log.specs.Log.{LogView, NotSettled, Settles, Unsettled}
+use Rattle.append_log.specs.LogViewAndSteps.{LogView, NotSettled, Settles, Unsettled}
 use Rattle.append_log.specs.LoggedOwner.{LoggedView, Replays}
-use Rattle.session_core.specs.DeferredSession.{IsSynced}
+use Rattle.session_core.specs.ExchangesBetweenSyncs.{IsSynced}
 
 pub synced-refl : (s : LoggedView) → IsSynced s s
 synced-refl s = record {

@@ -8,9 +8,9 @@ use Rattle.resp_wire.specs.DecoderView.{DecoderView}
 use Rattle.resp_wire.specs.Response.{Response}
 use Rattle.zset_core.specs.AbstractCommand.{Asked}
 use Rattle.zset_core.specs.declared.refusal.Refusal.{Refusal}
-use Rattle.session_core.specs.declared.fault.SessionFault.{SessionFault}
-use Rattle.session_core.specs.declared.fault.SessionFault.TheVariants.{ReadFault, TooManyReads}
-use Rattle.session_core.specs.declared.session.Progress.{Progress}
+use Rattle.session_core.specs.declared.session_end.SessionFault.{SessionFault}
+use Rattle.session_core.specs.declared.session_end.SessionFault.TheVariants.{ReadFault, TooManyReads}
+use Rattle.session_core.specs.declared.resumable_session.Progress.{Progress}
 use Rattle.session_core.specs.Exchange.{Exchanges, texts}
 use Rattle.session_core.specs.SessionEnd.{SessionEnds, Served}
 use Rattle.session_core.specs.ServeSteps.{fed, Answered, Halfway, Halted, SessionUnderway}

@@ -6,10 +6,10 @@ use Rattle.resp_wire.specs.DecoderView.{DecoderView}
 use Rattle.resp_wire.specs.Response.{Response}
 use Rattle.zset_core.specs.AbstractCommand.{Asked}
 use Rattle.zset_core.specs.declared.refusal.Refusal.{Refusal}
-use Rattle.session_core.specs.declared.fault.Ended.{Ended}
-use Rattle.session_core.specs.declared.fault.SessionFault.{SessionFault}
-use Rattle.session_core.specs.declared.fault.SessionFault.TheVariants.{NoMemory, ReadFault, TooManyReads}
-use Rattle.session_core.specs.declared.session.Progress.{Progress}
+use Rattle.session_core.specs.declared.session_end.Ended.{Ended}
+use Rattle.session_core.specs.declared.session_end.SessionFault.{SessionFault}
+use Rattle.session_core.specs.declared.session_end.SessionFault.TheVariants.{NoMemory, ReadFault, TooManyReads}
+use Rattle.session_core.specs.declared.resumable_session.Progress.{Progress}
 use Rattle.session_core.specs.Exchange.{Exchange, Exchanges}
 use Rattle.session_core.specs.SessionEnd.{Replied, Served}
 use Rattle.session_core.specs.ServeSteps.{SessionUnderway, Answered, Halfway, Halted, fed}

@@ -4,16 +4,16 @@ ghost use Rattle.std.specs.Prelude.{◌≡◌, ℕ, ◌+◌, ◌-◌, ◌≤◌,
 ghost use Rattle.std.specs.Io.KnownBytes.{IsAtEnd};
 ghost use Rattle.resp_wire.specs.Device.{Rose, saturating_succ};
 ghost use Rattle.append_log.specs.LoggedOwner.{LoggedView};
-ghost use Rattle.session_core.specs.DeferredSession.{IsAt, IsPast, IsSynced, TalkBetweenSyncs};
+ghost use Rattle.session_core.specs.ExchangesBetweenSyncs.{IsAt, IsPast, IsSynced, TalkBetweenSyncs};
 ghost use Rattle.session_core.specs.Interleaved.{PartWay};
 ghost use Rattle.session_core.specs.SessionEnd.{Served};
 ghost use Rattle.session_core.specs.SendOutcome.{DrainFailed, SessionSourceFailed, SentOn};
 ghost use Rattle.session_core.specs.ServeSteps.{IsBetween, SessionIsBetweenReads, IsSmall, StaysSmall, SessionUnderway};
-ghost use Rattle.session_core.specs.declared.fault.SessionFault.TheVariants.{WriteFault, TooManyReads};
+ghost use Rattle.session_core.specs.declared.session_end.SessionFault.TheVariants.{WriteFault, TooManyReads};
 
-use crate::fault::{Ended, SessionFault};
 use crate::held_replies::HeldReplies;
-use crate::session::{Progress, Session, begun};
+use crate::resumable_session::{Progress, Session, begun};
+use crate::session_end::{Ended, SessionFault};
 use append_log::{LogSink, LoggedOwner};
 use resp_wire::{ByteDrain, ByteSource, MAX_READS, READ_BUFFER, laws};
 use std::alloc::Allocator;

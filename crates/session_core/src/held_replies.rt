@@ -3,8 +3,8 @@
 ghost use Rattle.std.specs.Prelude.{◌≡◌, ◌≤◌, ◌⊎◌, [], length, take, OnOk, MatchResult};
 ghost use Rattle.std.specs.Io.KnownBytes.{append_known};
 ghost use Rattle.resp_wire.specs.Device.{Rose, saturating_succ};
-ghost use Rattle.append_log.specs.Log.{Settles};
-ghost use Rattle.session_core.specs.DeferredSession.{IsSynced};
+ghost use Rattle.append_log.specs.LogViewAndSteps.{Settles};
+ghost use Rattle.session_core.specs.ExchangesBetweenSyncs.{IsSynced};
 
 use append_log::{LogSink, LoggedOwner};
 use resp_wire::{ByteDrain, Failed, write_all};

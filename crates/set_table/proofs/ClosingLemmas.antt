@@ -6,12 +6,12 @@ use Rattle.std.specs.List.{sum_by}
 use Rattle.std.specs.List.Sorted.{IsPermutation}
 use Rattle.std.proofs.lemmas.List.Sums.{sum_by-cons, sum_by_more}
 use Rattle.std.proofs.lemmas.List.Sorted.{IsPermutation-sym, length_permutation, sum_by-IsPermutation}
-use Rattle.set_table.specs.declared.member_counts.Tally.{Tally}
-use Rattle.set_table.specs.declared.table.close.totals.Totals.{Totals}
-use Rattle.set_table.specs.CellStates.{CellView, InStep}
-use Rattle.set_table.specs.WorkerPasses.{PassView}
+use Rattle.set_table.specs.declared.member_change_counts.Tally.{Tally}
+use Rattle.set_table.specs.declared.table.closing_audit.totals.Totals.{Totals}
+use Rattle.set_table.specs.CellViewAndRuns.{CellView, InStep}
+use Rattle.set_table.specs.TableAndPassViews.{PassView}
 use Rattle.set_table.specs.PassTallies.{empty_tally, added_of, removed_of}
-use Rattle.set_table.specs.ClosingTotals.{AddsUp, Agrees, AreOfCells, HasOtherCell, HasOtherRecords, IsOutOfStep, added_at, removed_at, members_at, sum_below, sum_of_numbers, pass_at, share_at, no_pass}
+use Rattle.set_table.specs.ClosingAudit.{AddsUp, Agrees, AreOfCells, HasOtherCell, HasOtherRecords, IsOutOfStep, added_at, removed_at, members_at, sum_below, sum_of_numbers, pass_at, share_at, no_pass}
 use Rattle.set_table.specs.ClosingSteps.{HaveShares, AddsCell, AddsPlace, AddsUpTo}
 use Rattle.set_table.proofs.PassOrder.{stands_in}
 

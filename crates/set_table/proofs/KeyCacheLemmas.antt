@@ -2,7 +2,7 @@
 use Rattle.std.proofs.Common.{◌≡◌, ◌≢◌, ◌⊎◌, inl, inr, ℕ, List, sym, subst, ap, ◌∙◌}
 use Rattle.std.specs.declared.option.Option.{Option}
 use Rattle.set_table.specs.declared.naming.key_cache.MetKey.{MetKey}
-use Rattle.set_table.specs.KeyCache.{Says, IsMet, AllMet, HasHash, AllHashed}
+use Rattle.set_table.specs.LookupCaches.{Says, IsMet, AllMet, HasHash, AllHashed}
 use Rattle.set_table.specs.Naming.{Naming, NotesView, NamingGrows, BearsOther, IsPlace, Learns, hash_from, name_at_place}
 use Rattle.set_table.proofs.PlaceLemmas.{place_grows, same_some}
 

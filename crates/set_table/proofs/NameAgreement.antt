@@ -3,8 +3,8 @@ use Rattle.std.proofs.Common.{◌≡◌, ℕ, ◌+◌, ◌<◌, ◌%◌, ◌∙�
 use Rattle.std.proofs.Math.Nat.{mod-lt}
 use Rattle.std.proofs.lemmas.Bool.{cases_order}
 use Rattle.set_table.specs.Naming.{Naming, BearsOther, IsPlace, walk, hash_from}
-use Rattle.set_table.specs.WorkerPasses.{PassView}
-use Rattle.set_table.specs.ClosingTotals.{AgreeAt, HaveOnePlace, pass_at}
+use Rattle.set_table.specs.TableAndPassViews.{PassView}
+use Rattle.set_table.specs.ClosingAudit.{AgreeAt, HaveOnePlace, pass_at}
 
 place_within : (names : Naming) (key : List ℕ) (p : ℕ) → IsPlace names key p → p < length names
 place_within names key p place =

@@ -22,9 +22,9 @@ use Rattle.std.proofs.lemmas.Map.Text.{is_eq-slice_cmp}
 use Rattle.zset_core.specs.SortedSet.{Members, bytes_cmp}
 use Rattle.zset_core.specs.SetAndOwnerViews.{SetView}
 use Rattle.zset_core.specs.SetsByKey.{World}
-use Rattle.set_table.specs.CellStates.{CellView, new_cell}
+use Rattle.set_table.specs.CellViewAndRuns.{CellView, new_cell}
 use Rattle.set_table.specs.Naming.{Naming, NotesView, AreNotesOf, NamingGrows, IsPlace, name_at_place, hash_from}
-use Rattle.set_table.specs.WorkerPasses.{TableView, PassView, AreSharesOf}
+use Rattle.set_table.specs.TableAndPassViews.{TableView, PassView, AreSharesOf}
 use Rattle.set_table.specs.PassTallies.{ShareView}
 use Rattle.set_table.specs.Opening.{KeyedMembers, keyed_at, HasItsPlace, AllHavePlaces, AreEmptySets, AreIdleSets, AreNewCells, AreNewPasses, AreNewShares, IsNewPass, IsOpened, cards_of, members_of, pass_at, sum_of_numbers}
 use Rattle.set_table.proofs.PlaceLemmas.{place_grows, same_some}

@@ -5,8 +5,8 @@ use Rattle.std.proofs.lemmas.List.{get_or_default}
 use Rattle.std.specs.List.{Contains, swap}
 use Rattle.std.specs.List.Sorted.{IsPermutation}
 use Rattle.std.proofs.lemmas.List.Sorted.{Contains-permutation, length_permutation, IsPermutation-trans, IsPermutation-swap, IsPermutation-sym}
-use Rattle.set_table.specs.WorkerPasses.{PassView, TableView, IsPassOf}
-use Rattle.set_table.specs.ClosingTotals.{AreNumbered, pass_at, share_at, no_pass}
+use Rattle.set_table.specs.TableAndPassViews.{PassView, TableView, IsPassOf}
+use Rattle.set_table.specs.ClosingAudit.{AreNumbered, pass_at, share_at, no_pass}
 use Rattle.set_table.specs.ClosingSteps.{InOrder, HaveShares}
 
 -- a pass of one list stands in the other

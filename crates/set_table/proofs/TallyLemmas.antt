@@ -10,14 +10,14 @@ use Rattle.zset_core.specs.AbstractCommand.{Asked, Meaning, is_writing}
 use Rattle.zset_core.specs.SetAndOwnerViews.{SetView}
 use Rattle.zset_core.specs.declared.refusal.Refusal.{Refusal}
 use Rattle.zset_core.specs.declared.refusal.Refusal.TheVariants.{NoMemory, OutOfStep}
-use Rattle.set_table.specs.declared.member_counts.Tally.{Tally}
+use Rattle.set_table.specs.declared.member_change_counts.Tally.{Tally}
 use Rattle.set_table.specs.declared.limits.TheConstants.{MAX_RUNS}
-use Rattle.set_table.specs.declared.member_counts.Counts.{Counts}
-use Rattle.set_table.specs.declared.member_counts.OwnCounts.{OwnCounts}
+use Rattle.set_table.specs.declared.member_change_counts.Counts.{Counts}
+use Rattle.set_table.specs.declared.member_change_counts.OwnCounts.{OwnCounts}
 use Rattle.set_table.specs.PassTallies.{ShareView, empty_tally, tally_after, total_of, runs_of, added_of, removed_of, share_after_run, no_counts}
 use Rattle.set_table.specs.LoggedStep.{SetStepped, IsLawful, IsLogged, AnswerView}
-use Rattle.set_table.specs.CellStates.{CellView, CellIsWhole, InStep, HasRun, HasRead, HasNoReading, WasRun, counts_of, new_cell}
-use Rattle.set_table.specs.WorkerPasses.{AreSharesOf, WasAnswered, no_share}
+use Rattle.set_table.specs.CellViewAndRuns.{CellView, CellIsWhole, InStep, HasRun, HasRead, HasNoReading, WasRun, counts_of, new_cell}
+use Rattle.set_table.specs.TableAndPassViews.{AreSharesOf, WasAnswered, no_share}
 use Rattle.set_table.specs.TableAnswers.{IsAnsweredAt, IsSetRefusal}
 
 -- what one pass was told is within the totals

@@ -17,9 +17,9 @@ use Rattle.std.specs.declared.alloc.Allocator as alloc
 use Rattle.std.specs.declared.hash.BuildHasher as builder
 use Rattle.std.specs.declared.hash.Hasher as hasher
 use Rattle.std.specs.declared.sync.ledger.Ledger as ledger
-use Rattle.append_log.specs.declared.sink.LogSink as sink
+use Rattle.append_log.specs.declared.log_sinks.LogSink as sink
 use Rattle.append_log.proofs.log.Log.TheSendSync as log
-use Rattle.append_log.proofs.record_share.RecordShare.TheSendSync as share
+use Rattle.append_log.proofs.record_count_share.RecordShare.TheSendSync as share
 use Rattle.zset_core.proofs.CallerLemmas.{set_send, set_sync}
 use Rattle.set_table.specs.contracts.cell.Cell as Cell
 use Rattle.set_table.specs.contracts.cell.Cell.TheInside as CellFields
@@ -27,9 +27,9 @@ use Rattle.set_table.specs.contracts.table.Table as Table
 use Rattle.set_table.specs.contracts.table.Table.TheInside as TableFields
 use Rattle.zset_core.proofs.command.Command.TheSendSync as command
 use Rattle.zset_core.specs.contracts.command.Command as Command
-use Rattle.set_table.specs.contracts.pass.Pass as Pass
-use Rattle.set_table.proofs.pass.Pass.TheSendSync as pass
-use Rattle.set_table.proofs.member_counts.Tally.TheSendSync as tally
+use Rattle.set_table.specs.contracts.worker_pass.Pass as Pass
+use Rattle.set_table.proofs.worker_pass.Pass.TheSendSync as pass
+use Rattle.set_table.proofs.member_change_counts.Tally.TheSendSync as tally
 use Rattle.set_table.proofs.naming.names.Names.TheSendSync as names
 
 word_send : IsSend u64

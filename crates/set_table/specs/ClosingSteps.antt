@@ -1,10 +1,10 @@
 -- What is known on the way while a table is closed.
 use Rattle.std.specs.Prelude.{◌≡◌, ℕ, ◌+◌, ◌*◌, ◌^◌, ◌≤◌, ◌<◌, min, List, length, take}
-use Rattle.set_table.specs.WorkerPasses.{PassView}
+use Rattle.set_table.specs.TableAndPassViews.{PassView}
 use Rattle.std.specs.FinMap as fin
-use Rattle.set_table.specs.CellStates.{CellView}
-use Rattle.set_table.specs.ClosingTotals.{Agrees, pass_at, share_at, added_at, removed_at, members_at, sum_below, sum_of_numbers}
-use Rattle.set_table.specs.declared.table.close.totals.Totals.{Totals}
+use Rattle.set_table.specs.CellViewAndRuns.{CellView}
+use Rattle.set_table.specs.ClosingAudit.{Agrees, pass_at, share_at, added_at, removed_at, members_at, sum_below, sum_of_numbers}
+use Rattle.set_table.specs.declared.table.closing_audit.totals.Totals.{Totals}
 
 -- the first n of the passes stand in the order of their numbers
 abbrev pub InOrder : List PassView → ℕ → Type 0

@@ -1,10 +1,10 @@
 pub mod PassTallies
 pub mod LoggedStep
-pub mod CellStates
+pub mod CellViewAndRuns
 pub mod Naming
-pub mod KeyCache
-pub mod WorkerPasses
+pub mod LookupCaches
+pub mod TableAndPassViews
 pub mod TableAnswers
 pub mod Opening
-pub mod ClosingTotals
+pub mod ClosingAudit
 pub mod ClosingSteps

@@ -6,9 +6,9 @@ use Rattle.std.proofs.Math.ListN.{get_or}
 use Rattle.zset_core.specs.SortedSet.{Members}
 use Rattle.zset_core.specs.SetAndOwnerViews.{SetView}
 use Rattle.zset_core.specs.SetsByKey.{World}
-use Rattle.set_table.specs.CellStates.{CellView, new_cell}
+use Rattle.set_table.specs.CellViewAndRuns.{CellView, new_cell}
 use Rattle.set_table.specs.Naming.{Naming, NotesView, IsPlace}
-use Rattle.set_table.specs.WorkerPasses.{TableView, PassView, IsPassOf, no_share}
+use Rattle.set_table.specs.TableAndPassViews.{TableView, PassView, IsPassOf, no_share}
 use Rattle.set_table.specs.PassTallies.{ShareView, empty_tally}
 use Rattle.set_table.specs.declared.open.TableOpenFault.{TableOpenFault}
 use Rattle.set_table.specs.declared.open.TableOpenFault.TheVariants.{NoMemory, TooManyKeys}

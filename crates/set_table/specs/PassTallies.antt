@@ -1,8 +1,8 @@
 -- What passes were answered at a place, in numbers.
 use Rattle.std.specs.Prelude.{ℕ, ◌+◌, ◌<◌, ◌^◌, List}
 use Rattle.std.specs.List.{sum_by}
-use Rattle.set_table.specs.declared.member_counts.Tally.{Tally}
-use Rattle.set_table.specs.declared.member_counts.OwnCounts.{OwnCounts}
+use Rattle.set_table.specs.declared.member_change_counts.Tally.{Tally}
+use Rattle.set_table.specs.declared.member_change_counts.OwnCounts.{OwnCounts}
 
 -- one pass's shares of one place: the place, the pass's number, the members that the place had at opening, and what the
 -- pass was answered there

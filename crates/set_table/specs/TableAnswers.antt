@@ -10,7 +10,7 @@ use Rattle.zset_core.specs.declared.refusal.Refusal.TheVariants.{NoMemory, Table
 use Rattle.set_table.specs.Naming.{IsPlace, IsFull}
 use Rattle.set_table.specs.PassTallies.{ShareView}
 use Rattle.set_table.specs.LoggedStep.{AnswerView}
-use Rattle.set_table.specs.WorkerPasses.{TableView, PassView, IsPassOf, WasAnswered}
+use Rattle.set_table.specs.TableAndPassViews.{TableView, PassView, IsPassOf, WasAnswered}
 use Rattle.set_table.specs.declared.table.Answered.{Answered}
 use Rattle.set_table.specs.declared.table.Answered.TheVariants.{Ran, NoPlace}
 

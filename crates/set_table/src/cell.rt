@@ -10,18 +10,18 @@ ghost use Rattle.resp_wire.specs.Response.{response_of};
 ghost use Rattle.zset_core.specs.Semantics.{step};
 ghost use Rattle.zset_core.specs.AnswerableAsItStands.{IsReadyFor, ListsWindow};
 ghost use Rattle.zset_core.specs.SortedSet.{pairs};
-ghost use Rattle.set_table.specs.CellStates.{HasNoReading, HasRead, HasRun, InStep, RunIsRefused, CellIsWhole, WasRun, counts_of, new_cell};
+ghost use Rattle.set_table.specs.CellViewAndRuns.{HasNoReading, HasRead, HasRun, InStep, RunIsRefused, CellIsWhole, WasRun, counts_of, new_cell};
 ghost use Rattle.set_table.specs.TableAnswers.{IsSetRefusal};
 ghost use Rattle.set_table.specs.PassTallies.{TallyHasRoom, runs_of, share_after_run, tally_after};
 
+mod closing_numbers;
 mod logged_step;
-mod numbers;
 
-use crate::answer::Answer;
+use crate::answer_with_counts::Answer;
 use crate::cell::logged_step::take_step;
 use crate::limits::MAX_RUNS;
-use crate::member_counts::{Counts, OwnCounts, Tally};
-use crate::shares::Shares;
+use crate::member_change_counts::{Counts, OwnCounts, Tally};
+use crate::pass_tally_at_place::Shares;
 use append_log::{Log, LogSink, RecordShare};
 use resp_wire::Reply;
 use std::alloc::{AllocError, Allocator};
@@ -49,7 +49,7 @@ pub struct Cell<H: BuildHasher, L: Ledger, A: Allocator + Copy> {
 
 impl<H: BuildHasher, L: Ledger, A: Allocator + Copy> Model for Cell<H, L, A> {
     ghost use Rattle.std.specs.Prelude.{◌≡◌};
-    ghost use Rattle.set_table.specs.CellStates.{CellView, CellIsWhole};
+    ghost use Rattle.set_table.specs.CellViewAndRuns.{CellView, CellIsWhole};
     ghost use Rattle.set_table.specs.PassTallies.{total_of};
 
     ghost Value = { CellView };

@@ -8,23 +8,23 @@
 //! all passes add up to what became of the sets.
 #![tactic(auto)]
 
-mod answer;
+mod answer_with_counts;
 mod cell;
 mod limits;
-mod member_counts;
+mod member_change_counts;
 mod naming;
 mod open;
-mod pass;
-mod shares;
+mod pass_tally_at_place;
 mod table;
 mod test_gate;
+mod worker_pass;
 
-pub use answer::Answer;
+pub use answer_with_counts::Answer;
 pub use cell::Cell;
 pub use limits::{MAX_PASSES, MAX_PLACES, MAX_RUNS};
-pub use member_counts::{Counts, OwnCounts};
+pub use member_change_counts::{Counts, OwnCounts};
 pub use open::TableOpenFault;
-pub use pass::Pass;
-pub use shares::Shares;
+pub use pass_tally_at_place::Shares;
 pub use table::{Answered, CloseFault, Table, Totals};
 pub use test_gate::{NoGate, TestGate};
+pub use worker_pass::Pass;

@@ -3,18 +3,18 @@
 ghost use Rattle.std.specs.Prelude.{◌≡◌, ◌<◌, ◌≤◌, false, length, IfOk, IfErr, IfSome, OnErr, OnOk, IsTrue, MatchOption};
 ghost use Rattle.zset_core.specs.AbstractCommand.{is_creating, is_writing};
 ghost use Rattle.set_table.specs.Naming.{NamingGrows, IsPlace};
-ghost use Rattle.set_table.specs.WorkerPasses.{IsPassOf, kept_back};
+ghost use Rattle.set_table.specs.TableAndPassViews.{IsPassOf, kept_back};
 ghost use Rattle.set_table.specs.TableAnswers.{HasNoPlace, IsAnswered, IsAnsweredAt, IsClaimRefusal, IsTableRefusal, KeepsPass, MayBeAskedAt};
 
-mod close;
+mod closing_audit;
 
-use crate::answer::Answer;
+use crate::answer_with_counts::Answer;
 use crate::cell::Cell;
 use crate::naming::names::{ClaimFault, Names};
-use crate::pass::Pass;
 use crate::test_gate::TestGate;
+use crate::worker_pass::Pass;
 use append_log::{Log, LogSink, SyncHandle, Syncer};
-pub use close::{CloseFault, Totals};
+pub use closing_audit::{CloseFault, Totals};
 use resp_wire::Reply;
 use std::alloc::Allocator;
 use std::hash::BuildHasher;
@@ -41,7 +41,7 @@ pub struct Table<H: BuildHasher, S: LogSink, L: Ledger, A: Allocator + Copy> {
 
 impl<H: BuildHasher, S: LogSink, L: Ledger, A: Allocator + Copy> Model for Table<H, S, L, A> {
     ghost use Rattle.std.specs.Prelude.{◌≡◌, ◌<◌, ◌≤◌, length};
-    ghost use Rattle.set_table.specs.WorkerPasses.{TableView};
+    ghost use Rattle.set_table.specs.TableAndPassViews.{TableView};
     ghost use Rattle.set_table.specs.declared.limits.TheConstants.{MAX_PLACES};
 
     ghost Value = { TableView };

@@ -30,7 +30,7 @@ pub struct ShortBytes<A: Allocator> {
 
 impl<A: Allocator> Model for ShortBytes<A> {
     ghost use Rattle.std.specs.Prelude.{ℕ, List};
-    ghost use Rattle.short_bytes.specs.Placed.{bytes_in, IsPlaced};
+    ghost use Rattle.short_bytes.specs.InlineOrShared.{bytes_in, IsPlaced};
 
     ghost Value = { List ℕ };
 

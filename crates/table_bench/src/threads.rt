@@ -2,7 +2,7 @@
 
 ghost use Rattle.std.specs.Prelude.{◌≡◌, ◌≤◌, ◌<◌, ◌+◌, ℕ, None, length};
 ghost use Rattle.set_table.specs.Opening.{pass_at};
-ghost use Rattle.set_table.specs.WorkerPasses.{IsPassOf};
+ghost use Rattle.set_table.specs.TableAndPassViews.{IsPassOf};
 
 use crate::commands::{Lists, owner_of};
 use crate::places::{PLACES, Sets, opened, turns_at_places};

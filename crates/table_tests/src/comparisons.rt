@@ -1,7 +1,7 @@
 //! How many names are compared with a key to find its place.
 
 ghost use Rattle.std.specs.Prelude.{◌≡◌, ◌≤◌, None};
-ghost use Rattle.set_table.specs.WorkerPasses.{IsPassOf};
+ghost use Rattle.set_table.specs.TableAndPassViews.{IsPassOf};
 
 use crate::exchange::{Owner, owner_of};
 use crate::tables::{FOUR_PLACES, Plan, Sets, opened};

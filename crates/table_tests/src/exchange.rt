@@ -1,7 +1,7 @@
 //! What the tests share: commands and replies as texts, and what a table tells a worker.
 
 ghost use Rattle.std.specs.Prelude.{◌≡◌, None, IfOk};
-ghost use Rattle.set_table.specs.WorkerPasses.{IsPassOf};
+ghost use Rattle.set_table.specs.TableAndPassViews.{IsPassOf};
 
 use append_log::LogSink;
 use resp_wire::{Bytes, BytesList, Reply, Request, write_reply};

@@ -1,7 +1,7 @@
 //! How many runs a place answers.
 
 ghost use Rattle.std.specs.Prelude.{◌≡◌, ◌≤◌, None};
-ghost use Rattle.set_table.specs.WorkerPasses.{IsPassOf};
+ghost use Rattle.set_table.specs.TableAndPassViews.{IsPassOf};
 
 use crate::exchange::{Owner, answers, command, owner_of};
 use crate::tables::{FOUR_PLACES, Plan, Sets, opened};

@@ -1,7 +1,7 @@
 //! A table whose changes share their syncs.
 
 ghost use Rattle.std.specs.Prelude.{◌≡◌, ◌≤◌, None};
-ghost use Rattle.set_table.specs.WorkerPasses.{IsPassOf};
+ghost use Rattle.set_table.specs.TableAndPassViews.{IsPassOf};
 
 use crate::exchange::{Owner, answers, owner_of};
 use crate::tables::{DEFERRED, Sets, opened};

@@ -1,8 +1,8 @@
 //! Tables with two passes, over a log in memory, and what both are told one after the other.
 
 ghost use Rattle.std.specs.Prelude.{◌≡◌, ◌≤◌, ◌^◌, None, length, IfOk, IsTrue};
-ghost use Rattle.set_table.specs.ClosingTotals.{pass_at};
-ghost use Rattle.set_table.specs.WorkerPasses.{IsPassOf};
+ghost use Rattle.set_table.specs.ClosingAudit.{pass_at};
+ghost use Rattle.set_table.specs.TableAndPassViews.{IsPassOf};
 
 use crate::exchange::{Owner, SetsOver, answers, owner_of};
 use append_log::{FuseSink, Log, MemorySink};

@@ -1,7 +1,7 @@
 //! Two workers of a table at once, each on a thread of its own.
 
 ghost use Rattle.std.specs.Prelude.{◌≡◌, ◌≤◌, None, IfOk};
-ghost use Rattle.set_table.specs.WorkerPasses.{IsPassOf};
+ghost use Rattle.set_table.specs.TableAndPassViews.{IsPassOf};
 
 use crate::exchange::{Owner, SetsOver, command, owner_of, text_of};
 use crate::tables::{Day, SILENCE, Sets, Talk, close, opened, told_to_both};

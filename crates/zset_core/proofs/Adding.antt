@@ -4,7 +4,7 @@ use Rattle.std.specs.Prelude.{codes, is_none, option_map, option_and_then}
 use Rattle.std.specs.Option.{ok_or}
 use Rattle.std.proofs.lemmas.Bool.{cond-true, cond-false, eqb-true, and_from, and_right, and_left, not_from_true, not_from_false}
 use Rattle.std.proofs.lemmas.List.{drop-drop, get_or-drop}
-use Rattle.score_bounds.specs.Scores.{score_value}
+use Rattle.score_bounds.specs.ScoreTexts.{score_value}
 use Rattle.zset_core.specs.AbstractCommand as meanings
 use Rattle.zset_core.specs.MeaningOfForm.{word_at, scored}
 use Rattle.zset_core.specs.CommandGrammar.{first_of, has_option, has_two_of_gt_lt_nx, are_pairs, asked_flags, add_meaning, add_options, add_pairs, pairs_value, command_conditions, command_meaning}

@@ -10,7 +10,7 @@ use Rattle.std.specs.FinMap as fin
 use Rattle.std.proofs.lemmas.Bool.{and_parts, ltb-false, not-true}
 use Rattle.resp_wire.specs.RequestEncoding.{IsArgument, IsRequest}
 use Rattle.resp_wire.specs.Response.{Response, NullBulk}
-use Rattle.score_bounds.specs.Scores.{IsScore, is_score, integer_value, score_value}
+use Rattle.score_bounds.specs.ScoreTexts.{IsScore, is_score, integer_value, score_value}
 use Rattle.zset_core.specs.SortedSet.{Members, Pair, bytes_cmp, names_of}
 use Rattle.zset_core.specs.AbstractCommand.{Meaning, Change, key_of}
 use Rattle.zset_core.specs.AbstractCommand as meanings
@@ -19,8 +19,8 @@ use Rattle.zset_core.specs.SetsByKey.{World, is_empty, set_at, put_set}
 use Rattle.zset_core.specs.SetAndOwnerViews.{Next, ShowsAt, IsPreparedAt}
 use Rattle.zset_core.specs.MeaningOfForm.{word_at}
 use Rattle.zset_core.specs.CommandGrammar.{add_options, add_pairs, has_option, pairs_value, add_meaning, incr_meaning, asked_flags, command_meaning, meaning, command_named, refusal_of, asked, asked_range, asked_options, RangeOption, is_with_scores, last_limit}
-use Rattle.score_bounds.specs.declared.bounds.Range.{Range}
-use Rattle.zset_core.specs.ExpressibleWorld.{IsSpelled, IsBoundedSet, IsBoundedAt, IsBoundedWorld, PutsSpelled, PutsSpelledPairs, IsBoundedMeaning}
+use Rattle.score_bounds.specs.declared.ranges_and_cuts.Range.{Range}
+use Rattle.zset_core.specs.WorldWithinRequestLimits.{IsSpelled, IsBoundedSet, IsBoundedAt, IsBoundedWorld, PutsSpelled, PutsSpelledPairs, IsBoundedMeaning}
 use Rattle.zset_core.specs.declared.command.name.CommandName.{CommandName}
 use Rattle.zset_core.specs.declared.command.name.CommandName.TheVariants.{Ping, Add, Remove, RemoveRange, Score, Card, Count, ListRange}
 use Rattle.zset_core.specs.declared.command.pair_outcome.Flags.{Flags}

@@ -2,7 +2,7 @@
 use Rattle.std.proofs.Common.{◌≡◌, ℕ, ◌-◌, ℤ, pos, negsuc, Bool, true, false, cond, List, [], ◌∷◌, map, filter, count_by, length, take, drop, zero, suc, Option, None, Some, refl, sym, ap, ◌∙◌, arith, true≢false}
 use Rattle.std.specs.Prelude.{not, option_map}
 use Rattle.std.specs.FinMap as fin
-use Rattle.score_bounds.specs.Bounds.{is_in}
+use Rattle.score_bounds.specs.RangesAndCuts.{is_in}
 use Rattle.resp_wire.specs.Response.{Response, Integer, NullBulk, Array}
 use Rattle.zset_core.specs.SortedSet.{Members, Pair, bytes_cmp, pairs, listing}
 use Rattle.zset_core.specs.AbstractCommand.{Meaning, Asks, Changes, Question, Score, Card, Count, ListRange, Change, Add, Increase, Remove, RemoveRange, is_creating, makes_a_set}
@@ -13,7 +13,7 @@ use Rattle.zset_core.specs.declared.command.limit.Limit.{Limit}
 use Rattle.zset_core.proofs.Bridge.{total}
 use Rattle.zset_core.proofs.RangeRows.{length_listing}
 use Rattle.zset_core.proofs.RangeRemoval.{len_without_given}
-use Rattle.score_bounds.specs.declared.bounds.Range.{Range}
+use Rattle.score_bounds.specs.declared.ranges_and_cuts.Range.{Range}
 
 abbrev none : Members
 none = fin.empty

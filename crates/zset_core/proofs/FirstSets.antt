@@ -13,7 +13,7 @@ use Rattle.std.specs.BTreeMap.{BTreeMap, Updates}
 use Rattle.std.specs.declared.snapshot.Snapshot.{Snapshot}
 use Rattle.std.specs.declared.vec.Vec.{Vec}
 use Rattle.zset_core.specs.SortedSet.{Members, bytes_cmp}
-use Rattle.zset_core.specs.ExpressibleWorld.{IsBoundedWorld, IsBoundedAt, IsBoundedOwner}
+use Rattle.zset_core.specs.WorldWithinRequestLimits.{IsBoundedWorld, IsBoundedAt, IsBoundedOwner}
 use Rattle.zset_core.specs.AbstractCommand.{Asked}
 use Rattle.zset_core.specs.OwnerViewAndInvariant.{Keyed, world_of, set_in, IsAfter, KeysRise, AllRest, IsOwned, owner_view}
 use Rattle.zset_core.specs.FirstKeyTakenOut.{IsFirst}

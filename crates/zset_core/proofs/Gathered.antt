@@ -12,7 +12,7 @@ use Rattle.std.proofs.lemmas.List.Edits.{swapped_from_swap, length-swap, swap_is
 use Rattle.std.proofs.lemmas.List.Folds.{list_any_at, list_any-append}
 use Rattle.zset_core.specs.SortedSet.{Members}
 use Rattle.zset_core.specs.MovedMembers.{differs, moved_names}
-use Rattle.zset_core.specs.NotedNames.{noted_places, IsLed}
+use Rattle.zset_core.specs.NamesTouchedByPlan.{noted_places, IsLed}
 use Rattle.zset_core.specs.Plan.{moved_places, IsCounted}
 use Rattle.zset_core.specs.declared.set.draft.Draft.{Draft}
 use Rattle.zset_core.specs.MembersWithStagedScores.{Entry, staged_score, members_by, name_at, names_at, same_bytes, IsWaiting, IsWithin}

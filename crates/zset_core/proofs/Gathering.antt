@@ -22,7 +22,7 @@ use Rattle.std.proofs.lemmas.Option.{slice_get-map, slice_get_within}
 use Rattle.zset_core.specs.SortedSet.{Members, bytes_cmp}
 use Rattle.zset_core.specs.Semantics.{remove_all}
 use Rattle.zset_core.specs.MembersWithStagedScores.{Entry, current_score, members_by, name_at, names_at, slots, slot_at, same_bytes, IsWithin}
-use Rattle.zset_core.specs.FoundPlaces.{AreFoundPlaces}
+use Rattle.zset_core.specs.RemovedMemberPlaces.{AreFoundPlaces}
 use Rattle.zset_core.specs.declared.set.members_with_staged_scores.ScoreSlot.{ScoreSlot}
 use Rattle.zset_core.proofs.Bridge.{total, exact, same_equiv, get_members}
 

@@ -5,11 +5,11 @@ use Rattle.resp_wire.specs.RequestEncoding.{IsArgument, IsRequest}
 use Rattle.zset_core.specs.SortedSet.{Pair, names_of}
 use Rattle.zset_core.specs.AbstractCommand.{Changes}
 use Rattle.zset_core.specs.MeaningOfForm.{change_of, meaning_of, scored, word_at, IsWhole, IsWholeChange}
-use Rattle.zset_core.specs.ExpressibleWorld.{FitsRequest, IsSpelled, PutsSpelled, PutsSpelledPairs}
-use Rattle.zset_core.specs.declared.command.command_forms.Form.{Form}
-use Rattle.zset_core.specs.declared.command.command_forms.Form.TheVariants as forms
-use Rattle.zset_core.specs.declared.command.command_forms.ChangeForm.{ChangeForm}
-use Rattle.zset_core.specs.declared.command.command_forms.ChangeForm.TheVariants.{Add, Increase, Remove, RemoveRange}
+use Rattle.zset_core.specs.WorldWithinRequestLimits.{FitsRequest, IsSpelled, PutsSpelled, PutsSpelledPairs}
+use Rattle.zset_core.specs.declared.command.parsed_arguments.Form.{Form}
+use Rattle.zset_core.specs.declared.command.parsed_arguments.Form.TheVariants as forms
+use Rattle.zset_core.specs.declared.command.parsed_arguments.ChangeForm.{ChangeForm}
+use Rattle.zset_core.specs.declared.command.parsed_arguments.ChangeForm.TheVariants.{Add, Increase, Remove, RemoveRange}
 use Rattle.zset_core.proofs.Bounds.{each_by_recursion, each_drop}
 
 names_spelled : (ps : List Pair) → AllByRecursion IsSpelled ps → AllByRecursion IsArgument (names_of ps)

@@ -11,7 +11,7 @@ use Rattle.indexmap.specs.IndexMap.{set_value_at}
 use Rattle.zset_core.specs.SortedSet.{Members, Pair, names_of, bytes_cmp}
 use Rattle.zset_core.specs.Semantics.{outcome_of, writes, put_one, put_all, remove_all}
 use Rattle.zset_core.specs.MovedMembers.{same_score, differs, once, moved_names}
-use Rattle.zset_core.specs.NotedNames.{mention, mentions, noted, all_noted}
+use Rattle.zset_core.specs.NamesTouchedByPlan.{mention, mentions, noted, all_noted}
 use Rattle.zset_core.specs.MembersWithStagedScores.{Entry, name_at, names_at, slots, IsWithin}
 use Rattle.zset_core.specs.declared.set.members_with_staged_scores.ScoreSlot.{ScoreSlot}
 use Rattle.zset_core.specs.declared.command.pair_outcome.Flags.{Flags}

@@ -15,7 +15,7 @@ use Rattle.std.proofs.lemmas.List.{length-map}
 use Rattle.std.proofs.lemmas.Map.Text.{is_eq-slice_cmp}
 use Rattle.zset_core.proofs.Tests.{first, second}
 use Rattle.zset_core.specs.SortedSet.{Members, bytes_cmp}
-use Rattle.zset_core.specs.ChangeOutline.{missing}
+use Rattle.zset_core.specs.ChangeCounts.{missing}
 use Rattle.std.proofs.lemmas.Bool.Decides.{nat_tests}
 use Rattle.std.proofs.lemmas.Option.{slice_get-map}
 use Rattle.std.proofs.lemmas.Map.Entries.{lookup_from_place}
@@ -24,9 +24,9 @@ use Rattle.zset_core.specs.declared.set.members_with_staged_scores.ScoreSlot.{Sc
 use Rattle.std.specs.List.{position_or_len}
 use Rattle.std.proofs.Math.Seq.{take-length}
 use Rattle.indexmap.proofs.MapLemmas.{distinct-take}
-use Rattle.zset_core.specs.ChangeOutline.{IsOutline}
+use Rattle.zset_core.specs.ChangeCounts.{IsOutline}
 use Rattle.zset_core.specs.Semantics.{remove_all}
-use Rattle.zset_core.specs.declared.set.change_outline.Outline.{Outline}
+use Rattle.zset_core.specs.declared.set.change_counts.Outline.{Outline}
 use Rattle.zset_core.proofs.Staging.{rows_take}
 use Rattle.zset_core.proofs.Gathering.{get-remove_all}
 use Rattle.zset_core.proofs.Places.{lookup_take, length_take, keys_of-take}

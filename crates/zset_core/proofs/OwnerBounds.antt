@@ -9,7 +9,7 @@ use Rattle.zset_core.specs.SetAndOwnerViews.{SetView, Next, OwnerView}
 use Rattle.zset_core.specs.SetsByKey.{World, put_set}
 use Rattle.zset_core.specs.Semantics.{act_at}
 use Rattle.zset_core.specs.OwnerViewAndInvariant.{Keyed, world_of, set_in, next_at, IsHeld, IsOwned, owner_view, AllRest}
-use Rattle.zset_core.specs.ExpressibleWorld.{IsBoundedWorld, IsBoundedMeaning, IsBoundedOwner}
+use Rattle.zset_core.specs.WorldWithinRequestLimits.{IsBoundedWorld, IsBoundedMeaning, IsBoundedOwner}
 use Rattle.zset_core.proofs.Bounds.{IsBoundedNext, act_bounded, put_set_bounded}
 use Rattle.zset_core.proofs.Worlds.{keyed}
 

@@ -4,7 +4,7 @@ use Rattle.std.specs.Prelude.{option_map}
 use Rattle.std.specs.List.{take_while, prefix_len}
 use Rattle.std.proofs.lemmas.List.{take-append-drop, append-nil, drop-drop}
 use Rattle.std.proofs.Math.Seq.{take-append_seam}
-use Rattle.score_bounds.specs.Scores.{score_value}
+use Rattle.score_bounds.specs.ScoreTexts.{score_value}
 use Rattle.zset_core.specs.MeaningOfForm.{word_at, scored}
 use Rattle.zset_core.specs.CommandGrammar.{is_add_option, add_options, add_pairs, pairs_value}
 use Rattle.zset_core.specs.ReadingMatchesGrammar.{AreScores}

@@ -9,7 +9,7 @@ use Rattle.zset_core.specs.MembersWithStagedScores.{Entry, current_score, staged
 use Rattle.zset_core.specs.RowEdits.{most_edits}
 use Rattle.zset_core.specs.MovedMembers.{moved_names, names_in}
 use Rattle.zset_core.specs.Plan.{Moves, MovesTo, NeedsAtMost, Plans, Prepares, edited_by, left_by, range_of, rows_coming, rows_leaving}
-use Rattle.zset_core.specs.ChangeOutline.{IsOutline}
+use Rattle.zset_core.specs.ChangeCounts.{IsOutline}
 use Rattle.zset_core.specs.CommandEffectsOnColumn.{MakesReady, MakesRoom, PreparesColumn}
 use Rattle.zset_core.specs.AbstractCommand.{Change, Add, Increase, Remove, RemoveRange, Changes, Meaning, range_to_remove}
 use Rattle.zset_core.specs.SetAndOwnerViews.{SetView, Next}

@@ -6,15 +6,15 @@ use Rattle.std.specs.FinMap as fin
 use Rattle.std.specs.FinMap.{is_sorted}
 use Rattle.std.specs.FinMap.Entries.{below_all}
 use Rattle.std.proofs.lemmas.Cmp.{int_cmp_total, tied_itself}
-use Rattle.score_bounds.specs.declared.bounds.Range.{Range}
-use Rattle.score_bounds.specs.Bounds.{is_in}
+use Rattle.score_bounds.specs.declared.ranges_and_cuts.Range.{Range}
+use Rattle.score_bounds.specs.RangesAndCuts.{is_in}
 use Rattle.crack_kernel.specs.RowBag.{IsSubBag, SameBag, Test}
 use Rattle.ripple_column.specs.Content.{ColumnState, Holds, content_count, has_score_in}
 use Rattle.ripple_column.proofs.CallerLemmas.{count_all}
 use Rattle.zset_core.specs.SortedSet.{Members, Pair, bytes_cmp, names_of, pairs}
 use Rattle.zset_core.specs.Semantics.{remove_all, without_range}
 use Rattle.zset_core.specs.Plan.{without_given}
-use Rattle.zset_core.specs.ChangeOutline.{IsOutline}
+use Rattle.zset_core.specs.ChangeCounts.{IsOutline}
 use Rattle.zset_core.proofs.Tests.{both, first, second}
 use Rattle.zset_core.proofs.Bridge.{exact, total}
 use Rattle.zset_core.proofs.Order.{has_of_pairs, is_pair, is_same, swapped}

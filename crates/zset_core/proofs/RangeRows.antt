@@ -8,8 +8,8 @@ use Rattle.std.specs.FinMap as fin
 use Rattle.std.proofs.lemmas.Bool.{false≢true}
 use Rattle.std.proofs.lemmas.Bool.Decides.{nat_tests}
 use Rattle.std.proofs.lemmas.List.Sums.{sum_by-cons}
-use Rattle.score_bounds.specs.declared.bounds.Range.{Range}
-use Rattle.score_bounds.specs.Bounds.{is_in}
+use Rattle.score_bounds.specs.declared.ranges_and_cuts.Range.{Range}
+use Rattle.score_bounds.specs.RangesAndCuts.{is_in}
 use Rattle.crack_kernel.specs.RowBag.{Test, SameBag}
 use Rattle.ripple_column.specs.Content.{ColumnState, Holds, SameContent}
 use Rattle.ripple_column.specs.RangeAnswer.{HasAnswer, HoldsRange}

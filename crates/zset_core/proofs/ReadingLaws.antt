@@ -4,7 +4,7 @@ use Rattle.std.specs.Prelude.{codes, is_none, IsSome, option_map, option_and_the
 use Rattle.std.specs.List.{list_any}
 use Rattle.std.specs.List.Sorted.{IsStrictlyIncreasing}
 use Rattle.std.proofs.lemmas.Bool.{eqb-true, not-false}
-use Rattle.score_bounds.specs.Scores.{score_value}
+use Rattle.score_bounds.specs.ScoreTexts.{score_value}
 use Rattle.zset_core.specs.MeaningOfForm.{word_at}
 use Rattle.zset_core.specs.Refusal.{refusal_number}
 use Rattle.zset_core.specs.CommandGrammar.{first_of, has_option, has_two_of_gt_lt_nx, has_arity, are_pairs, asked_flags, asked_range, asked_options, is_bad_limit, add_meaning, incr_meaning, add_options, add_pairs, pairs_value, command_named, command_conditions, named_conditions, conditions, command_meaning, meaning, refusal_of}

@@ -31,7 +31,7 @@ use Rattle.zset_core.specs.contracts.set.Prepared as Prepared
 use Rattle.zset_core.specs.contracts.set.ZSet as ZSet
 use Rattle.zset_core.specs.contracts.set.ZSet.TheInside as SetFields
 use Rattle.zset_core.proofs.set.plan.Plan.TheSendSync as plan
-use Rattle.zset_core.proofs.spare.Spare.TheSendSync as spare
+use Rattle.zset_core.proofs.memory_reserve.Spare.TheSendSync as spare
 use Rattle.zset_core.proofs.set.members_with_staged_scores.ScoreSlot.TheSendSync as slot
 
 note_send : (Y : RattleType) → IsSend (Snapshot.the_row Y)

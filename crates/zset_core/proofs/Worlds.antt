@@ -14,8 +14,8 @@ use Rattle.std.proofs.lemmas.Map.Text.{is_eq-slice_cmp}
 use Rattle.std.proofs.lemmas.Bool.Decides.{nat_tests}
 use Rattle.zset_core.specs.SortedSet.{Members, bytes_cmp}
 use Rattle.zset_core.specs.SetAndOwnerViews.{SetView, Next, Shows, IsPreparedFor, ShowsAt, IsPreparedAt}
-use Rattle.zset_core.specs.ChangeOutline.{IsOutline}
-use Rattle.zset_core.specs.declared.set.change_outline.Outline.{Outline}
+use Rattle.zset_core.specs.ChangeCounts.{IsOutline}
+use Rattle.zset_core.specs.declared.set.change_counts.Outline.{Outline}
 use Rattle.zset_core.specs.SetsByKey.{World, is_empty, set_at, put_set}
 use Rattle.zset_core.specs.OwnerViewAndInvariant.{Keyed, world_of, set_in, IsResting, AllRest, OthersRest, next_at, IsAfter, RunsAt, PreparesAt}
 use Rattle.zset_core.proofs.Bridge.{total, exact}

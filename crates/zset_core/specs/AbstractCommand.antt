@@ -1,7 +1,7 @@
 -- What a command asks for, whatever words it came in (Redis command pages of PING, ZADD, ZREM, ZREMRANGEBYSCORE, ZSCORE, ZCARD, ZCOUNT,
 -- ZRANGEBYSCORE).
 use Rattle.std.specs.Prelude.{ℕ, Bool, true, false, not, ◌||◌, ℤ, List, Option, None, Some}
-use Rattle.score_bounds.specs.declared.bounds.Range.{Range}
+use Rattle.score_bounds.specs.declared.ranges_and_cuts.Range.{Range}
 use Rattle.zset_core.specs.declared.command.pair_outcome.Flags.{Flags}
 use Rattle.zset_core.specs.declared.command.limit.Limit.{Limit}
 

@@ -1,7 +1,7 @@
 -- What commands do to the column of a set.
 use Rattle.std.specs.Prelude.{Option, None, Some, Result, MatchResult, ◌≡◌, ℕ, ◌+◌, ◌-◌, ◌≤◌, Bool, true, false, List, ℤ, option_map, unwrap_or}
 use Rattle.std.specs.FinMap as fin
-use Rattle.score_bounds.specs.declared.bounds.Range.{Range}
+use Rattle.score_bounds.specs.declared.ranges_and_cuts.Range.{Range}
 use Rattle.ripple_column.specs.RangeAnswer.{AddsCuts, HasAnswer, low_cut, high_cut}
 use Rattle.ripple_column.specs.RangeEffects.{Selects}
 use Rattle.ripple_column.specs.Content.{ColumnState, IsUnchanged, SameOutside, max_pending, most_pending}

@@ -4,9 +4,9 @@ use Rattle.std.specs.Prelude.{ℕ, ◌%◌, Bool, true, false, not, ◌&&◌, �
 use Rattle.std.specs.List.{find, take_while, list_any}
 use Rattle.std.specs.Option.{option_map_or, ok_or}
 use Rattle.std.specs.Str.{str_eq_ignore_ascii_case}
-use Rattle.score_bounds.specs.Scores.{score_value, integer_value}
-use Rattle.score_bounds.specs.Bounds.{range_value}
-use Rattle.score_bounds.specs.declared.bounds.Range.{Range}
+use Rattle.score_bounds.specs.ScoreTexts.{score_value, integer_value}
+use Rattle.score_bounds.specs.RangesAndCuts.{range_value}
+use Rattle.score_bounds.specs.declared.ranges_and_cuts.Range.{Range}
 use Rattle.zset_core.specs.AbstractCommand.{Meaning}
 use Rattle.zset_core.specs.AbstractCommand as meanings
 use Rattle.zset_core.specs.MeaningOfForm.{word_at}

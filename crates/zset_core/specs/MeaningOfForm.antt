@@ -4,12 +4,12 @@ use Rattle.std.specs.List.{slice_index_or}
 use Rattle.zset_core.specs.AbstractCommand.{Meaning, Question, Change}
 use Rattle.zset_core.specs.AbstractCommand as meanings
 use Rattle.zset_core.specs.declared.command.given_pairs.GivenPairs.{GivenPairs}
-use Rattle.zset_core.specs.declared.command.command_forms.Form.{Form}
-use Rattle.zset_core.specs.declared.command.command_forms.Form.TheVariants.{Ping, Asks, Changes}
-use Rattle.zset_core.specs.declared.command.command_forms.QuestionForm.{QuestionForm}
-use Rattle.zset_core.specs.declared.command.command_forms.QuestionForm.TheVariants.{Score, Card, Count, ListRange}
-use Rattle.zset_core.specs.declared.command.command_forms.ChangeForm.{ChangeForm}
-use Rattle.zset_core.specs.declared.command.command_forms.ChangeForm.TheVariants.{Add, Increase, Remove, RemoveRange}
+use Rattle.zset_core.specs.declared.command.parsed_arguments.Form.{Form}
+use Rattle.zset_core.specs.declared.command.parsed_arguments.Form.TheVariants.{Ping, Asks, Changes}
+use Rattle.zset_core.specs.declared.command.parsed_arguments.QuestionForm.{QuestionForm}
+use Rattle.zset_core.specs.declared.command.parsed_arguments.QuestionForm.TheVariants.{Score, Card, Count, ListRange}
+use Rattle.zset_core.specs.declared.command.parsed_arguments.ChangeForm.{ChangeForm}
+use Rattle.zset_core.specs.declared.command.parsed_arguments.ChangeForm.TheVariants.{Add, Increase, Remove, RemoveRange}
 
 -- a word of a request, or the empty one past its end
 abbrev pub word_at : List (List ℕ) → ℕ → List ℕ

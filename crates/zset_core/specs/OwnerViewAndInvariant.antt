@@ -11,13 +11,13 @@ use Rattle.zset_core.specs.SortedSet.{bytes_cmp}
 use Rattle.resp_wire.specs.Response.{response_of}
 use Rattle.resp_wire.specs.declared.reply.Reply.{Reply}
 use Rattle.zset_core.specs.AbstractCommand.{Asked, Meaning, key_of}
-use Rattle.zset_core.specs.ChangeOutline.{IsOutline}
+use Rattle.zset_core.specs.ChangeCounts.{IsOutline}
 use Rattle.zset_core.specs.Refusal.{IsRefused}
 use Rattle.zset_core.specs.Semantics.{act_at}
 use Rattle.zset_core.specs.SetAndOwnerViews.{SetView, Next, OwnerView, IsPreparedAt}
 use Rattle.zset_core.specs.SetsByKey.{World, is_empty, put_set, set_at}
 use Rattle.zset_core.specs.declared.refusal.Refusal.{Refusal}
-use Rattle.zset_core.specs.declared.set.change_outline.Outline.{Outline}
+use Rattle.zset_core.specs.declared.set.change_counts.Outline.{Outline}
 
 abbrev pub Keyed : Type 0 → Type 0
 Keyed A = Vec ℕ A × SetView

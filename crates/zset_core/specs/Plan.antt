@@ -4,10 +4,10 @@ use Rattle.std.specs.List.{range_with_len}
 use Rattle.resp_wire.specs.Response.{Response, response_of}
 use Rattle.zset_core.specs.MovedMembers.{moved_names}
 use Rattle.zset_core.specs.SortedSet.{Members}
-use Rattle.score_bounds.specs.declared.bounds.Range.{Range}
+use Rattle.score_bounds.specs.declared.ranges_and_cuts.Range.{Range}
 use Rattle.zset_core.specs.Semantics.{remove_all, without_range}
 use Rattle.zset_core.specs.MembersWithStagedScores.{Entry, current_score, staged_score, members_by, names_at, IsWaiting, IsWithin, Grows}
-use Rattle.zset_core.specs.ChangeOutline.{IsOutline}
+use Rattle.zset_core.specs.ChangeCounts.{IsOutline}
 use Rattle.zset_core.specs.RowEdits.{Turns, most_edits}
 use Rattle.zset_core.specs.declared.set.draft.Draft.{Draft}
 use Rattle.zset_core.specs.declared.set.plan.LeavingRange.{LeavingRange}

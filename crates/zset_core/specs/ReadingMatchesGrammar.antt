@@ -2,11 +2,11 @@
 use Rattle.std.specs.Prelude.{◌≡◌, ◌≢◌, ℕ, ◌*◌, Bool, true, false, ◌&&◌, ◌||◌, ◌==◌, if◌then◌else◌, length, ℤ, List, Option, None, Some, Result, Ok, Err}
 use Rattle.std.specs.List.{list_any}
 use Rattle.std.specs.Option.{ok_or}
-use Rattle.score_bounds.specs.Scores.{score_value}
+use Rattle.score_bounds.specs.ScoreTexts.{score_value}
 use Rattle.zset_core.specs.CommandGrammar.{are_pairs, asked_flags, RangeOption, has_two_of_gt_lt_nx, pairs_value, is_with_scores, is_bad_limit, last_limit, first_of}
 use Rattle.zset_core.specs.MeaningOfForm.{word_at, scored, meaning_of, IsWhole}
 use Rattle.zset_core.specs.AbstractCommand.{Meaning}
-use Rattle.zset_core.specs.declared.command.command_forms.Form.{Form}
+use Rattle.zset_core.specs.declared.command.parsed_arguments.Form.{Form}
 use Rattle.zset_core.specs.declared.command.range_commands.RangeChoice.{RangeChoice}
 use Rattle.zset_core.specs.declared.command.pair_outcome.Flags.{Flags}
 use Rattle.zset_core.specs.declared.refusal.Refusal.{Refusal}

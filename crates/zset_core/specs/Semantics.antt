@@ -4,9 +4,9 @@ use Rattle.std.specs.List.{filter, flat_map}
 use Rattle.std.specs.Ordering.{int_eq}
 use Rattle.std.specs.FinMap as map_of
 use Rattle.resp_wire.specs.Response.{Response, Integer, BulkString, NullBulk, Array, SimpleString}
-use Rattle.score_bounds.specs.declared.bounds.Range.{Range}
-use Rattle.score_bounds.specs.Bounds.{is_in}
-use Rattle.score_bounds.specs.Scores.{is_score, score_text}
+use Rattle.score_bounds.specs.declared.ranges_and_cuts.Range.{Range}
+use Rattle.score_bounds.specs.RangesAndCuts.{is_in}
+use Rattle.score_bounds.specs.ScoreTexts.{is_score, score_text}
 use Rattle.zset_core.specs.SortedSet.{Members, Pair, listing}
 use Rattle.zset_core.specs.SetsByKey.{World, put_set, set_at}
 use Rattle.zset_core.specs.AbstractCommand.{Meaning, key_of, Ping, Asks, Changes, Question, Score, Card, Count, ListRange, Change, Add, Increase, Remove, RemoveRange}

@@ -3,21 +3,21 @@
 ghost use Rattle.std.specs.Prelude.{◌≡◌, ◌≢◌, IfOk, IfErr, Ok, Err};
 ghost use Rattle.std.specs.Option.{option_copied};
 ghost use Rattle.zset_core.specs.CommandGrammar.{asked};
-ghost use Rattle.zset_core.specs.ExpressibleWorld.{FitsRequest, IsBoundedMeaning};
+ghost use Rattle.zset_core.specs.WorldWithinRequestLimits.{FitsRequest, IsBoundedMeaning};
 ghost use Rattle.zset_core.specs.MeaningOfForm.{meaning_of, IsWhole};
 ghost use Rattle.zset_core.specs.AbstractCommand.{key_of, has_options, is_writing, is_creating, is_removing};
 ghost use Rattle.zset_core.specs.declared.refusal.Refusal.TheVariants as refusals;
 
 pub mod add;
-pub mod command_forms;
 pub mod given_pairs;
 pub mod limit;
 pub mod name;
 pub mod pair_outcome;
+pub mod parsed_arguments;
 pub mod range_commands;
 pub mod reading_by_name;
 
-use crate::command::command_forms::{ChangeForm, Form};
+use crate::command::parsed_arguments::{ChangeForm, Form};
 use crate::command::reading_by_name::{argument, read_form};
 use crate::refusal::Refusal;
 use resp_wire::Request;

@@ -6,19 +6,19 @@
 #![tactic(auto)]
 
 mod command;
-pub mod laws;
+mod memory_reserve;
 mod owner;
 mod query;
 mod refusal;
+pub mod refusal_and_listing_laws;
 mod score_and_count_replies;
 mod set;
-mod spare;
 
 pub use command::Command;
 pub use command::limit::Limit;
 pub use command::pair_outcome::{Flags, Outcome};
+pub use memory_reserve::{KEPT_BACK, Spare};
 pub use owner::OneOwner;
 pub use refusal::Refusal;
 pub use set::ZSet;
-pub use set::change_outline::Outline;
-pub use spare::{KEPT_BACK, Spare};
+pub use set::change_counts::Outline;

@@ -4,32 +4,32 @@ ghost use Rattle.std.specs.FinMap as map;
 ghost use Rattle.std.specs.Option.{option_copied};
 ghost use Rattle.resp_wire.specs.Response.{response_of};
 ghost use Rattle.zset_core.specs.AbstractCommand.{is_removing, is_writing, key_of};
-ghost use Rattle.zset_core.specs.ChangeOutline.{IsOutline};
+ghost use Rattle.zset_core.specs.ChangeCounts.{IsOutline};
 ghost use Rattle.zset_core.specs.Refusal.{IsRefused};
 ghost use Rattle.zset_core.specs.declared.refusal.Refusal.TheVariants.{NoMemory};
-ghost use Rattle.zset_core.specs.ExpressibleWorld.{IsBoundedWorld};
+ghost use Rattle.zset_core.specs.WorldWithinRequestLimits.{IsBoundedWorld};
 ghost use Rattle.zset_core.specs.SortedSet.{whole};
 ghost use Rattle.zset_core.specs.SetAndOwnerViews.{HasNoSet, IsPreparedAt, IsSetAt};
 ghost use Rattle.zset_core.specs.SetsByKey.{key_behind, put_set, set_at};
 ghost use Rattle.zset_core.specs.Semantics.{act};
 
 mod boxed_set;
-mod empty_set;
 mod keys_in_order;
+mod new_empty_set;
 mod prepare_and_commit;
 mod run;
 mod set_tree;
 mod take_first;
 
 use crate::command::Command;
+use crate::memory_reserve::Spare;
 use crate::owner::keys_in_order::{first_key, next_key, nth_key};
 use crate::owner::prepare_and_commit::{commit_at, drop_at, prepare_at};
 use crate::owner::run::run_at;
 use crate::owner::set_tree::SetTree;
 use crate::refusal::Refusal;
 use crate::set::ZSet;
-use crate::set::change_outline::Outline;
-use crate::spare::Spare;
+use crate::set::change_counts::Outline;
 use crack_kernel::Row;
 use resp_wire::Reply;
 use std::alloc::{AllocError, Allocator};
@@ -62,7 +62,7 @@ impl<H: BuildHasher, A: Allocator + Copy> Model for OneOwner<H, A> {
     ghost coded = { Prim.hlevel (codes, coded_members, coded_world) };
 
     ghost use Rattle.zset_core.specs.OwnerViewAndInvariant.{owner_view, IsOwned};
-    ghost use Rattle.zset_core.specs.ExpressibleWorld.{IsBoundedOwner};
+    ghost use Rattle.zset_core.specs.WorldWithinRequestLimits.{IsBoundedOwner};
 
     ghost view = { λ o. owner_view o.sets.entries o.asked };
 

@@ -1,6 +1,6 @@
 //! Commands that change nothing: their answers, and the listings that some of them ask for.
 
-pub mod answer;
+pub mod answering_by_form;
 pub mod least_pairs;
 pub mod listing;
 pub mod missing_key_reply;

@@ -1,7 +1,7 @@
 //! Replies with scores and counts.
 ghost use Rattle.std.specs.Prelude.{◌≡◌, ◌<◌, ◌^◌, pos, IfOk};
 ghost use Rattle.resp_wire.specs.Response.{response_of, Integer};
-ghost use Rattle.score_bounds.specs.Scores.{score_text};
+ghost use Rattle.score_bounds.specs.ScoreTexts.{score_text};
 ghost use Rattle.zset_core.specs.Semantics.{increase_reply, score_reply};
 
 use crate::command::pair_outcome::Outcome;
@@ -10,7 +10,7 @@ use resp_wire::{Bytes, Reply};
 use std::alloc::{AllocError, Allocator};
 
 /// The text of a score. It is short enough to take no memory.
-#[tactic(auto, unfolding(score_bounds::specs::Scores::score_text))]
+#[tactic(auto, unfolding(score_bounds::specs::ScoreTexts::score_text))]
 pub fn score_bytes<A: Allocator + Copy>(alloc: A, score: i64) -> Result<Bytes<A>, AllocError>
     ensures { IfOk result (λ bytes. bytes ≡ score_text score) }
 {

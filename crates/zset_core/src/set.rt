@@ -6,7 +6,7 @@ ghost use Rattle.zset_core.specs.MembersWithStagedScores.{current_score, slot_at
 ghost use Rattle.zset_core.specs.SetViewAndInvariant.{kept_of};
 ghost use Rattle.zset_core.specs.AbstractCommand.{is_writing, range_to_remove};
 ghost use Rattle.zset_core.specs.MovedMembers.{prepared_effect};
-ghost use Rattle.zset_core.specs.ChangeOutline.{IsOutline};
+ghost use Rattle.zset_core.specs.ChangeCounts.{IsOutline};
 ghost use Rattle.zset_core.specs.Refusal.{IsRefused};
 ghost use Rattle.ripple_column.specs.Content.{Holds};
 ghost use Rattle.ripple_column.specs.RangeEffects.{TakesOut};
@@ -17,24 +17,24 @@ ghost use Rattle.zset_core.specs.Semantics.{step};
 ghost use Rattle.zset_core.specs.SetAndOwnerViews.{IsPreparedFor};
 ghost use Rattle.resp_wire.specs.Response.{response_of};
 
-pub mod change_effect;
-pub mod change_outline;
+pub mod change_counts;
 pub mod commit;
 pub mod draft;
 pub mod member_removal;
 pub mod members_with_staged_scores;
+pub mod moved_members;
 pub mod place_filter;
 pub mod plan;
 pub mod range_removal;
 pub mod row_edits;
 
 use crate::command::Command;
-use crate::command::command_forms::Form;
+use crate::command::parsed_arguments::Form;
 use crate::refusal::Refusal;
-use crate::set::change_effect::effect_entry;
-use crate::set::change_outline::Outline;
+use crate::set::change_counts::Outline;
 use crate::set::commit::{apply_plan, discard};
 use crate::set::members_with_staged_scores::MemberMap;
+use crate::set::moved_members::effect_entry;
 use crate::set::plan::{Plan, make_plan};
 use indexmap::IndexMap;
 use resp_wire::Reply;

@@ -1,11 +1,11 @@
 //! What a worker thread does with its connections.
 
 ghost use Rattle.std.specs.Prelude.{◌≡◌, ◌+◌, ◌<◌, ◌^◌, [], IfOk};
-ghost use Rattle.set_table.specs.WorkerPasses.{IsPassOf};
+ghost use Rattle.set_table.specs.TableAndPassViews.{IsPassOf};
 ghost use Rattle.program_runs.specs.WorkerRequests.{Attends};
-ghost use Rattle.program_runs.specs.WorkerTurnLaws.{attends_itself, attends_on};
+ghost use Rattle.program_runs.specs.WorkerRequestsCompose.{attends_itself, attends_on};
 
-use crate::server::settling::Settling;
+use crate::server::settle_by_group_commit::Settling;
 use append_log::{LogSink, SyncHandle, Syncer};
 use connections::{Connections, Ringer, Watched};
 use hand_over::{Bell, Handler};

@@ -3,7 +3,7 @@
 ghost use Rattle.std.specs.Prelude.{◌≡◌, ◌++◌, decimal, OnOk, IfOk};
 ghost use Rattle.program_runs.specs.DeviceStates.{drain_state};
 ghost use Rattle.program_runs.specs.ServerRun as server;
-ghost use Rattle.program_runs.specs.ExitStatus.{IsPrinted};
+ghost use Rattle.program_runs.specs.ExitStatusAndLines.{IsPrinted};
 ghost use Rattle.program_runs.specs.ServerRun.{totals_text};
 
 use crate::exit_lines::{Finish, Line};

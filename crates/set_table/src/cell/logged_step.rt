@@ -4,10 +4,10 @@ ghost use Rattle.std.specs.Prelude.{◌≡◌, ◌≢◌, None, false, IfSome, I
 ghost use Rattle.resp_wire.specs.Response.{response_of};
 ghost use Rattle.zset_core.specs.AbstractCommand.{key_of, is_writing};
 ghost use Rattle.zset_core.specs.SetAndOwnerViews.{IsPreparedFor};
-ghost use Rattle.append_log.specs.Log.{share_after};
+ghost use Rattle.append_log.specs.LogViewAndSteps.{share_after};
 ghost use Rattle.set_table.specs.LoggedStep.{IsAppendRefusal, IsHindered, IsLogged, SetStepped};
 
-use crate::member_counts::OwnCounts;
+use crate::member_change_counts::OwnCounts;
 use append_log::{Log, LogSink, Record, RecordShare};
 use resp_wire::Reply;
 use std::alloc::{AllocError, Allocator};

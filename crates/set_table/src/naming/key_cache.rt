@@ -1,7 +1,7 @@
 //! Where a pass met keys: by a key's hash, so that one that was met is found without its walk.
 
 ghost use Rattle.std.specs.Prelude.{◌≡◌, ◌*◌, ◌<◌, ◌^◌, ◌⊎◌, ℕ, length, IfOk, IfSome};
-ghost use Rattle.set_table.specs.KeyCache.{Says, AllMet};
+ghost use Rattle.set_table.specs.LookupCaches.{Says, AllMet};
 ghost use Rattle.set_table.specs.Naming.{Naming as NamingType};
 
 use std::alloc::{AllocError, Global};

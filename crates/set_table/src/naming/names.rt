@@ -5,14 +5,14 @@ ghost use Rattle.std.proofs.Math.ListN.{get_or};
 ghost use Rattle.once_cell.specs.Once.{cell_name, Agrees};
 ghost use Rattle.set_table.specs.Naming.{AreNotesOf, NamingGrows, IsPlace, IsUnclaimed, Learns, hash_from, name_at_place, walk};
 
-mod agreement;
+mod gathering_known_names;
 
 use crate::limits::MAX_PLACES;
+use crate::naming::hashed_key::{Name, hash};
 use crate::naming::key_cache::{KeyCache, mixed_hash};
-use crate::naming::knowledge::Knowledge;
-use crate::naming::name::{Name, hash};
-use crate::naming::name_hashes::NameHashes;
-use crate::naming::notes::{Notes, PlaceNote};
+use crate::naming::known_place_names::{Notes, PlaceNote};
+use crate::naming::met_name_hashes::NameHashes;
+use crate::naming::pass_lookup_state::Knowledge;
 use once_cell::race::{Note, OnceBox};
 use std::alloc::{AllocError, Global};
 use std::marker::Model;

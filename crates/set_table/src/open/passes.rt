@@ -3,9 +3,9 @@
 ghost use Rattle.std.specs.Prelude.{◌≡◌, ◌<◌, ℕ, length, IfOk};
 ghost use Rattle.set_table.specs.Opening.{AreNewShares, IsNewPass, pass_at};
 
-use crate::naming::knowledge::Knowledge;
-use crate::pass::Pass;
-use crate::shares::Shares;
+use crate::naming::pass_lookup_state::Knowledge;
+use crate::pass_tally_at_place::Shares;
+use crate::worker_pass::Pass;
 use std::alloc::{AllocError, Global};
 use std::cell::Cell;
 use zset_core::Spare;

@@ -6,8 +6,8 @@ ghost use Rattle.set_table.specs.Naming.{AreNotesOf};
 ghost use Rattle.set_table.specs.Opening.{AllHavePlaces, AreEmptySets, AreIdleSets, cards_of, members_of, sum_of_numbers};
 
 use crate::limits::MAX_PLACES;
-use crate::naming::knowledge::Knowledge;
 use crate::naming::names::Names;
+use crate::naming::pass_lookup_state::Knowledge;
 use std::alloc::{AllocError, Global};
 use std::hash::BuildHasher;
 use zset_core::{OneOwner, ZSet};

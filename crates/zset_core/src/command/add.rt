@@ -8,9 +8,9 @@ ghost use Rattle.zset_core.specs.ReadingMatchesGrammar.{AreAddParts, AreScores, 
 ghost use Rattle.zset_core.specs.declared.command.name.CommandName.TheVariants as names;
 ghost use Rattle.zset_core.specs.declared.refusal.Refusal.TheVariants as refusals;
 
-use crate::command::command_forms::{ChangeForm, Form};
 use crate::command::name::is_named;
 use crate::command::pair_outcome::Flags;
+use crate::command::parsed_arguments::{ChangeForm, Form};
 use crate::command::reading_by_name::{argument, behind};
 use crate::refusal::Refusal;
 use resp_wire::Bytes;

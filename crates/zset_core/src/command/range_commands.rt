@@ -5,9 +5,9 @@ ghost use Rattle.zset_core.specs.CommandGrammar.{asked_range, command_conditions
 ghost use Rattle.zset_core.specs.ReadingMatchesGrammar.{IsReading, choice_after, no_choice};
 ghost use Rattle.zset_core.specs.declared.command.name.CommandName.TheVariants as names;
 
-use crate::command::command_forms::{ChangeForm, Form, QuestionForm};
 use crate::command::limit::Limit;
 use crate::command::name::is_named;
+use crate::command::parsed_arguments::{ChangeForm, Form, QuestionForm};
 use crate::command::reading_by_name::{argument, behind};
 use crate::refusal::Refusal;
 use resp_wire::Bytes;

@@ -7,8 +7,8 @@ ghost use Rattle.zset_core.specs.MeaningOfForm.{word_at};
 ghost use Rattle.zset_core.specs.ReadingMatchesGrammar.{IsReading};
 
 use crate::command::add::read_add;
-use crate::command::command_forms::{ChangeForm, Form, QuestionForm};
 use crate::command::name::CommandName;
+use crate::command::parsed_arguments::{ChangeForm, Form, QuestionForm};
 use crate::command::range_commands::{read_count, read_list_range, read_remove_range};
 use crate::refusal::Refusal;
 use resp_wire::Bytes;

@@ -3,7 +3,7 @@ ghost use Rattle.std.specs.Prelude.{◌≡◌, ◌<◌, ◌^◌, None, Some, IfO
 ghost use Rattle.std.specs.FinMap as map;
 ghost use Rattle.resp_wire.specs.Response.{response_of};
 ghost use Rattle.zset_core.specs.AbstractCommand.{is_writing, key_of};
-ghost use Rattle.zset_core.specs.ChangeOutline.{IsOutline};
+ghost use Rattle.zset_core.specs.ChangeCounts.{IsOutline};
 ghost use Rattle.zset_core.specs.Refusal.{IsRefused};
 ghost use Rattle.zset_core.specs.Semantics.{step};
 ghost use Rattle.zset_core.specs.SetAndOwnerViews.{IsPreparedFor, RunsOn};
@@ -12,7 +12,7 @@ use crate::command::Command;
 use crate::owner::run::run_set;
 use crate::refusal::Refusal;
 use crate::set::ZSet;
-use crate::set::change_outline::Outline;
+use crate::set::change_counts::Outline;
 use resp_wire::Reply;
 use std::alloc::{AllocError, Allocator};
 use std::hash::BuildHasher;

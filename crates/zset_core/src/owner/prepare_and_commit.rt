@@ -6,11 +6,11 @@ ghost use Rattle.zset_core.specs.OwnerViewAndInvariant.{world_of, set_in, next_a
 ghost use Rattle.zset_core.specs.SetsByKey.{put_set};
 
 use crate::command::Command;
+use crate::memory_reserve::Spare;
 use crate::owner::set_tree::{SetTree, insert_set};
 use crate::refusal::Refusal;
 use crate::set::ZSet;
-use crate::set::change_outline::Outline;
-use crate::spare::Spare;
+use crate::set::change_counts::Outline;
 use resp_wire::Reply;
 use std::alloc::Allocator;
 use std::hash::BuildHasher;

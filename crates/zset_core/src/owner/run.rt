@@ -5,10 +5,10 @@ ghost use Rattle.zset_core.specs.OwnerViewAndInvariant.{set_in, AllRest, RunsAt}
 ghost use Rattle.zset_core.specs.SetAndOwnerViews.{RunsOn};
 
 use crate::command::Command;
+use crate::memory_reserve::Spare;
 use crate::owner::set_tree::{SetTree, insert_set};
 use crate::refusal::Refusal;
 use crate::set::ZSet;
-use crate::spare::Spare;
 use resp_wire::Reply;
 use std::alloc::Allocator;
 use std::hash::BuildHasher;

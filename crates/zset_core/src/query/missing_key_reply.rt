@@ -8,7 +8,7 @@ ghost use Rattle.zset_core.specs.MeaningOfForm.{question_of, change_of};
 ghost use Rattle.zset_core.specs.Semantics.{answer, changed_by, step};
 
 use crate::command::Command;
-use crate::command::command_forms::{ChangeForm, Form, QuestionForm};
+use crate::command::parsed_arguments::{ChangeForm, Form, QuestionForm};
 use crate::query::ping::pong;
 use resp_wire::{BytesList, Reply};
 use std::alloc::{AllocError, Allocator};

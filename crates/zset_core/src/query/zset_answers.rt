@@ -9,8 +9,8 @@ ghost use Rattle.zset_core.specs.Semantics.{step};
 ghost use Rattle.resp_wire.specs.Response.{response_of};
 
 use crate::command::Command;
-use crate::command::command_forms::Form;
-use crate::query::answer::{answer_from, ready_from};
+use crate::command::parsed_arguments::Form;
+use crate::query::answering_by_form::{answer_from, ready_from};
 use crate::query::listing::all_rows;
 use crate::set::ZSet;
 use crack_kernel::Row;

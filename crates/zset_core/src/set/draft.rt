@@ -1,7 +1,7 @@
 //! A change of a set in the making: new members go last among the entries, and new scores wait in
 //! their slots.
 ghost use Rattle.std.specs.Prelude.{◌≡◌, ℕ, ◌<◌, ◌≤◌, ◌+◌, ◌^◌, ◌++◌, ◌∷◌, true, None, Some, [], length, slice_get, take, List, OnOk, IfOk};
-ghost use Rattle.zset_core.specs.NotedNames.{IsLed, mention, mentions, noted_places};
+ghost use Rattle.zset_core.specs.NamesTouchedByPlan.{IsLed, mention, mentions, noted_places};
 ghost use Rattle.std.specs.FinMap as map;
 ghost use Rattle.zset_core.specs.declared.set.members_with_staged_scores.ScoreSlot.{ScoreSlot as SlotType};
 ghost use Rattle.zset_core.specs.Semantics.{outcome_of, counted, put_one, put_all, count_all};

@@ -9,14 +9,14 @@ ghost use Rattle.ripple_column.specs.Content.{Holds};
 ghost use Rattle.zset_core.specs.Semantics.{remove_all};
 ghost use Rattle.zset_core.specs.MembersWithStagedScores.{current_score, members_by, name_at, names_at, ScoresAreSettled, IsWithin};
 ghost use Rattle.zset_core.specs.MovedMembers.{moved_names};
-ghost use Rattle.zset_core.specs.FoundPlaces.{AreFoundPlaces};
-ghost use Rattle.zset_core.specs.NotedNames.{noted};
+ghost use Rattle.zset_core.specs.RemovedMemberPlaces.{AreFoundPlaces};
+ghost use Rattle.zset_core.specs.NamesTouchedByPlan.{noted};
 ghost use Rattle.zset_core.specs.Plan.{MovesTo, NeedsAtMost, Prepares};
 ghost use Rattle.zset_core.specs.RowEdits.{most_edits};
 ghost use Rattle.zset_core.specs.SortedSet.{pairs};
 
 use crate::score_and_count_replies::count_reply;
-use crate::set::change_outline::Outline;
+use crate::set::change_counts::Outline;
 use crate::set::draft::Draft;
 use crate::set::members_with_staged_scores::{MemberMap, find_slot};
 use crate::set::plan::Plan;

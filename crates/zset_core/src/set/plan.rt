@@ -16,12 +16,12 @@ ghost use Rattle.zset_core.specs.Plan.{NeedsAtMost, Prepares, Plans, Moves, Move
 ghost use Rattle.zset_core.specs.SetViewAndInvariant.{HasRoomForPlan, IsReadyForPlan};
 ghost use Rattle.zset_core.specs.Refusal.{IsRefused};
 
-use crate::command::command_forms::ChangeForm;
 use crate::command::given_pairs::GivenPairs;
 use crate::command::pair_outcome::{Flags, Outcome, sum};
+use crate::command::parsed_arguments::ChangeForm;
 use crate::refusal::Refusal;
 use crate::score_and_count_replies::increase_reply;
-use crate::set::change_outline::{Outline, outline_staged};
+use crate::set::change_counts::{Outline, outline_staged};
 use crate::set::commit::discard;
 use crate::set::draft::Draft;
 use crate::set::member_removal::plan_remove;

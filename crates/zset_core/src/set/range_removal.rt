@@ -2,7 +2,7 @@
 //! way: the column's rows in the range tell which leave.
 ghost use Rattle.std.specs.Prelude.{◌≡◌, [], Some, pos, length, IfOk, IfSome, OnOk, OnErr};
 ghost use Rattle.resp_wire.specs.Response.{Integer};
-ghost use Rattle.score_bounds.specs.Bounds.{is_in};
+ghost use Rattle.score_bounds.specs.RangesAndCuts.{is_in};
 ghost use Rattle.ripple_column.specs.Content.{Holds, IsUnchanged, SameContent};
 ghost use Rattle.ripple_column.specs.RangeEffects.{Selects, TakesOut};
 ghost use Rattle.zset_core.specs.MembersWithStagedScores.{current_score, members_by, ScoresAreSettled};
@@ -12,7 +12,7 @@ ghost use Rattle.zset_core.specs.SetViewAndInvariant.{RangeStandsIn};
 ghost use Rattle.zset_core.specs.SortedSet.{listing, pairs};
 
 use crate::score_and_count_replies::count_reply;
-use crate::set::change_outline::Outline;
+use crate::set::change_counts::Outline;
 use crate::set::draft::Draft;
 use crate::set::members_with_staged_scores::{MemberMap, take_out_rows};
 use crate::set::plan::{LeavingRange, Plan};

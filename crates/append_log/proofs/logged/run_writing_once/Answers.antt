@@ -6,7 +6,7 @@ use Rattle.zset_core.specs.SetsByKey.{World, put_set, set_at}
 use Rattle.resp_wire.specs.RequestEncoding.{request}
 use Rattle.resp_wire.specs.Response.{response_of}
 use Rattle.append_log.specs.EffectRecords.{change_record, prepared_record, record_made, record_of_owner_next}
-use Rattle.append_log.specs.Log.{Appends}
+use Rattle.append_log.specs.LogViewAndSteps.{Appends}
 use Rattle.append_log.specs.LoggedOwner.{NotRecorded}
 use Rattle.append_log.specs.Records.{Record}
 use Rattle.append_log.specs.Replay.{after}

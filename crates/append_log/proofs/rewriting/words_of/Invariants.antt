@@ -1,7 +1,7 @@
 use Rattle.std.proofs.Common.{◌≡◌, [], ◌∷◌, take}
 use Rattle.std.specs.Prelude.{codes}
 use Rattle.std.specs.List.{flat_map}
-use Rattle.score_bounds.specs.Scores.{score_text}
+use Rattle.score_bounds.specs.ScoreTexts.{score_text}
 use Rattle.append_log.proofs.rewriting.words_of.Given as goal
 
 abbrev pub invariant-loop-row : goal.invariant-loop-row

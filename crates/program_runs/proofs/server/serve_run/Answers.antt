@@ -1,5 +1,5 @@
 use Rattle.std.proofs.Common.{rules, refl, inr, ◌∙◌, ap}
-use Rattle.program_runs.specs.ExitStatus.{finish_by}
+use Rattle.program_runs.specs.ExitStatusAndLines.{finish_by}
 use Rattle.program_runs.specs.ServerRun as server
 use Rattle.program_runs.proofs.ServerLemmas.{own_all, are_numbered, not_handed_over}
 use Rattle.program_runs.proofs.server.serve_run.Goals as goal

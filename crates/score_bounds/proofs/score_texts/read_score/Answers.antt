@@ -1,6 +1,6 @@
 use Rattle.std.proofs.Common.{◌≡◌, ◌∙◌, ◌+◌, sym, ap, true, false, drop}
 use Rattle.std.proofs.lemmas.Bool.{cond-true, cond-false}
-use Rattle.score_bounds.specs.Scores.{is_zeros}
+use Rattle.score_bounds.specs.ScoreTexts.{is_zeros}
 use Rattle.score_bounds.proofs.Points.{score_value-no_point, score_value-point, rest_whole}
 use Rattle.score_bounds.proofs.score_texts.read_score.Goals as goal
 

@@ -2,7 +2,7 @@ use Rattle.std.proofs.Common.{◌≡◌, ◌≤◌, ◌+◌, ◌*◌, ◌-◌, �
 use Rattle.std.specs.Prelude.{min}
 use Rattle.std.specs.Io.KnownBytes.{append_known}
 use Rattle.session_core.specs.ServeSteps.{SessionUnderway}
-use Rattle.session_core.specs.DeferredSession.{TalkBetweenSyncs}
+use Rattle.session_core.specs.ExchangesBetweenSyncs.{TalkBetweenSyncs}
 use Rattle.session_core.proofs.deferred.serve_deferred.Given as goal
 
 abbrev pub invariant-reads : goal.invariant-reads

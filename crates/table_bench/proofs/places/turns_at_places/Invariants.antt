@@ -1,4 +1,4 @@
-use Rattle.set_table.specs.WorkerPasses.{IsPassOf}
+use Rattle.set_table.specs.TableAndPassViews.{IsPassOf}
 use Rattle.table_bench.proofs.places.turns_at_places.Given as goal
 
 abbrev pub invariant-loop : goal.invariant-loop

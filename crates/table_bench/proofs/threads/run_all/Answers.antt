@@ -3,7 +3,7 @@ use denote.Param.Send.{sendable}
 use Rattle.std.proofs.Common.{◌≡◌, sym, subst, ◌∙◌}
 use Rattle.std.proofs.lemmas.List.{get_or_default}
 use Rattle.set_table.specs.Opening.{no_pass}
-use Rattle.set_table.specs.WorkerPasses.{PassView, IsPassOf}
+use Rattle.set_table.specs.TableAndPassViews.{PassView, IsPassOf}
 use Rattle.set_table.proofs.ThreadCrossing.{table_shared, pass_sent, command_shared}
 use Rattle.table_bench.proofs.commands.Lists.TheSendSync as lists
 use Rattle.table_bench.proofs.threads.Work.TheSendSync as work

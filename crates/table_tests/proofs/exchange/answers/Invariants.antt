@@ -1,4 +1,4 @@
-use Rattle.set_table.specs.WorkerPasses.{IsPassOf}
+use Rattle.set_table.specs.TableAndPassViews.{IsPassOf}
 use Rattle.table_tests.proofs.exchange.answers.Given as goal
 
 abbrev pub invariant-loop-text : goal.invariant-loop-text

@@ -1,4 +1,4 @@
-use Rattle.set_table.specs.WorkerPasses.{IsPassOf}
+use Rattle.set_table.specs.TableAndPassViews.{IsPassOf}
 use Rattle.table_tests.proofs.runs.answered.Given as goal
 
 abbrev pub invariant-loop-time : goal.invariant-loop-time

@@ -1,4 +1,4 @@
-use Rattle.set_table.specs.WorkerPasses.{IsPassOf}
+use Rattle.set_table.specs.TableAndPassViews.{IsPassOf}
 use Rattle.table_tests.proofs.workers.told_on.Given as goal
 
 abbrev pub invariant-loop-key : goal.invariant-loop-key

@@ -1,5 +1,5 @@
 use Rattle.std.proofs.Common.{ap, ◌∙◌}
-use Rattle.append_log.specs.Log.{LogView}
+use Rattle.append_log.specs.LogViewAndSteps.{LogView}
 use Rattle.append_log.proofs.LogInvariant.{is_log_new}
 use Rattle.append_log.proofs.log.Log.deferred.Goals as goal
 

@@ -1,5 +1,5 @@
 use Rattle.std.proofs.Common.{◌≡◌, refl, rules, true}
-use Rattle.append_log.specs.Log.{LogView}
+use Rattle.append_log.specs.LogViewAndSteps.{LogView}
 use Rattle.append_log.proofs.LogInvariant.{is_log_unsettled, has_unsettled}
 use Rattle.append_log.proofs.log.Log.sync.Goals as goal
 

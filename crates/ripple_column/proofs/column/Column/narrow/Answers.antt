@@ -1,6 +1,6 @@
 use Rattle.std.proofs.Common.{◌≡◌, ◌∙◌, sym, subst, refl, ◌≤ℤ◌, List, ℤ, ℕ, length, arith}
 use Rattle.std.proofs.lemmas.List.Sorted.{All-permutation, IsPermutation-trans, length_permutation}
-use Rattle.score_bounds.specs.Scores.{greatest}
+use Rattle.score_bounds.specs.ScoreTexts.{greatest}
 use Rattle.ripple_column.specs.RangeAnswer.{IsAnswer}
 use Rattle.ripple_column.specs.RangeEffects.{Narrows}
 use Rattle.ripple_column.specs.Content.{ColumnState}

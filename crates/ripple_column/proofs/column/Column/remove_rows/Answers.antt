@@ -1,5 +1,5 @@
 use Rattle.std.proofs.Common.{ℕ, sym, subst, refl}
-use Rattle.score_bounds.specs.declared.bounds.Range.{Range}
+use Rattle.score_bounds.specs.declared.ranges_and_cuts.Range.{Range}
 use Rattle.ripple_column.specs.Content.{ColumnState}
 use Rattle.ripple_column.specs.ColumnViewAndInvariant.{ColumnViewAndInvariant, state}
 use Rattle.ripple_column.specs.RangeAnswer.{HoldsRange, IsAnswer}

@@ -1,5 +1,5 @@
 use Rattle.std.proofs.Common.{sym, subst}
-use Rattle.score_bounds.specs.declared.bounds.Range.{Range}
+use Rattle.score_bounds.specs.declared.ranges_and_cuts.Range.{Range}
 use Rattle.ripple_column.specs.Content.{NoneIn, has_score_in}
 use Rattle.ripple_column.proofs.Counts.{count_none}
 use Rattle.ripple_column.proofs.Spans.{none_in}

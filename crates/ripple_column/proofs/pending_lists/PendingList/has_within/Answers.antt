@@ -1,6 +1,6 @@
 use Rattle.std.proofs.Common.{sym, subst}
 use Rattle.std.proofs.lemmas.List.Folds.{list_any_none}
-use Rattle.score_bounds.specs.declared.bounds.Range.{Range}
+use Rattle.score_bounds.specs.declared.ranges_and_cuts.Range.{Range}
 use Rattle.ripple_column.specs.Content.{NoneIn, has_score_in}
 use Rattle.ripple_column.proofs.Spans.{none_in}
 use Rattle.ripple_column.proofs.pending_lists.PendingList.has_within.Goals as goal

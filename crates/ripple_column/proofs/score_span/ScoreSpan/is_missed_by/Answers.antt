@@ -1,6 +1,6 @@
 use Rattle.std.proofs.Common.{◌≡◌, ◌||◌, ◌≤ℤ◌, ◌↔◌, ℤ, false, int_lt, IsTrue, arith, rules, w64, SFits, to_z-of_z}
 use Rattle.std.proofs.lemmas.Int.{ints}
-use Rattle.score_bounds.specs.Bounds.{is_in}
+use Rattle.score_bounds.specs.RangesAndCuts.{is_in}
 use Rattle.ripple_column.proofs.score_span.ScoreSpan.is_missed_by.Goals as goal
 
 not_below : (least greatest s : ℤ) → (int_lt s least || int_lt greatest s) ≡ false → least ≤ℤ s

@@ -1,6 +1,6 @@
 use Rattle.std.proofs.Common.{◌≡◌, ◌∙◌, sym, subst, ap, rules, Some, IfOk}
 use Rattle.resp_wire.specs.Response.{response_of}
-use Rattle.set_table.specs.CellStates.{CellView, counts_of}
+use Rattle.set_table.specs.CellViewAndRuns.{CellView, counts_of}
 use Rattle.set_table.proofs.StepLemmas.{read_step}
 use Rattle.zset_core.specs.Semantics.{step}
 use Rattle.set_table.proofs.TallyLemmas.{lawful, has_read}

@@ -1,8 +1,8 @@
 use Rattle.std.proofs.Common.{◌<◌, ◌∙◌, sym, ap, arith, rules}
 use Rattle.resp_wire.specs.Response.{response_of}
-use Rattle.set_table.specs.declared.member_counts.Tally.{Tally}
+use Rattle.set_table.specs.declared.member_change_counts.Tally.{Tally}
 use Rattle.set_table.specs.PassTallies.{runs_of}
-use Rattle.set_table.specs.CellStates.{CellView, counts_of}
+use Rattle.set_table.specs.CellViewAndRuns.{CellView, counts_of}
 use Rattle.set_table.proofs.TallyLemmas.{lawful, ran_as, ran_by, kept_whole}
 use Rattle.set_table.proofs.cell.Cell.run.Goals as goal
 

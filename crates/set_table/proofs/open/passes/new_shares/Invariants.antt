@@ -1,5 +1,5 @@
 use Rattle.std.proofs.Common.{◌≡◌, ℕ, ◌<◌, length, get_or}
-use Rattle.set_table.specs.WorkerPasses.{no_share}
+use Rattle.set_table.specs.TableAndPassViews.{no_share}
 use Rattle.set_table.specs.PassTallies.{empty_tally}
 use Rattle.set_table.proofs.open.passes.new_shares.Given as goal
 

@@ -1,6 +1,6 @@
 use Rattle.std.proofs.Common.{◌≡◌, ◌∙◌, ℕ, List, ap, sym, subst, arith, rules, length, inl, inr}
-use Rattle.set_table.specs.WorkerPasses.{PassView, TableView}
-use Rattle.set_table.specs.ClosingTotals.{AddsUp, AreOfCells, HasOtherCell, IsOutOfStep}
+use Rattle.set_table.specs.TableAndPassViews.{PassView, TableView}
+use Rattle.set_table.specs.ClosingAudit.{AddsUp, AreOfCells, HasOtherCell, IsOutOfStep}
 use Rattle.set_table.specs.ClosingSteps.{HaveShares}
 use Rattle.set_table.proofs.ClosingLemmas.{IfNone-any}
 use Rattle.set_table.proofs.table.Table.add_up.Goals as goal

@@ -1,9 +1,9 @@
 use Rattle.std.proofs.Common.{◌≡◌, ◌<◌, ◌∙◌, ℕ, List, ap, sym, subst, refl, rules, length}
 use Rattle.std.specs.List.Sorted.{IsPermutation}
 use Rattle.set_table.specs.Naming.{AreNotesOf}
-use Rattle.set_table.specs.WorkerPasses.{PassView, TableView}
-use Rattle.set_table.specs.ClosingTotals.{AgreeAt, AreNumbered, pass_at}
-use Rattle.set_table.specs.declared.table.close.CloseFault.TheVariants.{MissingPass, OutOfStep}
+use Rattle.set_table.specs.TableAndPassViews.{PassView, TableView}
+use Rattle.set_table.specs.ClosingAudit.{AgreeAt, AreNumbered, pass_at}
+use Rattle.set_table.specs.declared.table.closing_audit.CloseFault.TheVariants.{MissingPass, OutOfStep}
 use Rattle.set_table.proofs.ClosingLemmas.{cells_permuted, of_permuted, out_of_step_permuted}
 use Rattle.set_table.proofs.NameAgreement.{one_place}
 use Rattle.set_table.proofs.PassOrder.{have_shares}

@@ -1,5 +1,5 @@
 use Rattle.std.proofs.Common.{ap}
-use Rattle.set_table.specs.WorkerPasses.{PassView}
+use Rattle.set_table.specs.TableAndPassViews.{PassView}
 use Rattle.set_table.proofs.TallyLemmas.{if_read_by}
 use Rattle.set_table.proofs.table.Table.read_at.Goals as goal
 

@@ -1,5 +1,5 @@
 use Rattle.std.proofs.Common.{ap, refl}
-use Rattle.set_table.specs.WorkerPasses.{PassView}
+use Rattle.set_table.specs.TableAndPassViews.{PassView}
 use Rattle.set_table.proofs.TallyLemmas.{run_by}
 use Rattle.set_table.proofs.table.Table.run_at.Goals as goal
 

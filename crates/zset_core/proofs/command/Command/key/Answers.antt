@@ -1,5 +1,5 @@
 use Rattle.std.proofs.Common.{subst}
-use Rattle.zset_core.specs.ExpressibleWorld.{FitsRequest, IsBoundedMeaning}
+use Rattle.zset_core.specs.WorldWithinRequestLimits.{FitsRequest, IsBoundedMeaning}
 use Rattle.zset_core.specs.AbstractCommand.{Asked}
 use Rattle.zset_core.proofs.Bounds.{asked_bounded}
 use Rattle.zset_core.proofs.NamedArguments.{form_fits}

@@ -1,7 +1,7 @@
 use Rattle.std.proofs.Common.{rules, ◌≡◌, ◌≤◌, ◌+◌, ◌*◌, [], ◌∷◌, ◌++◌, length, sym, ap, ◌∙◌, arith, Some, None, refl, w64, FitsSigned}
 use Rattle.std.proofs.lemmas.Int.{to_z-of_z}
 use Rattle.std.proofs.lemmas.Grind.{common_steps}
-use Rattle.score_bounds.specs.Scores.{score_value}
+use Rattle.score_bounds.specs.ScoreTexts.{score_value}
 use Rattle.zset_core.specs.MeaningOfForm.{word_at}
 use Rattle.zset_core.proofs.Pairs.{pairs_step, drop_step, no_score, AreScores-end, two_left, length_step}
 use Rattle.zset_core.proofs.command.add.read_scores.Goals as goal

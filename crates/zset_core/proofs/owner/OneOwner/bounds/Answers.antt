@@ -1,5 +1,5 @@
 use Rattle.std.proofs.Common.{subst}
-use Rattle.zset_core.specs.ExpressibleWorld.{IsBoundedOwner}
+use Rattle.zset_core.specs.WorldWithinRequestLimits.{IsBoundedOwner}
 use Rattle.zset_core.proofs.owner.OneOwner.bounds.Goals as goal
 
 pub returns : goal.returns

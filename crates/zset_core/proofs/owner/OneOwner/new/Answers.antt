@@ -1,6 +1,6 @@
 use Rattle.std.proofs.Common.{ap, sym, subst, rules}
 use Rattle.zset_core.specs.OwnerViewAndInvariant.{world_of}
-use Rattle.zset_core.specs.ExpressibleWorld.{IsBoundedWorld}
+use Rattle.zset_core.specs.WorldWithinRequestLimits.{IsBoundedWorld}
 use Rattle.zset_core.proofs.Bounds.{no_sets_bounded}
 use Rattle.zset_core.proofs.owner.OneOwner.new.Goals as goal
 

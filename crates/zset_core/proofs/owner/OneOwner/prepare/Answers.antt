@@ -2,7 +2,7 @@ use Rattle.std.proofs.Common.{◌∙◌, sym, ap, subst, List, ℕ, Option, Some
 use Rattle.resp_wire.specs.RequestEncoding.{IsArgument}
 use Rattle.zset_core.specs.AbstractCommand.{Asked, key_of}
 use Rattle.zset_core.specs.OwnerViewAndInvariant.{world_of, next_at}
-use Rattle.zset_core.specs.ExpressibleWorld.{IsBoundedWorld}
+use Rattle.zset_core.specs.WorldWithinRequestLimits.{IsBoundedWorld}
 use Rattle.zset_core.proofs.Bounds.{IsBoundedNext, ready_bounded_at}
 use Rattle.zset_core.proofs.OwnerBounds.{world_bounded}
 use Rattle.zset_core.proofs.owner.OneOwner.prepare.Goals as goal

@@ -1,5 +1,5 @@
 use Rattle.std.proofs.Common.{arith, ◌∙◌, ap, sym, List, ℕ}
-use Rattle.zset_core.specs.NotedNames.{all_noted}
+use Rattle.zset_core.specs.NamesTouchedByPlan.{all_noted}
 use Rattle.zset_core.specs.MembersWithStagedScores.{current_score, members_by, names_at}
 use Rattle.zset_core.proofs.Naming.{drop_all, noted_all}
 use Rattle.std.proofs.lemmas.Grind.{common_steps}

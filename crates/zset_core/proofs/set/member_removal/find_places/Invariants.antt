@@ -1,10 +1,10 @@
 use Rattle.std.proofs.Common.{◌≡◌, ◌≤◌, ℕ, List, [], drop, length}
 use Rattle.std.specs.List.{list_any}
 use Rattle.std.specs.Str.{bytes_eq}
-use Rattle.zset_core.specs.NotedNames.{all_noted}
+use Rattle.zset_core.specs.NamesTouchedByPlan.{all_noted}
 use Rattle.zset_core.specs.Semantics.{remove_all}
 use Rattle.zset_core.specs.MembersWithStagedScores.{current_score, members_by, names_at, IsWithin}
-use Rattle.zset_core.specs.FoundPlaces.{AreFoundPlaces}
+use Rattle.zset_core.specs.RemovedMemberPlaces.{AreFoundPlaces}
 use Rattle.zset_core.proofs.set.member_removal.find_places.Given as goal
 
 abbrev pub invariant-loop-name : goal.invariant-loop-name

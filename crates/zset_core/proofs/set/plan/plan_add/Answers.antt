@@ -10,7 +10,7 @@ use Rattle.zset_core.proofs.Outlines.{outline_same, before, before_grown}
 use Rattle.zset_core.proofs.Staging.{members_same}
 use Rattle.zset_core.proofs.Bags.{NeedsAtMost-noted, Notes-same, Turns-between}
 use Rattle.zset_core.proofs.PairSteps.{count_all-few, length_scored}
-use Rattle.zset_core.specs.NotedNames.{mentions}
+use Rattle.zset_core.specs.NamesTouchedByPlan.{mentions}
 use Rattle.zset_core.proofs.Gathered.{IsLed-none, moved_between, noted_none}
 use Rattle.zset_core.proofs.Naming.{moved_mentions}
 use Rattle.zset_core.proofs.set.plan.plan_add.Goals as goal

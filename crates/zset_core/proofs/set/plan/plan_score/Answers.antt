@@ -10,7 +10,7 @@ use Rattle.zset_core.proofs.Outlines.{outline_same, before, before_grown}
 use Rattle.zset_core.proofs.Staging.{members_same}
 use Rattle.zset_core.proofs.Bags.{NeedsAtMost-noted, Notes-same, Turns-between}
 use Rattle.zset_core.proofs.PairSteps.{counted_one}
-use Rattle.zset_core.specs.NotedNames.{mention}
+use Rattle.zset_core.specs.NamesTouchedByPlan.{mention}
 use Rattle.zset_core.proofs.Gathered.{IsLed-none, moved_between, noted_none}
 use Rattle.zset_core.proofs.Naming.{moved_mention}
 use Rattle.zset_core.proofs.set.plan.plan_score.Goals as goal

@@ -1,6 +1,6 @@
 use Rattle.std.proofs.Common.{◌≡◌, ◌∙◌, sym, ap, arith, subst, List, ℕ, pos, length}
 use Rattle.std.specs.Prelude.{slice_range}
-use Rattle.score_bounds.specs.Bounds.{is_in}
+use Rattle.score_bounds.specs.RangesAndCuts.{is_in}
 use Rattle.resp_wire.specs.Response.{Integer}
 use Rattle.zset_core.specs.RowEdits.{Turns, most_edits}
 use Rattle.zset_core.specs.Semantics.{remove_all, without_range}

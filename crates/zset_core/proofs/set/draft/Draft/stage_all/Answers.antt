@@ -1,6 +1,6 @@
 use Rattle.std.proofs.Common.{◌∙◌, ◌+◌, ◌*◌, refl, sym, ap, rules, arith, ℤ, pos, drop, get_or, SFits, w64, to_z, of_z, to_z-of_z, true}
 use Rattle.zset_core.specs.MeaningOfForm.{scored}
-use Rattle.zset_core.specs.NotedNames.{noted_places}
+use Rattle.zset_core.specs.NamesTouchedByPlan.{noted_places}
 use Rattle.zset_core.specs.Semantics.{counted, count_all}
 use Rattle.zset_core.specs.MembersWithStagedScores.{staged_score, members_by, names_at}
 use Rattle.zset_core.proofs.PairSteps.{pairs_step, put_step, count_step, counted_one}

@@ -3,7 +3,7 @@ use Rattle.zset_core.specs.MeaningOfForm.{scored}
 use Rattle.zset_core.specs.MembersWithStagedScores.{staged_score, members_by, names_at, IsWaiting, Grows}
 use Rattle.zset_core.specs.Semantics.{put_all, count_all}
 use Rattle.zset_core.specs.RowEdits.{Notes}
-use Rattle.zset_core.specs.NotedNames.{IsLed, mentions, noted_places}
+use Rattle.zset_core.specs.NamesTouchedByPlan.{IsLed, mentions, noted_places}
 use Rattle.zset_core.proofs.set.draft.Draft.stage_all.Given as goal
 
 abbrev pub invariant-loop-index : goal.invariant-loop-index

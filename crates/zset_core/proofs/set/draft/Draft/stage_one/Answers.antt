@@ -1,7 +1,7 @@
 use Rattle.std.proofs.Common.{◌≡◌, ◌+◌, length, None, true, ◌∙◌, if◌then◌else◌, ◌∷◌, Some, Option, ◌++◌, [], refl, sym, ap, subst, rules, ℤ, ℕ, List, SFits, w64, to_z, of_z, to_z-of_z}
 use Rattle.zset_core.specs.RowEdits.{Notes}
 use Rattle.zset_core.specs.MembersWithStagedScores.{staged_score, members_by, name_at, names_at, IsWaiting}
-use Rattle.zset_core.specs.NotedNames.{IsLed, noted_places}
+use Rattle.zset_core.specs.NamesTouchedByPlan.{IsLed, noted_places}
 use Rattle.zset_core.specs.SortedSet.{Members}
 use Rattle.std.specs.FinMap as map
 use Rattle.zset_core.specs.Semantics.{counted, outcome_of, writes}

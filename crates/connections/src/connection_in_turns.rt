@@ -1,0 +1,400 @@
+//! One connection of many.
+
+ghost use Rattle.std.specs.Prelude.{◌≡◌, ◌≤◌, ◌<◌, ◌^◌, ◌⊎◌, false, length};
+ghost use Rattle.session_core.specs.Interleaved.{StateMoves};
+ghost use Rattle.connections.specs.declared.connection_in_turns.Next.TheVariants.{Ends, Settles};
+ghost use Rattle.connections.specs.declared.connection_in_turns.Stage.TheVariants.{Reads, Runs};
+ghost use Rattle.connections.specs.ConnectionTurnState.{VisitIsSound, IsTaken, GoesOn, WaitsForTold, visit_state, new_state};
+
+use crate::buffers::Buffers;
+use crate::replies::Replies;
+use crate::watch::Watched;
+use resp_wire::{ByteDrain, ByteSource, MAX_READS, PolledDrain, PolledSource};
+use session_core::{Ended, Exec, Session, SessionFault, takes_turns};
+use std::alloc::Allocator;
+use std::time::{Clock, Duration, Instant};
+
+/// How many requests of one connection are run before the others have their turn.
+pub const MOST_REQUESTS: u32 = 128;
+
+/// With so many bytes of replies that are on their way a connection's turn ends.
+pub const MOST_HELD: usize = 65_536;
+
+/// After so many milliseconds a connection's turn ends, with the requests up to the next look at the clock.
+pub const MOST_MILLIS: u64 = 1;
+
+/// The clock is looked at once for so many requests: it takes as long as a tenth of a short one.
+const REQUESTS_A_LOOK: u32 = 8;
+
+/// Whether the clock is looked at behind a turn's request of this number, counted from 0. It is behind the second one
+/// too, so that two that take long end their turn.
+fn is_followed_by_look(number: u32) -> bool {
+    number == 1 || number % REQUESTS_A_LOOK == 0
+}
+
+/// How far a visit is.
+#[derive(Clone, Copy, Debug, PartialEq, Eq)]
+pub enum Stage {
+    /// All requests that were read whole are answered.
+    Reads,
+    /// Requests that were read may be left to run.
+    Runs,
+    /// The session has ended. Replies may be left to send.
+    Ended(Result<Ended, SessionFault>),
+}
+
+/// What follows a turn.
+#[derive(Clone, Copy, Debug, PartialEq, Eq)]
+pub enum Next {
+    /// Nothing can be done before the device is ready again.
+    Waits,
+    /// More can be done at once.
+    Again,
+    /// Its replies wait until their records are settled.
+    Settles,
+    /// The connection has ended.
+    Ends,
+}
+
+/// A connection: its session, where its bytes come from, and its replies on their way.
+#[derive(Drop)]
+pub struct Visit<S, D, A: Allocator> {
+    session: Session<A>,
+    source: S,
+    replies: Replies<D, A>,
+    stage: Stage,
+    /// The number of the last record that the replies held may tell of, where they wait until it is settled. 0: they
+    /// wait for none.
+    awaited: u64,
+    /// How many pieces were read.
+    pieces: u64,
+    /// It is noted when the device becomes ready.
+    is_watched: bool,
+    /// The last read left nothing to read, and nothing was noted since.
+    is_drained: bool,
+    /// The peer sends no more.
+    is_closed: bool,
+    /// Bytes came or went since that was last asked.
+    has_moved: bool,
+    ghost sound: { VisitIsSound stage session.decoder session.progress pieces },
+}
+
+impl<S: PolledSource, D: PolledDrain, A: Allocator + Copy> Visit<S, D, A> {
+    /// A connection that was just accepted. It takes no memory. One that is not watched, so that
+    /// nobody notes when its device becomes ready, is always ready.
+    pub fn new(alloc: A, source: S, drain: D, is_watched: bool) -> Self
+        ensures awaited { result.awaited ≡ 0 }
+        ensures state { (visit_state result.stage (S.told result.source)
+            (⟦<Replies<D, A> as ByteDrain>⟧.told result.replies) result.session.decoder result.session.progress)
+            ≡ new_state (S.told source) (D.told drain) }
+    {
+        Visit {
+            session: Session::new(alloc),
+            source,
+            replies: Replies::new(alloc, drain),
+            stage: Stage::Reads,
+            awaited: 0,
+            pieces: 0,
+            is_watched,
+            is_drained: false,
+            is_closed: false,
+            has_moved: false,
+        }
+    }
+
+    /// Notes that the device became ready, and whether the peer sends no more.
+    pub fn note(&mut self, is_closed: bool)
+        ensures same { (visit_state self.new.stage (S.told self.new.source)
+            (⟦<Replies<D, A> as ByteDrain>⟧.told self.new.replies) self.new.session.decoder self.new.session.progress)
+            ≡ (visit_state self.old.stage (S.told self.old.source)
+            (⟦<Replies<D, A> as ByteDrain>⟧.told self.old.replies) self.old.session.decoder self.old.session.progress) }
+        ensures replies { self.new.replies ≡ self.old.replies }
+        ensures awaited { self.new.awaited ≡ self.old.awaited }
+    {
+        self.is_closed = self.is_closed || is_closed;
+        self.is_drained = false;
+    }
+
+    /// Has reads wait for bytes or no longer, as [`Watched::set_waiting`] says.
+    pub fn set_waiting(&self, waits: bool) -> bool
+    where
+        S: Watched,
+    {
+        self.source.set_waiting(waits)
+    }
+
+    /// Whether bytes came or went since this was last asked.
+    pub fn take_moved(&mut self) -> bool
+        ensures same { (visit_state self.new.stage (S.told self.new.source)
+            (⟦<Replies<D, A> as ByteDrain>⟧.told self.new.replies) self.new.session.decoder self.new.session.progress)
+            ≡ (visit_state self.old.stage (S.told self.old.source)
+            (⟦<Replies<D, A> as ByteDrain>⟧.told self.old.replies) self.old.session.decoder self.old.session.progress) }
+        ensures replies { self.new.replies ≡ self.old.replies }
+        ensures awaited { self.new.awaited ≡ self.old.awaited }
+    {
+        let moved = self.has_moved;
+        self.has_moved = false;
+        moved
+    }
+
+    /// Sends what is held. None where the drain failed.
+    fn send(&mut self) -> Option<bool>
+        ensures same { (visit_state self.new.stage (S.told self.new.source)
+            (⟦<Replies<D, A> as ByteDrain>⟧.told self.new.replies) self.new.session.decoder self.new.session.progress)
+            ≡ (visit_state self.old.stage (S.told self.old.source)
+            (⟦<Replies<D, A> as ByteDrain>⟧.told self.old.replies) self.old.session.decoder self.old.session.progress) }
+    {
+        let before = self.replies.len();
+        if before == 0 {
+            return Some(true);
+        }
+        let sent = self.replies.pump();
+        if self.replies.len() < before {
+            self.has_moved = true;
+        }
+        sent.ok()
+    }
+
+    /// Takes a piece that was read. Its requests are to be run, or the session has ended.
+    fn take_piece(&mut self, piece: &[u8])
+        requires stage { self.old.stage ≡ Reads }
+        requires pieces { self.old.pieces < 2 ^ 40 }
+        requires short { length piece.now ≤ 65536 }
+        ensures source { S.told self.new.source ≡ S.told self.old.source }
+        ensures drain { ⟦<Replies<D, A> as ByteDrain>⟧.told self.new.replies ≡ ⟦<Replies<D, A> as ByteDrain>⟧.told self.old.replies }
+        ensures taken { IsTaken piece.now self.new.stage self.old.session.decoder
+            self.new.session.decoder }
+        ensures progress { self.new.session.progress ≡ self.old.session.progress }
+    {
+        self.pieces += 1;
+        self.has_moved = true;
+        match self.session.feed(piece) {
+            Ok(()) => self.stage = Stage::Runs,
+            Err(end) => self.stage = Stage::Ended(Err(end)),
+        }
+    }
+
+    /// Reads once. What is read is to be run, or the session has ended.
+    fn read<R, E: Exec<R, A>>(&mut self, buffer: &mut [u8], exec: &E)
+        requires reads { self.old.stage ≡ Reads }
+        requires buffer { (1 ≤ length buffer.old) × (length buffer.old ≤ 65536) }
+        ensures goes_on { GoesOn E.allows (visit_state self.old.stage (S.told self.old.source)
+            (⟦<Replies<D, A> as ByteDrain>⟧.told self.old.replies) self.old.session.decoder self.old.session.progress) exec.now (visit_state self.new.stage (S.told self.new.source)
+            (⟦<Replies<D, A> as ByteDrain>⟧.told self.new.replies) self.new.session.decoder self.new.session.progress) exec.now }
+        ensures buffer { length buffer.new ≡ length buffer.old }
+    {
+        takes_turns::<R, A, E>();
+        let _exec = exec;
+        if self.pieces >= MAX_READS {
+            self.stage = Stage::Ended(Err(SessionFault::TooManyReads));
+            return;
+        }
+        match self.source.read_now(buffer) {
+            Err(_) => self.stage = Stage::Ended(Err(SessionFault::ReadFault)),
+            Ok(read) => match read {
+                None => self.is_drained = true,
+                Some(0) => self.stage = Stage::Ended(Ok(self.session.ended())),
+                Some(n) => {
+                    self.is_drained = n < buffer.len() && self.is_watched && !self.is_closed;
+                    self.take_piece(&buffer[..n]);
+                }
+            },
+        }
+    }
+
+    /// Runs requests, as many as a turn may have.
+    fn run<R, C: Clock, E: Exec<R, A>>(&mut self, rt: &R, clock: &C, exec: &mut E)
+        requires settled { E.settled exec.old }
+        requires runs { self.old.stage ≡ Runs }
+        ensures settled { E.settled exec.new }
+        ensures moves { StateMoves E.allows exec.old exec.new }
+        ensures goes_on { GoesOn E.allows (visit_state self.old.stage (S.told self.old.source)
+            (⟦<Replies<D, A> as ByteDrain>⟧.told self.old.replies) self.old.session.decoder self.old.session.progress) exec.old (visit_state self.new.stage (S.told self.new.source)
+            (⟦<Replies<D, A> as ByteDrain>⟧.told self.new.replies) self.new.session.decoder self.new.session.progress) exec.new }
+    {
+        takes_turns::<R, A, E>();
+        let mut begun = None;
+        for count in 0..MOST_REQUESTS {
+            match self.session.turn(rt, 1, &mut self.replies, exec) {
+                Err(end) => {
+                    self.stage = Stage::Ended(Err(end));
+                    return;
+                }
+                Ok(is_all) => {
+                    if is_all {
+                        self.stage = Stage::Reads;
+                        return;
+                    }
+                }
+            }
+            let looks = is_followed_by_look(count);
+            if self.replies.len() >= MOST_HELD || (looks && is_over(clock, &mut begun)) {
+                return;
+            }
+        }
+    }
+
+    /// Reads where all that was read is answered.
+    fn read_due<R, E: Exec<R, A>>(&mut self, buffers: &mut Buffers<A>, exec: &E)
+        ensures goes_on { GoesOn E.allows (visit_state self.old.stage (S.told self.old.source)
+            (⟦<Replies<D, A> as ByteDrain>⟧.told self.old.replies) self.old.session.decoder self.old.session.progress) exec.now (visit_state self.new.stage (S.told self.new.source)
+            (⟦<Replies<D, A> as ByteDrain>⟧.told self.new.replies) self.new.session.decoder self.new.session.progress) exec.now }
+    {
+        if self.stage == Stage::Reads {
+            self.read::<R, E>(&mut buffers.input, exec);
+        }
+    }
+
+    /// Runs requests where some are held.
+    fn run_held<R, C: Clock, E: Exec<R, A>>(&mut self, rt: &R, clock: &C, exec: &mut E)
+        requires settled { E.settled exec.old }
+        ensures settled { E.settled exec.new }
+        ensures moves { StateMoves E.allows exec.old exec.new }
+        ensures goes_on { GoesOn E.allows (visit_state self.old.stage (S.told self.old.source)
+            (⟦<Replies<D, A> as ByteDrain>⟧.told self.old.replies) self.old.session.decoder self.old.session.progress) exec.old (visit_state self.new.stage (S.told self.new.source)
+            (⟦<Replies<D, A> as ByteDrain>⟧.told self.new.replies) self.new.session.decoder self.new.session.progress) exec.new }
+    {
+        if self.stage == Stage::Runs {
+            self.run(rt, clock, exec);
+        }
+    }
+
+    /// Takes the memory for replies that is shared.
+    fn lend(&mut self, buffers: &mut Buffers<A>)
+        ensures same { (visit_state self.new.stage (S.told self.new.source)
+            (⟦<Replies<D, A> as ByteDrain>⟧.told self.new.replies) self.new.session.decoder self.new.session.progress)
+            ≡ (visit_state self.old.stage (S.told self.old.source)
+            (⟦<Replies<D, A> as ByteDrain>⟧.told self.old.replies) self.old.session.decoder self.old.session.progress) }
+    {
+        let (text, replies) = buffers.lend();
+        self.session.lend(text);
+        self.replies.lend(replies);
+    }
+
+    /// Gives the memory for replies back, but for what holds some.
+    fn give_back(&mut self, buffers: &mut Buffers<A>)
+        ensures same { (visit_state self.new.stage (S.told self.new.source)
+            (⟦<Replies<D, A> as ByteDrain>⟧.told self.new.replies) self.new.session.decoder self.new.session.progress)
+            ≡ (visit_state self.old.stage (S.told self.old.source)
+            (⟦<Replies<D, A> as ByteDrain>⟧.told self.old.replies) self.old.session.decoder self.old.session.progress) }
+        ensures awaited { self.new.awaited ≡ self.old.awaited }
+    {
+        buffers.take_back(self.session.take_memory(), self.replies.take_memory());
+    }
+
+    /// What follows, where this is what the drain took.
+    fn next(&self, sent: Option<bool>) -> Next
+        ensures sent { result ≡ Settles → ⊥ }
+    {
+        match (sent, self.stage) {
+            (None, _) => Next::Ends,
+            (Some(false), _) => Next::Waits,
+            (Some(true), Stage::Ended(_)) => Next::Ends,
+            (Some(true), Stage::Reads) if self.is_drained => Next::Waits,
+            (Some(true), _) => Next::Again,
+        }
+    }
+
+    /// Sends what is held, where the last record is settled that it may tell of; else it waits for that.
+    fn send_settled(&mut self, told: u64, settled: u64) -> Next
+        ensures same { (visit_state self.new.stage (S.told self.new.source)
+            (⟦<Replies<D, A> as ByteDrain>⟧.told self.new.replies) self.new.session.decoder self.new.session.progress)
+            ≡ (visit_state self.old.stage (S.told self.old.source)
+            (⟦<Replies<D, A> as ByteDrain>⟧.told self.old.replies) self.old.session.decoder self.old.session.progress) }
+        ensures held { settled < told → self.new.replies ≡ self.old.replies }
+        ensures awaited { settled < told → (result ≡ Settles) × (self.new.awaited ≡ told) }
+        ensures waits { result ≡ Settles → settled < told }
+    {
+        if told > settled {
+            self.awaited = told;
+            return Next::Settles;
+        }
+        self.awaited = 0;
+        let sent = self.send();
+        self.next(sent)
+    }
+
+    /// The number of the last record that the replies held wait for, 0 for none.
+    pub fn awaited(&self) -> u64
+        ensures awaited { result ≡ self.now.awaited }
+    {
+        self.awaited
+    }
+
+    /// One turn: what was held is sent; then one piece is read, or requests that are left from the
+    /// last one are run, and their replies sent. They wait where they may tell of a record behind the first `settled`:
+    /// [`Visit::let_go`] sends them.
+    pub fn turn<R, C: Clock, E: Exec<R, A>>(
+        &mut self,
+        rt: &R,
+        clock: &C,
+        buffers: &mut Buffers<A>,
+        exec: &mut E,
+        settled: u64,
+    ) -> Next
+        requires settled { E.settled exec.old }
+        ensures settled { E.settled exec.new }
+        // Requests were run, and no more was done to what the connections share;
+        ensures moves { StateMoves E.allows exec.old exec.new }
+        // they are the connection's own, in turn, and their replies stand behind those before.
+        ensures goes_on { GoesOn E.allows (visit_state self.old.stage (S.told self.old.source)
+            (⟦<Replies<D, A> as ByteDrain>⟧.told self.old.replies) self.old.session.decoder self.old.session.progress) exec.old (visit_state self.new.stage (S.told self.new.source)
+            (⟦<Replies<D, A> as ByteDrain>⟧.told self.new.replies) self.new.session.decoder self.new.session.progress) exec.new }
+        // Where replies were made, they wait if they may tell of a record that is not settled;
+        ensures told { (self.new.session.progress ≡ self.old.session.progress)
+            ⊎ WaitsForTold (E.tells exec.new) settled result self.new.awaited }
+        // they wait for no other;
+        ensures waits { result ≡ Settles → settled < self.new.awaited }
+        // and while they do, all stays.
+        ensures held { settled < self.old.awaited → self.new ≡ self.old }
+    {
+        if self.awaited > settled {
+            return Next::Settles;
+        }
+        let cleared = self.send();
+        if cleared != Some(true) || matches!(self.stage, Stage::Ended(_)) {
+            return self.next(cleared);
+        }
+        self.lend(buffers);
+        self.read_due::<R, E>(buffers, exec);
+        self.run_held(rt, clock, exec);
+        let told = exec.take_told();
+        let next = self.send_settled(told, settled);
+        self.give_back(buffers);
+        next
+    }
+
+    /// Sends replies that waited for their records, where these are among the first `settled`. Else nothing leaves, and
+    /// the connection is to end.
+    pub fn let_go(&mut self, buffers: &mut Buffers<A>, settled: u64) -> Next
+        ensures same { (visit_state self.new.stage (S.told self.new.source)
+            (⟦<Replies<D, A> as ByteDrain>⟧.told self.new.replies) self.new.session.decoder self.new.session.progress)
+            ≡ (visit_state self.old.stage (S.told self.old.source)
+            (⟦<Replies<D, A> as ByteDrain>⟧.told self.old.replies) self.old.session.decoder self.old.session.progress) }
+        ensures held { settled < self.old.awaited → self.new ≡ self.old }
+        ensures ends { settled < self.old.awaited → result ≡ Ends }
+        ensures sent { result ≡ Settles → ⊥ }
+    {
+        if self.awaited > settled {
+            return Next::Ends;
+        }
+        self.awaited = 0;
+        let sent = self.send();
+        buffers.take_replies(self.replies.take_memory());
+        self.next(sent)
+    }
+}
+
+/// Whether a turn's time is over. It begins with the first request that was run.
+fn is_over<C: Clock>(clock: &C, begun: &mut Option<Instant>) -> bool {
+    let Ok(now) = Instant::now(clock) else {
+        return true;
+    };
+    match begun {
+        Some(begun) => now.duration_since(*begun) >= Duration::from_millis(MOST_MILLIS),
+        None => {
+            *begun = Some(now);
+            false
+        }
+    }
+}

@@ -1,5 +1,0 @@
-use Rattle.score_bounds.proofs.BoundGrammar.{range_value-spelled, SpellsRange-read}
-use Rattle.score_bounds.proofs.laws.range_grammar.Goals as goal
-
-pub returns : goal.returns
-returns c = record { spelled = SpellsRange-read; read = range_value-spelled }

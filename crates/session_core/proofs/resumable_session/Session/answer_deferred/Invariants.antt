@@ -1,0 +1,19 @@
+use Rattle.std.proofs.Common.{◌≡◌, ℕ, ◌+◌, List, Option, length}
+use Rattle.std.specs.Io.KnownBytes.{append_known}
+use Rattle.append_log.specs.LoggedOwner.{LoggedView}
+use Rattle.session_core.specs.ServeSteps.{SessionIsBetweenReads}
+use Rattle.session_core.specs.Interleaved.{PartWay}
+use Rattle.session_core.specs.ExchangesBetweenSyncs.{TalkBetweenSyncs}
+use Rattle.session_core.proofs.resumable_session.Session.answer_deferred.Given as goal
+
+abbrev pub invariant-turns : goal.invariant-turns
+invariant-turns g l = record {
+  part : (start : LoggedView) (source₀ source drain₀ : Option (List ℕ)) → PartWay TalkBetweenSyncs start source₀ source drain₀ (append_known (g.D.ByteDrain.told l.fn.replies.inner) l.fn.replies.held.items) l.fn.owner l.fn.self.decoder l.fn.self.progress
+      → PartWay TalkBetweenSyncs start source₀ source drain₀ (append_known (g.D.ByteDrain.told l.replies.inner) l.replies.held.items) l.owner l.self.decoder l.self.progress;
+  ready : SessionIsBetweenReads l.self.decoder l.self.progress;
+  bytes : l.self.decoder.taken + length l.self.decoder.held ≡ l.fn.self.decoder.taken + length l.fn.self.decoder.held;
+  good : l.replies.failures ≡ l.fn.replies.failures;
+}
+
+abbrev pub decreases-turns : goal.decreases-turns
+decreases-turns g l = length l.self.decoder.held

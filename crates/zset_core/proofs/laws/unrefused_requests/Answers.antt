@@ -1,5 +1,0 @@
-use Rattle.zset_core.proofs.ReadingLaws.{meant}
-use Rattle.zset_core.proofs.laws.unrefused_requests.Goals as goal
-
-pub returns : goal.returns
-returns c = meant
