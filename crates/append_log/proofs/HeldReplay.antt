@@ -15,7 +15,7 @@ use Rattle.append_log.specs.Records.{Record}
 use Rattle.append_log.specs.Replay.{replay, replay_from, names_version, is_header, version_after, count_from}
 use Rattle.append_log.specs.declared.version.Version.{Version}
 use Rattle.append_log.specs.ReloadSteps.{Takes}
-use Rattle.append_log.specs.Reload.{Replayed, ReloadHolds, IsLess, AllReplayed, IsLoaded, FaultAt, version_number}
+use Rattle.append_log.specs.ReloadOutcome.{Replayed, ReloadHolds, IsLess, AllReplayed, IsLoaded, FaultAt, version_number}
 use Rattle.append_log.specs.declared.loading.Loaded.{Loaded}
 use Rattle.append_log.specs.declared.loading.ReloadFault.TheVariants.{NoMemory, Damaged, NotACommand, UnknownVersion}
 use Rattle.append_log.proofs.RecordTexts.{requests_among-append}

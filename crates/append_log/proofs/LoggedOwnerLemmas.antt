@@ -16,7 +16,7 @@ use Rattle.append_log.specs.Records.{Record}
 use Rattle.append_log.specs.Replay.{after}
 use Rattle.append_log.specs.declared.version.Version.TheVariants.{Effects}
 use Rattle.append_log.specs.LogViewAndSteps.{LogView, HasRecords, IsLog, Ends, NotAppended}
-use Rattle.append_log.specs.LoggedOwner.{LoggedView, AreSame, ChangesWorld, NotRecorded, NotRun, Replays}
+use Rattle.append_log.specs.LoggedOwnerViewAndRuns.{LoggedView, AreSame, ChangesWorld, NotRecorded, NotRun, Replays}
 use Rattle.append_log.proofs.ReplayLemmas.{replay-push}
 use Rattle.append_log.proofs.SameWorlds.{some_is, AreSame-put_back, AreSame-put_set, set_at-put_set-same}
 use Rattle.append_log.proofs.OutlineLemmas.{unchanged}

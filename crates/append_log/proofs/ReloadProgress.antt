@@ -5,7 +5,7 @@ use Rattle.resp_wire.specs.Stream.{requests, rest, fault}
 use Rattle.resp_wire.specs.DecoderView.{DecoderView}
 use Rattle.resp_wire.proofs.CallerLemmas.{prepend_known-prepend_known, prepend_known-nil}
 use Rattle.zset_core.specs.SetsByKey.{World}
-use Rattle.append_log.specs.Reload.{ReloadReads}
+use Rattle.append_log.specs.ReloadOutcome.{ReloadReads}
 use Rattle.append_log.specs.declared.version.Version.{Version}
 use Rattle.append_log.specs.ReloadSteps.{ReadsOn, Underway}
 use Rattle.append_log.specs.declared.loading.Loaded.{Loaded}

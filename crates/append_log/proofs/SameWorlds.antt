@@ -15,7 +15,7 @@ use Rattle.zset_core.specs.SetAndOwnerViews.{Next, ShowsAt, IsPreparedAt}
 use Rattle.zset_core.specs.SetsByKey.{World, is_empty, set_at, put_set}
 use Rattle.zset_core.proofs.CallerLemmas.{get_put_set, filled, placed}
 use Rattle.zset_core.proofs.CallerLemmas.{total, exact}
-use Rattle.append_log.specs.LoggedOwner.{AreSame}
+use Rattle.append_log.specs.LoggedOwnerViewAndRuns.{AreSame}
 
 no_members : (m : Members) → true ≡ is_empty m → fin.len m ≡ 0
 no_members m e = grind (arith, nat_tests)

@@ -1,7 +1,7 @@
 -- What an append file that is opened leaves, where its bytes are not known.
 use Rattle.std.specs.Prelude.{◌≡◌, ◌≢◌, ◌<◌, ℕ, List, Result, Ok, Err}
 use Rattle.zset_core.specs.SetsByKey.{World}
-use Rattle.append_log.specs.Reload.{IsLoaded, FaultAt}
+use Rattle.append_log.specs.ReloadOutcome.{IsLoaded, FaultAt}
 use Rattle.append_log.specs.declared.file_sink.FileFault.{FileFault}
 use Rattle.append_log.specs.declared.file_sink.FileFault.TheVariants.{Open, NotRegular, Locked, Lock, Cut, Sync, Folder}
 use Rattle.append_log.specs.declared.loading.Loaded.{Loaded}

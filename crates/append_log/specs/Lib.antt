@@ -3,9 +3,9 @@ pub mod Replay
 pub mod SyncedBytes
 pub mod LedgerShareView
 pub mod LogViewAndSteps
-pub mod Reload
+pub mod ReloadOutcome
 pub mod ReloadSteps
-pub mod LoggedOwner
+pub mod LoggedOwnerViewAndRuns
 pub mod Dump
 pub mod EffectRecords
 pub mod RewriteOutcome

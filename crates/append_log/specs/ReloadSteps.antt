@@ -3,7 +3,7 @@ use Rattle.std.specs.Prelude.{◌≡◌, ℕ, ◌+◌, ◌≤◌, List, [], ◌�
 use Rattle.resp_wire.specs.Device.{Rose}
 use Rattle.resp_wire.specs.DecoderView.{DecoderView}
 use Rattle.zset_core.specs.SetsByKey.{World}
-use Rattle.append_log.specs.Reload.{ReloadHolds, IsLess, IsLoaded, FaultAt}
+use Rattle.append_log.specs.ReloadOutcome.{ReloadHolds, IsLess, IsLoaded, FaultAt}
 use Rattle.append_log.specs.Records.{Record}
 use Rattle.append_log.specs.Replay.{replay_from, names_version, is_header, version_after, count_from}
 use Rattle.append_log.specs.declared.version.Version.{Version}

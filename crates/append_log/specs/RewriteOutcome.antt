@@ -5,7 +5,7 @@ use Rattle.std.specs.Io.KnownBytes.{append_known}
 use Rattle.resp_wire.specs.Device.{Rose}
 use Rattle.resp_wire.specs.Stream.{rest}
 use Rattle.zset_core.specs.SetsByKey.{World}
-use Rattle.append_log.specs.Reload.{AllReplayed}
+use Rattle.append_log.specs.ReloadOutcome.{AllReplayed}
 use Rattle.append_log.specs.declared.rewriting.RewriteFault.{RewriteFault}
 use Rattle.append_log.specs.declared.rewriting.RewriteFault.TheVariants.{NoMemory, Sink}
 

@@ -6,7 +6,7 @@ ghost use Rattle.resp_wire.specs.Device.{Rose, saturating_succ};
 ghost use Rattle.resp_wire.specs.RequestEncoding.{IsArgument, argument, line, request as request_text};
 ghost use Rattle.zset_core.specs.SetsByKey.{World as WorldType};
 ghost use Rattle.append_log.specs.Replay.{after, is_replayed as is_replayed_by};
-ghost use Rattle.append_log.specs.Reload.{ReloadHolds, ReloadReads};
+ghost use Rattle.append_log.specs.ReloadOutcome.{ReloadHolds, ReloadReads};
 ghost use Rattle.append_log.specs.ReloadSteps.{IsBetweenReads, ReloadStepped, Drained, ReadsOn, SourceFailed, IsOfBytes, UnreplayedFor, NotTakenFor, Takes};
 ghost use Rattle.append_log.specs.declared.loading.ReloadFault.TheVariants as faults;
 

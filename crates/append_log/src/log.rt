@@ -188,10 +188,10 @@ impl<S: LogSink, L: Ledger> Log<S, L> {
     ///
     /// # Errors
     ///
-    /// Log and `share` count no record more. [`Refusal::LogBroken`] where an earlier append or sync failed, and
-    /// [`Refusal::LogFull`] where as many records were appended as may be: the log stays as it is, and the sink is not
-    /// touched. [`Refusal::LogRefused`] where the sink failed in this call: the record may stand there in part or whole,
-    /// and the log is broken for good.
+    /// Log and `share` count no record more. [`Refusal::LogBroken`] where an earlier append failed, or a sync, the log's
+    /// own or a syncer's beside it ([`Log::break_off`]), and [`Refusal::LogFull`] where as many records were appended as
+    /// may be: the log stays as it is, and the sink is not touched. [`Refusal::LogRefused`] where the sink failed in this
+    /// call: the record may stand there in part or whole, and the log is broken for good.
     pub fn append<A: Allocator>(
         &mut self,
         share: &mut RecordShare<L>,

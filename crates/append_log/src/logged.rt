@@ -10,7 +10,7 @@ ghost use Rattle.append_log.specs.EffectRecords.{next_record, prepared_record};
 ghost use Rattle.append_log.specs.LogViewAndSteps.{LogView, Appends, HasRecords, NotSettled, Settles, records_after, share_after};
 ghost use Rattle.append_log.specs.Replay.{after};
 ghost use Rattle.append_log.specs.declared.version.Version.TheVariants.{Effects};
-ghost use Rattle.append_log.specs.LoggedOwner.{LoggedView, AreSame, Replays, NotRecorded, Ran, Refused};
+ghost use Rattle.append_log.specs.LoggedOwnerViewAndRuns.{LoggedView, AreSame, Replays, NotRecorded, Ran, Refused};
 
 use crate::log::Log;
 use crate::log_sinks::LogSink;
@@ -155,7 +155,7 @@ pub struct LoggedOwner<H: BuildHasher, S: LogSink, L: Ledger, A: Allocator + Cop
 }
 
 impl<H: BuildHasher, S: LogSink, L: Ledger, A: Allocator + Copy> Model for LoggedOwner<H, S, L, A> {
-    ghost use Rattle.append_log.specs.LoggedOwner.{LoggedView};
+    ghost use Rattle.append_log.specs.LoggedOwnerViewAndRuns.{LoggedView};
 
     ghost Value = { LoggedView };
 

@@ -2,7 +2,7 @@
 
 ghost use Rattle.std.specs.Prelude.{◌≡◌};
 ghost use Rattle.append_log.specs.Replay.{is_header as is_header_record, names_version as is_version_record};
-ghost use Rattle.append_log.specs.Reload.{version_number};
+ghost use Rattle.append_log.specs.ReloadOutcome.{version_number};
 
 use resp_wire::Request;
 use std::alloc::Allocator;

@@ -6,7 +6,7 @@ use Rattle.resp_wire.specs.Device.{Rose}
 use Rattle.zset_core.specs.SetsByKey.{World}
 use Rattle.append_log.specs.Dump.{dump}
 use Rattle.append_log.specs.FileOpening.{Opens, OpenFails}
-use Rattle.append_log.specs.LoggedOwner.{LoggedView}
+use Rattle.append_log.specs.LoggedOwnerViewAndRuns.{LoggedView}
 use Rattle.append_log.specs.declared.file_sink.FileFault.TheVariants as files
 use Rattle.append_log.specs.declared.loading.Loaded.{Loaded}
 use Rattle.append_log.specs.declared.loading.ReloadFault.{ReloadFault}

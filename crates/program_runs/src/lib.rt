@@ -13,7 +13,7 @@ mod group_commit_session;
 mod new_log;
 mod printing;
 mod server;
-mod standard_streams;
+mod stand_ins_for_closed_streams;
 mod stdio;
 
 pub use exit_lines::{Finish, Line, Unusable};
@@ -22,5 +22,5 @@ pub use file_progress_reports::{Telling, WatchedFiles};
 pub use file_sessions_and_rewrites::{open_file, rewrite_run, serve_file};
 pub use group_commit_session::serve_group;
 pub use server::{Settings, Stock, TcpArrivals, serve_stock, serve_tcp};
-pub use standard_streams::StandIns;
+pub use stand_ins_for_closed_streams::StandIns;
 pub use stdio::{after_session, stdio_run};

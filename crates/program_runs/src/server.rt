@@ -100,10 +100,11 @@ fn tell_totals<D: ByteDrain>(
 /// places, 4 where there is no memory or no thread.
 ///
 /// Or one table is opened, in which each key's place has as many members as the owner's set. What each worker's pass
-/// knows in the end is what some requests made of it, each answered lawfully. Then the line `connections C sets S members
-/// M added A removed R records L` is printed: so many connections came, S, M, A and R are the passes' totals, and of L no
-/// clause speaks. The status is 0; else 4 where there was no memory for the line, and else 1: accepting failed, the line
-/// could not be written, or the table's numbers disagree.
+/// knows in the end is what some requests made of it, each answered lawfully. Then, where the table's numbers agree, the
+/// line `connections C sets S members M added A removed R records L` is printed: so many connections came, S, M, A and R
+/// are the passes' totals, and of L no clause speaks. The status is 0; else 4 where there was no memory for the line, and
+/// else 1: accepting failed, the line could not be written, or the numbers disagree. A log that breaks changes neither
+/// line nor status: from then on changes are refused.
 ///
 /// No clause says that a connection is served to its end, that the requests are the connections' own, or that a reply
 /// waits until what it tells of is settled, as it does where the journal has a handle: tests show these.

@@ -8,7 +8,7 @@ use Rattle.std.proofs.lemmas.List.Sorted.{All-permutation, length_permutation}
 use Rattle.crack_kernel.specs.PartedRows.{IsBelow, IsFrom, IsParted, ChangesWithin}
 use Rattle.crack_kernel.specs.PivotList.{IsRising, ObeysPivots, RisesPast, IsPieceOf, piece_start, piece_end}
 use Rattle.crack_kernel.proofs.PartChanges.{ChangesWithin-front, ChangesWithin-back, IsParted-changed}
-use Rattle.ripple_column.specs.CutPivots.{IsApart}
+use Rattle.ripple_column.specs.RangeCutsAsPivots.{IsApart}
 use Rattle.ripple_column.proofs.Hole.{Places, Places-from_law, bound_from, bound_upto, bound_within}
 
 -- what the piece of v is among rows that obey the pivots

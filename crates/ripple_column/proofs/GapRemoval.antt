@@ -8,7 +8,7 @@ use Rattle.crack_kernel.specs.RowBag.{Test, SameBag}
 use Rattle.crack_kernel.specs.PartedRows.{IsBelow, IsFrom, IsParted}
 use Rattle.crack_kernel.specs.PivotList.{ObeysPivots, closed_up}
 use Rattle.ripple_column.specs.ClosedUp.{closed_up_pivots, closed_up_rows}
-use Rattle.ripple_column.specs.CutPivots.{values}
+use Rattle.ripple_column.specs.RangeCutsAsPivots.{values}
 use Rattle.ripple_column.specs.MergeGap.{AllParted, HasGap, blank}
 use Rattle.ripple_column.proofs.Blanks.{count_append}
 use Rattle.ripple_column.proofs.Counts.{count_alike, count_all, count_none}

@@ -7,7 +7,7 @@ use Rattle.std.proofs.lemmas.Grind.{common_steps}
 use Rattle.std.proofs.lemmas.Int.{ints}
 use Rattle.crack_kernel.specs.PivotList.{IsRising, ObeysPivots, RisesPast}
 use Rattle.crack_kernel.proofs.PivotOrder.{IsRising-same_values, IsRising-le}
-use Rattle.ripple_column.specs.CutPivots.{values}
+use Rattle.ripple_column.specs.RangeCutsAsPivots.{values}
 use Rattle.ripple_column.proofs.Hole.{Places, Places-from_law, bound_from, bound_upto, bound_within, start_from}
 use Rattle.std.proofs.lemmas.Bool.Decides.{nat_tests}
 use Rattle.ripple_column.specs.MergeGap.{ChangedPlaces, blank, PartsOutside, HasGap, StandFrom, AllParted}

@@ -15,7 +15,7 @@ use Rattle.score_bounds.specs.declared.ranges_and_cuts.Cut.TheVariants.{Start, A
 use Rattle.score_bounds.specs.declared.ranges_and_cuts.Range.{Range}
 use Rattle.ripple_column.specs.RangeAnswer.{IsAnswer, IsSettled, low_cut, high_cut}
 use Rattle.ripple_column.specs.Content.{ColumnState}
-use Rattle.ripple_column.specs.CutPivots.{is_before, values, new_values, StandsAt}
+use Rattle.ripple_column.specs.RangeCutsAsPivots.{is_before, values, new_values, StandsAt}
 use Rattle.ripple_column.proofs.Values.{list_any-pivot}
 use Rattle.ripple_column.proofs.Selection.{Contains-one_place}
 use Rattle.ripple_column.specs.ShownPivots.{AreFound, HasCut, IsAmong, same_pivot, shown_of}

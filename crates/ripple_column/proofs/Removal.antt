@@ -15,7 +15,7 @@ use Rattle.crack_kernel.specs.PartedRows.{IsBelow, IsFrom, IsParted}
 use Rattle.crack_kernel.specs.PivotList.{ArePlacedInOrder, ObeysPivots, closed_up}
 use Rattle.ripple_column.specs.ClosedUp.{closed_up_pivots, closed_up_rows}
 use Rattle.ripple_column.specs.Content.{ColumnState, content_count, has_score_in}
-use Rattle.ripple_column.specs.CutPivots.{is_before, StandsAt}
+use Rattle.ripple_column.specs.RangeCutsAsPivots.{is_before, StandsAt}
 use Rattle.ripple_column.specs.RangeAnswer.{HoldsRange, IsAnswer, IsSettled, low_cut, high_cut}
 use Rattle.ripple_column.specs.ShownPivots.{AreFound, IsAmong}
 use Rattle.ripple_column.proofs.Counts.{count_all, count_and_le, count_none, count_split}

@@ -16,7 +16,7 @@ use Rattle.crack_kernel.specs.RowBag.{Test}
 use Rattle.crack_kernel.specs.PartedRows.{IsBelow, IsFrom, IsParted}
 use Rattle.crack_kernel.specs.PivotList.{IsNewValue, IsRising, ObeysPivots}
 use Rattle.ripple_column.specs.Content.{ColumnState, IsScored, IsUnchanged, SameOutside, has_score_in, NoneIn}
-use Rattle.ripple_column.specs.CutPivots.{is_before, values, cut_values, new_values, StandsAt}
+use Rattle.ripple_column.specs.RangeCutsAsPivots.{is_before, values, cut_values, new_values, StandsAt}
 use Rattle.ripple_column.specs.ShownPivots.{IsAmong}
 use Rattle.ripple_column.specs.RangeAnswer.{low_cut, high_cut, pivots_with_cuts, IsSettled, IsAnswer, HoldsRange, AddsCuts, StandsStill}
 use Rattle.ripple_column.specs.RangeEffects.{Selects}

@@ -11,7 +11,7 @@ use Rattle.std.proofs.lemmas.List.Sorted.{Contains-permutation, IsPermutation-ma
 use Rattle.score_bounds.specs.declared.ranges_and_cuts.Cut.{Cut}
 use Rattle.score_bounds.specs.declared.ranges_and_cuts.Cut.TheVariants.{Start, At, End}
 use Rattle.crack_kernel.specs.PivotList.{IsNewValue}
-use Rattle.ripple_column.specs.CutPivots.{is_before, values, cut_values, new_values, StandsAt, IsApart, IsUncracked}
+use Rattle.ripple_column.specs.RangeCutsAsPivots.{is_before, values, cut_values, new_values, StandsAt, IsApart, IsUncracked}
 
 value_at : (ps : List (ℤ × ℕ)) (k : ℕ) (d : ℤ) (e : ℤ × ℕ) → k < length ps → get_or (values ps) k d ≡ (get_or ps k e).0
 value_at ps k d e h = get_or-map (λ (p : ℤ × ℕ). p.0) ps k e d h

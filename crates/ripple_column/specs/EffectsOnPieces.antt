@@ -1,6 +1,6 @@
 -- The pivots that pieces show, and what calls leave of these and of the rows.
 use Rattle.std.specs.Prelude.{◌≡◌, ◌≤◌, ℕ, ℤ, true, min, max, List, length, IsPermutation, slice_index_or, vec_capacity}
-use Rattle.ripple_column.specs.CutPivots.{IsApart}
+use Rattle.ripple_column.specs.RangeCutsAsPivots.{IsApart}
 use Rattle.ripple_column.specs.ShownPivots.{IsAmong, shown_of}
 use Rattle.ripple_column.specs.declared.pending_lists.Pending.{Pending}
 use Rattle.ripple_column.specs.declared.cracked_with_shown_pivots.Pieces.{Pieces}

@@ -1,6 +1,6 @@
 pub mod StandsWithin
 pub mod Content
-pub mod CutPivots
+pub mod RangeCutsAsPivots
 pub mod ColumnViewAndInvariant
 pub mod RangeAnswer
 pub mod RangeEffects

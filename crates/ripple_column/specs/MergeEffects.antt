@@ -6,7 +6,7 @@ use Rattle.crack_kernel.specs.RowBag.{IsSubBag}
 use Rattle.crack_kernel.specs.PivotList.{PivotList}
 use Rattle.score_bounds.specs.declared.ranges_and_cuts.Range.{Range}
 use Rattle.ripple_column.specs.Content.{KeepsContent, has_score_in, max_pending}
-use Rattle.ripple_column.specs.CutPivots.{values}
+use Rattle.ripple_column.specs.RangeCutsAsPivots.{values}
 use Rattle.ripple_column.specs.declared.cracked_rows.Cracked.{Cracked}
 use Rattle.ripple_column.specs.declared.pending_lists.Pending.{Pending}
 

@@ -7,7 +7,7 @@ use Rattle.score_bounds.specs.RangesAndCuts.{first_cut, second_cut}
 use Rattle.crack_kernel.specs.RowBag.{Test}
 use Rattle.crack_kernel.specs.PivotList.{max_pivots}
 use Rattle.ripple_column.specs.Content.{ColumnState, content_count, has_score_in, NoneIn}
-use Rattle.ripple_column.specs.CutPivots.{is_before, values, cut_values, count_with_cuts, values_with_cuts, StandsAt, IsUncracked}
+use Rattle.ripple_column.specs.RangeCutsAsPivots.{is_before, values, cut_values, count_with_cuts, values_with_cuts, StandsAt, IsUncracked}
 
 -- the cuts of a range
 abbrev pub low_cut : Range → Cut

@@ -5,7 +5,7 @@ use Rattle.crack_kernel.specs.PivotList.{max_pivots}
 use Rattle.crack_kernel.specs.RowBag.{SameBag, Test}
 use Rattle.ripple_column.specs.ClosedUp.{closed_up_pivots, closed_up_rows}
 use Rattle.ripple_column.specs.Content.{ColumnState, content_count, has_score_in, IsUnchanged, NoneIn, SameOutside}
-use Rattle.ripple_column.specs.CutPivots.{is_before}
+use Rattle.ripple_column.specs.RangeCutsAsPivots.{is_before}
 use Rattle.ripple_column.specs.RangeAnswer.{AddsCuts, HasAnswer, IsAnswer, StandsStill, low_cut, high_cut, pivots_with_cuts}
 
 -- a range was asked for: what waits outside it goes on waiting, and its cuts are pivots beside those that were, or alone where

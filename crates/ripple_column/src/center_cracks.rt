@@ -5,7 +5,7 @@
 //! no range has parted yet. Cracked at the cuts alone, all its rows would be read each time.
 
 ghost use Rattle.std.specs.Prelude.{◌≡◌, ℕ, ℤ, List, slice_index_or};
-ghost use Rattle.ripple_column.specs.CutPivots.{IsUncracked};
+ghost use Rattle.ripple_column.specs.RangeCutsAsPivots.{IsUncracked};
 ghost use Rattle.ripple_column.specs.EffectsOnPieces.{AreCracked, shown};
 ghost use Rattle.score_bounds.specs.declared.ranges_and_cuts.Cut.TheVariants.{At};
 

@@ -7,7 +7,7 @@ ghost use Rattle.crack_kernel.specs.PivotList.{ObeysPivots};
 ghost use Rattle.ripple_column.specs.RangeAnswer.{AnswersSome, HoldsRange, IsAnswer, low_cut, high_cut};
 ghost use Rattle.ripple_column.specs.RangeEffects.{Narrows, Removes, Selects};
 ghost use Rattle.ripple_column.specs.Content.{HasRow, IsUnchanged, Pends, SameContent, content_count, most_pending};
-ghost use Rattle.ripple_column.specs.CutPivots.{is_before, values};
+ghost use Rattle.ripple_column.specs.RangeCutsAsPivots.{is_before, values};
 ghost use Rattle.ripple_column.specs.ShownPivots.{IsAmong};
 
 use crate::cracked_with_shown_pivots::Pieces;
@@ -180,7 +180,7 @@ impl<A: Allocator + Copy> Column<A> {
     /// second. What waits in the range is merged, and the cuts of the range become pivots; where
     /// there would be more than 4,096 of them, the others are dropped. What waits outside the range
     /// goes on waiting. A range whose first cut is not below its second holds no row, is answered
-    /// by (0, 0), and changes nothing.
+    /// by (0, 0), and changes nothing. Room that `reserve_write` made need not be there afterwards.
     ///
     /// Where nothing waits in the range and no pivot is dropped, rows outside the pieces in which a
     /// cut falls stand still.
@@ -203,9 +203,9 @@ impl<A: Allocator + Copy> Column<A> {
     }
 
     /// Takes the rows with scores in a range out of the content. The column's answer for the range has to be the places
-    /// `from` and `to`: from the first on, and before the second, these rows stand. The others stay, and change places
-    /// only between pivots. Pivots stay: a place inside the range becomes its start, one behind it closes up. What waits
-    /// goes on waiting. It takes no memory.
+    /// `from` and `to`: from the first on, and before the second, these rows stand. The others stay in the content, each
+    /// between the pivots between which it stood. Pivots keep their values: the place of one inside the range becomes
+    /// `from`, and that of one behind it falls by as many rows as leave. What waits goes on waiting. It takes no memory.
     ///
     /// Its cost grows with the pivots on one side of the range and with the rows that leave, or, where these are fewer,
     /// with the rows on one side of it.
@@ -219,7 +219,7 @@ impl<A: Allocator + Copy> Column<A> {
     /// Lets rows change places between the shown pivots, and nothing else: the content, the shown pivots and what waits
     /// stay, and each range is answered by the same places.
     ///
-    /// It is for a list of the rows from the place `from` on and before the place `to`. Near both it adds inner pivots,
+    /// It is for a listing of the rows from the place `from` on and before the place `to`. Near both it adds inner pivots,
     /// so that mostly few rows stand between each of them and the pivots around it. No clause says how few, and any two
     /// places may be given. Where memory is refused, the cracks so far stay and no more come.
     pub fn narrow(&mut self, from: usize, to: usize)

@@ -2,7 +2,7 @@
 
 ghost use Rattle.std.specs.Prelude.{◌≡◌, ◌+◌, ◌<◌, ◌≤◌, ℕ, ℤ, List, ◌∷◌, ◌++◌, true, length, IsPermutation, slice_index_or, vec_capacity};
 ghost use Rattle.crack_kernel.specs.PivotList.{IsNewValue, RisesPast};
-ghost use Rattle.ripple_column.specs.CutPivots.{is_before, values, count_with_cuts, new_values, values_with_cuts, StandsAt, IsApart, IsUncracked};
+ghost use Rattle.ripple_column.specs.RangeCutsAsPivots.{is_before, values, count_with_cuts, new_values, values_with_cuts, StandsAt, IsApart, IsUncracked};
 ghost use Rattle.ripple_column.specs.ShownPivots.{IsAmong};
 
 use crate::cracked_rows::Cracked;

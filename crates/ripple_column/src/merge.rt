@@ -7,7 +7,7 @@ ghost use Rattle.std.specs.Prelude.{◌≡◌, ◌+◌, ◌<◌, ◌≤◌, OnOk
 ghost use Rattle.std.specs.List.{AllWithin};
 ghost use Rattle.crack_kernel.specs.RowBag.{Test, IsSubBag};
 ghost use Rattle.ripple_column.specs.Content.{has_score_in, NoneIn, SameOutside};
-ghost use Rattle.ripple_column.specs.CutPivots.{values};
+ghost use Rattle.ripple_column.specs.RangeCutsAsPivots.{values};
 ghost use Rattle.ripple_column.specs.MergeEffects.{HasLast, HasRoomFor, KeepsFrame, Merges, NoneWaits, StaysAsItWas, most_waiting};
 
 use crate::bulk_merge::merge_many;

@@ -8,7 +8,7 @@ ghost use Rattle.std.specs.Prelude.{◌≡◌, ◌+◌, ◌-◌, ◌<◌, ◌≤
 ghost use Rattle.crack_kernel.specs.PivotList.{piece_end};
 ghost use Rattle.crack_kernel.specs.RowBag.{SameBag, Test};
 ghost use Rattle.ripple_column.specs.ClosedUp.{closed_up_pivots, closed_up_rows};
-ghost use Rattle.ripple_column.specs.CutPivots.{values};
+ghost use Rattle.ripple_column.specs.RangeCutsAsPivots.{values};
 ghost use Rattle.ripple_column.specs.EffectsOnPieces.{shown};
 ghost use Rattle.ripple_column.specs.MergeEffects.{KeepsFrame};
 ghost use Rattle.ripple_column.specs.MergeGap.{AllParted, StandFrom, blank};

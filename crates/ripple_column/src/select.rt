@@ -6,7 +6,7 @@ ghost use Rattle.crack_kernel.specs.PivotList.{IsRising};
 ghost use Rattle.ripple_column.specs.Content.{has_score_in, NoneIn, SameOutside};
 ghost use Rattle.ripple_column.specs.MergeEffects.{Merges};
 ghost use Rattle.ripple_column.specs.EffectsOnPieces.{HasRoom, StaysAsShown, most_with_inner, shown};
-ghost use Rattle.ripple_column.specs.CutPivots.{is_before, values, cut_values, count_with_cuts, new_values, values_with_cuts, StandsAt, IsUncracked};
+ghost use Rattle.ripple_column.specs.RangeCutsAsPivots.{is_before, values, cut_values, count_with_cuts, new_values, values_with_cuts, StandsAt, IsUncracked};
 
 use crate::center_cracks::{approach_cuts, are_short, is_short_at};
 use crate::cracked_with_shown_pivots::Pieces;

@@ -5,7 +5,7 @@ use Rattle.resp_wire.specs.declared.fault.ProtocolFault.{ProtocolFault}
 use Rattle.resp_wire.specs.Stream.{requests, rest, fault}
 use Rattle.resp_wire.specs.DecoderView.{DecoderView}
 use Rattle.resp_wire.specs.Response.{Response}
-use Rattle.append_log.specs.LoggedOwner.{LoggedView}
+use Rattle.append_log.specs.LoggedOwnerViewAndRuns.{LoggedView}
 use Rattle.session_core.specs.declared.session_end.Ended.{Ended}
 use Rattle.session_core.specs.declared.session_end.SessionFault.{SessionFault}
 use Rattle.session_core.specs.declared.session_end.SessionFault.TheVariants.{NoMemory, ReadFault, WriteFault, Wire, TooManyReads}

@@ -5,7 +5,7 @@ use Rattle.zset_core.specs.SetsByKey.{World}
 use Rattle.zset_core.specs.declared.refusal.Refusal.{Refusal}
 use Rattle.zset_core.specs.declared.refusal.Refusal.TheVariants.{LogBroken, LogRefused}
 use Rattle.append_log.specs.LogViewAndSteps.{LogView, NotSettled, Settles, Unsettled}
-use Rattle.append_log.specs.LoggedOwner.{LoggedView, Replays}
+use Rattle.append_log.specs.LoggedOwnerViewAndRuns.{LoggedView, Replays}
 use Rattle.session_core.specs.ExchangesBetweenSyncs.{IsSynced}
 
 pub synced-refl : (s : LoggedView) → IsSynced s s

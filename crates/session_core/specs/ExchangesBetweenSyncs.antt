@@ -3,7 +3,7 @@ use Rattle.std.specs.Prelude.{◌≡◌, ◌≤◌, ℕ, true, List, Option, Som
 use Rattle.resp_wire.specs.DecoderView.{DecoderView}
 use Rattle.resp_wire.specs.Response.{Response}
 use Rattle.zset_core.specs.SetsByKey.{World}
-use Rattle.append_log.specs.LoggedOwner.{LoggedView, Replays}
+use Rattle.append_log.specs.LoggedOwnerViewAndRuns.{LoggedView, Replays}
 use Rattle.session_core.specs.OwnerAnswers.{LoggedAnswers}
 use Rattle.session_core.specs.declared.session_end.Ended.{Ended}
 use Rattle.session_core.specs.declared.session_end.SessionFault.{SessionFault}

@@ -3,7 +3,7 @@
 ghost use Rattle.std.specs.Prelude.{◌≡◌, ℕ, ◌+◌, ◌-◌, ◌≤◌, ◌<◌, ◌^◌, List, Option, length, min, Err, IfErr, IfOk, OnOk, OnSome, MatchResult};
 ghost use Rattle.std.specs.Io.KnownBytes.{IsAtEnd};
 ghost use Rattle.resp_wire.specs.Device.{Rose, saturating_succ};
-ghost use Rattle.append_log.specs.LoggedOwner.{LoggedView};
+ghost use Rattle.append_log.specs.LoggedOwnerViewAndRuns.{LoggedView};
 ghost use Rattle.session_core.specs.ExchangesBetweenSyncs.{IsAt, IsPast, IsSynced, TalkBetweenSyncs};
 ghost use Rattle.session_core.specs.Interleaved.{PartWay};
 ghost use Rattle.session_core.specs.SessionEnd.{Served};

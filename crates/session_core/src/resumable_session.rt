@@ -9,7 +9,7 @@ ghost use Rattle.session_core.specs.declared.session_end.SessionFault.TheVariant
 ghost use Rattle.session_core.specs.ServeSteps.{IsSmall, SessionIsBetweenReads, AnsweredOne, HaltedOne, Halfway, Answered, Halted, fed};
 
 use crate::command_executor::{Exec, respond};
-use crate::replies::{send, tell_fault};
+use crate::reply_sending::{send, tell_fault};
 use crate::session_end::{Ended, SessionFault};
 use resp_wire::{ByteDrain, Decoder, Request, WireFault, laws};
 use std::alloc::{AllocError, Allocator};

@@ -61,9 +61,9 @@ IsSetRefusal meaning Spent = Unit {0}
 IsSetRefusal meaning OutOfStep = Unit {0}
 IsSetRefusal meaning _ = ⊥
 
--- why a table refuses a command: its set or its place does, or every place bears another name than its key
+-- why a table refuses a command: its set or its place does, or it creates, and every place bears another name than its key
 abbrev pub IsTableRefusal : Meaning → PassView → Refusal → Type 0
-IsTableRefusal meaning pass TableFull = (key : List ℕ) × (key_of meaning ≡ Some key) × IsFull pass.notes.known key
+IsTableRefusal meaning pass TableFull = IsTrue (is_creating meaning) × (key : List ℕ) × (key_of meaning ≡ Some key) × IsFull pass.notes.known key
 IsTableRefusal meaning pass e = IsSetRefusal meaning e
 
 -- a command may be asked at a place: the pass is the table's, the place one of its places, and the command has a key

@@ -105,10 +105,12 @@ impl<H: BuildHasher, S: LogSink, L: Ledger, A: Allocator + Copy> Table<H, S, L, 
         }
     }
 
-    /// Answers a command from its key's place, by one step on some set with as many members as the answer's `found` tells,
-    /// at least as many as this pass was told. That it is the key's own set no clause says, since others write the sets
-    /// between two calls: tests show it. A command that creates gives its key a place where it has none. Any other whose
-    /// key's place the pass does not know gets the reply of an empty set, and PING its own.
+    /// Answers a command from its key's place, by one step on some set with as many members as the answer's `found` tells:
+    /// those at opening, with those that came in and without those that left since, of each at least as many as this pass
+    /// was told. That it is the key's own set no clause says, since others write the sets between two calls: tests show
+    /// it. A command that creates gives its key a place where it has none. Any other for whose key no place is found, in
+    /// what the pass knows and then among the table's names, gets the reply of an empty set; promised is only that the
+    /// pass knew none. PING gets its own.
     ///
     /// The pass's share of that place counts the run and what came in and left by it (`own`), or stays where a question
     /// was answered under the shared lock. All other shares stay. The names that the pass knows stay, and there may be
@@ -118,7 +120,7 @@ impl<H: BuildHasher, S: LogSink, L: Ledger, A: Allocator + Copy> Table<H, S, L, 
     /// # Errors
     ///
     /// All of the pass's shares stay. Which refusal may come to which command, the clauses say; exactly when it comes is told by
-    /// [`crate::Cell::run`], behind the lock. [`Refusal::TableFull`] where a command that creates finds no place;
+    /// [`crate::Cell::run`], behind the lock. [`Refusal::TableFull`] where a command that creates finds each place bearing another key's name;
     /// [`Refusal::OutOfStep`], which a pass of this table met in no test; [`Refusal::Spent`] where the place has no run
     /// left; [`Refusal::ScoreOverflow`] to ZADD with INCR alone; those of the log to changes; [`Refusal::NoMemory`].
     pub fn run<'c, R: Wait, G: TestGate>(
@@ -185,7 +187,8 @@ impl<H: BuildHasher, S: LogSink, L: Ledger, A: Allocator + Copy> Table<H, S, L, 
         ensures ok { IfOk result
             (λ found. MatchOption found ((creates ≡ false) × HasNoPlace pass.old key.now)
             (λ place. IsPlace pass.new.notes.known key.now place)) }
-        ensures err { IfErr result (λ refusal. IsClaimRefusal pass.new key.now refusal) }
+        ensures err { IfErr result
+            (λ refusal. IsTrue creates × IsClaimRefusal pass.new key.now refusal) }
     {
         if creates {
             return Ok(Some(self.claim(pass, key)?));

@@ -5,7 +5,7 @@ use Rattle.score_bounds.specs.declared.ranges_and_cuts.Range.{Range}
 use Rattle.ripple_column.specs.RangeAnswer.{AddsCuts, HasAnswer, low_cut, high_cut}
 use Rattle.ripple_column.specs.RangeEffects.{Selects}
 use Rattle.ripple_column.specs.Content.{ColumnState, IsUnchanged, SameOutside, max_pending, most_pending}
-use Rattle.ripple_column.specs.CutPivots.{is_before, values}
+use Rattle.ripple_column.specs.RangeCutsAsPivots.{is_before, values}
 use Rattle.zset_core.specs.SortedSet.{Members}
 use Rattle.zset_core.specs.AbstractCommand.{Meaning, Ping, Asks, Changes, Question, Score, Card, Count, ListRange, Change, Add, Increase, Remove, RemoveRange}
 use Rattle.zset_core.specs.Semantics.{outcome_of, counted, count_all, sum_of, remove_all}

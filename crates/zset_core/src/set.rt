@@ -131,9 +131,9 @@ impl<H: BuildHasher, A: Allocator + Copy> ZSet<H, A> {
 
     /// Prepares a command that changes sets: takes all the memory that it needs, and leaves the
     /// members as they are until `commit` or `drop_prepared`. `next` is then what the command's
-    /// definition (`step`) makes of the members, with its reply: this `commit` leaves and gives. The
-    /// outline tells how many members it will add and take out, and whether it changes the set.
-    /// ZREMRANGEBYSCORE takes no memory for the members that leave.
+    /// definition (`step`) makes of the members, with its reply: `commit` leaves these members and
+    /// gives this reply. The outline tells how many members it will add and take out, and whether it
+    /// changes the set. ZREMRANGEBYSCORE takes no memory for the members that leave.
     ///
     /// # Errors
     ///
@@ -147,8 +147,9 @@ impl<H: BuildHasher, A: Allocator + Copy> ZSet<H, A> {
             (λ next. IsOutline outline self.old.members next.members)) }
         ensures few { IfOk result (λ outline. outline.added ≤ most_edits) }
 
-        // Prepared or refused, the members stay. The column merges what waits where ZADD or ZREM needs
-        // room, and is cracked at the range of ZREMRANGEBYSCORE, unless that is refused.
+        // Prepared or refused, the members stay. ZADD and ZREM merge what waits where they need room, also
+        // where they are then refused. ZREMRANGEBYSCORE merges what waits in its range and cracks it; refused
+        // it leaves the column as it was.
         ensures members { self.new.members ≡ self.old.members }
         ensures column { PreparesColumn command.now.meaning self.old.members result
             self.old.column self.new.column }

@@ -3,7 +3,7 @@
 ghost use Rattle.std.specs.Prelude.{◌≡◌, ◌+◌, ◌<◌, ◌≤◌, ◌++◌, ℤ, ℕ, List, [], true, false, length, Contains, IsPermutation, OnOk, OnErr, vec_len, vec_capacity};
 ghost use Rattle.crack_kernel.specs.RowBag.{IsSubBag};
 ghost use Rattle.crack_kernel.specs.PivotList.{IsRising};
-ghost use Rattle.ripple_column.specs.CutPivots.{is_before, values, count_with_cuts, new_values, values_with_cuts, StandsAt};
+ghost use Rattle.ripple_column.specs.RangeCutsAsPivots.{is_before, values, count_with_cuts, new_values, values_with_cuts, StandsAt};
 ghost use Rattle.ripple_column.specs.ShownPivots.{HasCut, IsAmong, shown_of};
 ghost use Rattle.ripple_column.specs.MergeEffects.{HasRoomFor, Merges, NoneWaits, most_waiting};
 ghost use Rattle.ripple_column.specs.EffectsOnPieces.{HasRoom, StaysAsShown, shown};

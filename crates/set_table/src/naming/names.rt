@@ -5,7 +5,7 @@ ghost use Rattle.std.proofs.Math.ListN.{get_or};
 ghost use Rattle.once_cell.specs.Once.{cell_name, Agrees};
 ghost use Rattle.set_table.specs.Naming.{AreNotesOf, NamingGrows, IsPlace, IsUnclaimed, Learns, hash_from, name_at_place, walk};
 
-mod gathering_known_names;
+mod comparing_notes_of_passes;
 
 use crate::limits::MAX_PLACES;
 use crate::naming::hashed_key::{Name, hash};

@@ -7,7 +7,7 @@ use Rattle.resp_wire.specs.RequestEncoding.{request}
 use Rattle.resp_wire.specs.Response.{response_of}
 use Rattle.append_log.specs.EffectRecords.{change_record, prepared_record, record_made, record_of_owner_next}
 use Rattle.append_log.specs.LogViewAndSteps.{Appends}
-use Rattle.append_log.specs.LoggedOwner.{NotRecorded}
+use Rattle.append_log.specs.LoggedOwnerViewAndRuns.{NotRecorded}
 use Rattle.append_log.specs.Records.{Record}
 use Rattle.append_log.specs.Replay.{after}
 use Rattle.append_log.specs.declared.version.Version.TheVariants.{Effects}

@@ -1,6 +1,6 @@
 use Rattle.std.proofs.Common.{ℤ, subst, ◌∙◌, arith}
 use Rattle.std.proofs.lemmas.Int.{ints}
-use Rattle.ripple_column.specs.CutPivots.{IsUncracked}
+use Rattle.ripple_column.specs.RangeCutsAsPivots.{IsUncracked}
 use Rattle.score_bounds.specs.declared.ranges_and_cuts.Cut.TheVariants.{At}
 use Rattle.ripple_column.proofs.InnerCracks.{AreCracked-more}
 use Rattle.ripple_column.proofs.Values.{IsUncracked-kept}

@@ -1,6 +1,6 @@
 use Rattle.std.specs.Prelude.{◌≡◌, ℕ, ℤ, List, slice_index_or}
 use Rattle.score_bounds.specs.declared.ranges_and_cuts.Cut.TheVariants.{At}
-use Rattle.ripple_column.specs.CutPivots.{IsUncracked}
+use Rattle.ripple_column.specs.RangeCutsAsPivots.{IsUncracked}
 use Rattle.ripple_column.specs.EffectsOnPieces.{AreCracked}
 use Rattle.ripple_column.proofs.center_cracks.crack_centers.Given as goal
 

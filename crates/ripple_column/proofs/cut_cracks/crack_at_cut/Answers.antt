@@ -3,7 +3,7 @@ use Rattle.std.proofs.lemmas.Bool.{false≢true}
 use Rattle.std.proofs.lemmas.Int.{ints}
 use Rattle.std.proofs.lemmas.List.Sorted.{IsPermutation-refl}
 use Rattle.crack_kernel.specs.PivotList.{IsNewValue}
-use Rattle.ripple_column.specs.CutPivots.{new_values, values, IsApart}
+use Rattle.ripple_column.specs.RangeCutsAsPivots.{new_values, values, IsApart}
 use Rattle.ripple_column.proofs.Values.{list_any-new, new_values-new, new_values-pivot, values-added, StandsAt-added, Contains-added}
 use Rattle.ripple_column.proofs.cut_cracks.crack_at_cut.Goals as goal
 

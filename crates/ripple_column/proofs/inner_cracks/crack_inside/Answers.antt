@@ -2,7 +2,7 @@ use Rattle.std.proofs.Common.{◌≡◌, ◌∙◌, ℤ, true, vec_capacity, ap,
 use Rattle.std.proofs.lemmas.Int.{ints}
 use Rattle.std.proofs.lemmas.List.Sorted.{length_permutation}
 use Rattle.crack_kernel.specs.PivotList.{PivotList}
-use Rattle.ripple_column.specs.CutPivots.{IsApart}
+use Rattle.ripple_column.specs.RangeCutsAsPivots.{IsApart}
 use Rattle.ripple_column.specs.ShownPivots.{IsAmong}
 use Rattle.ripple_column.proofs.InnerPivots.{found_more, shown_own}
 use Rattle.ripple_column.proofs.Values.{Contains-added}

@@ -1,6 +1,6 @@
 use Rattle.std.proofs.Common.{ℕ, replicate, count_by, ap, arith}
 use Rattle.crack_kernel.specs.PivotList.{PivotList}
-use Rattle.ripple_column.specs.CutPivots.{values}
+use Rattle.ripple_column.specs.RangeCutsAsPivots.{values}
 use Rattle.ripple_column.specs.MergeGap.{blank}
 use Rattle.ripple_column.proofs.Counts.{count_moved}
 use Rattle.ripple_column.proofs.Frames.{KeepsFrame-more}

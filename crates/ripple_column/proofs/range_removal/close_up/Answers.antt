@@ -2,7 +2,7 @@ use Rattle.std.proofs.Common.{◌≡◌, ◌≤◌, ◌-◌, ◌∙◌, ◌++◌
 use Rattle.crack_kernel.specs.PivotList.{piece_end}
 use Rattle.crack_kernel.specs.RowBag.{SameBag}
 use Rattle.ripple_column.specs.ClosedUp.{closed_up_rows}
-use Rattle.ripple_column.specs.CutPivots.{values}
+use Rattle.ripple_column.specs.RangeCutsAsPivots.{values}
 use Rattle.ripple_column.specs.MergeGap.{blank}
 use Rattle.ripple_column.proofs.Removal.{ObeysPivots-closed_up, placed_in_order}
 use Rattle.ripple_column.proofs.GapRemoval.{pivots-closed_up}

@@ -1,6 +1,6 @@
 use Rattle.std.proofs.Common.{ℕ, ℤ, List, Contains, count_by, ap, arith}
 use Rattle.crack_kernel.specs.RowBag.{Test}
-use Rattle.ripple_column.specs.CutPivots.{values}
+use Rattle.ripple_column.specs.RangeCutsAsPivots.{values}
 use Rattle.ripple_column.proofs.Counts.{count_moved}
 use Rattle.ripple_column.proofs.InnerPivots.{new_values_less, new_values_one, values_among}
 use Rattle.ripple_column.proofs.select.select_between.Goals as goal

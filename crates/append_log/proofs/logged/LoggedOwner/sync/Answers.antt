@@ -1,5 +1,5 @@
 use Rattle.std.proofs.Common.{refl, sym, subst}
-use Rattle.append_log.specs.LoggedOwner.{LoggedView, Replays}
+use Rattle.append_log.specs.LoggedOwnerViewAndRuns.{LoggedView, Replays}
 use Rattle.append_log.proofs.LoggedOwnerLemmas.{Replays-stay}
 use Rattle.append_log.proofs.logged.LoggedOwner.sync.Goals as goal
 

@@ -1,7 +1,7 @@
 use Rattle.std.proofs.Common.{◌≡◌, true, false, sym, subst, ◌∙◌}
 use Rattle.ripple_column.specs.RangeAnswer.{low_cut, high_cut, IsAnswer, IsSettled}
 use Rattle.ripple_column.specs.Content.{ColumnState}
-use Rattle.ripple_column.specs.CutPivots.{is_before}
+use Rattle.ripple_column.specs.RangeCutsAsPivots.{is_before}
 use Rattle.ripple_column.specs.ColumnViewAndInvariant.{state}
 use Rattle.ripple_column.proofs.InnerPivots.{among_found}
 use Rattle.ripple_column.proofs.Selection.{CutsPart, HoldsRange-empty, HoldsRange-ready, IsAnswer-ready}

@@ -2,7 +2,7 @@ use Rattle.std.proofs.Common.{◌≡◌, ℤ, Contains, length, subst, ap, arith
 use Rattle.std.proofs.lemmas.Int.{ints}
 use Rattle.std.proofs.lemmas.List.Sorted.{IsPermutation-refl}
 use Rattle.crack_kernel.specs.PivotList.{IsNewValue}
-use Rattle.ripple_column.specs.CutPivots.{new_values, values}
+use Rattle.ripple_column.specs.RangeCutsAsPivots.{new_values, values}
 use Rattle.ripple_column.proofs.InnerPivots.{HasCut-added, HasCut-at, among_added, value_among}
 use Rattle.ripple_column.proofs.Values.{Contains-added, new_values-new, new_values-pivot, values-added}
 use Rattle.ripple_column.proofs.cracked_with_shown_pivots.shown_pivots.show_cut.Goals as goal

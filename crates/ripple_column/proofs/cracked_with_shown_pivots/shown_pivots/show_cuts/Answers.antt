@@ -1,7 +1,7 @@
 use Rattle.std.proofs.Common.{◌++◌, ℤ, ℕ, IsPermutation, length, length-append, ap, arith}
 use Rattle.std.proofs.lemmas.List.{length-map}
 use Rattle.std.proofs.lemmas.List.Sorted.{IsPermutation-trans, IsPermutation-append_right, length_permutation}
-use Rattle.ripple_column.specs.CutPivots.{values, new_values}
+use Rattle.ripple_column.specs.RangeCutsAsPivots.{values, new_values}
 use Rattle.ripple_column.proofs.InnerPivots.{HasCut-kept, StandsAt-own, StandsAt-shown}
 use Rattle.ripple_column.proofs.Values.{new_values-other}
 use Rattle.ripple_column.proofs.cracked_with_shown_pivots.shown_pivots.show_cuts.Goals as goal

@@ -1,5 +1,5 @@
 use Rattle.std.proofs.Common.{◌≡◌, ◌<◌, ℕ, ℤ, get_or, Contains}
-use Rattle.ripple_column.specs.CutPivots.{values}
+use Rattle.ripple_column.specs.RangeCutsAsPivots.{values}
 use Rattle.ripple_column.proofs.cracked_with_shown_pivots.shown_pivots.take_places.Given as goal
 
 abbrev pub invariant-loop-i : goal.invariant-loop-i

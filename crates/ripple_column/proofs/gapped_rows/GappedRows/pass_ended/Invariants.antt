@@ -1,5 +1,5 @@
 use Rattle.std.proofs.Common.{◌≡◌, length}
-use Rattle.ripple_column.specs.CutPivots.{values}
+use Rattle.ripple_column.specs.RangeCutsAsPivots.{values}
 use Rattle.ripple_column.proofs.gapped_rows.GappedRows.pass_ended.Given as goal
 
 abbrev pub invariant-loop-piece : goal.invariant-loop-piece

@@ -1,6 +1,6 @@
 use Rattle.std.proofs.Common.{◌≢◌, ◌+◌, ◌≤◌, length, get_or, vec_capacity, ap, ◌∙◌, arith}
 use Rattle.crack_kernel.specs.PivotList.{PivotList}
-use Rattle.ripple_column.specs.CutPivots.{values}
+use Rattle.ripple_column.specs.RangeCutsAsPivots.{values}
 use Rattle.ripple_column.specs.MergeEffects.{KeepsFrame}
 use Rattle.ripple_column.proofs.Frames.{KeepsFrame-more}
 use Rattle.ripple_column.proofs.gapped_rows.GappedRows.widen.Goals as goal

@@ -1,6 +1,6 @@
 use Rattle.std.proofs.Common.{◌≡◌, ℕ, ◌+◌, List, Option, length}
 use Rattle.std.specs.Io.KnownBytes.{append_known}
-use Rattle.append_log.specs.LoggedOwner.{LoggedView}
+use Rattle.append_log.specs.LoggedOwnerViewAndRuns.{LoggedView}
 use Rattle.session_core.specs.ServeSteps.{SessionIsBetweenReads}
 use Rattle.session_core.specs.Interleaved.{PartWay}
 use Rattle.session_core.specs.ExchangesBetweenSyncs.{TalkBetweenSyncs}
