@@ -54,7 +54,8 @@ abbrev pub IsTold : Result Totals CloseFault → ℕ → Result Unit Line → Dr
 IsTold (Ok totals) connections printed drain₀ drain₁ = IsPrinted (totals_text connections totals) printed drain₀ drain₁
 IsTold (Err fault) connections printed drain₀ drain₁ = (printed ≡ Err lines.TotalsDisagree) × (drain₁ ≡ drain₀)
 
--- a server that took connections: of a table with the sets that it was started with, whose workers answered requests
+-- a server that took connections: of a table whose places have as many members as the sets that it was started with, and whose
+-- workers answered requests
 pub record HasServed {A : Type 0} (came : A → ℕ) (last : A → Option ArrivalKind) (before after : A) (world : World) (appended : ℕ) (settings : Settings) (drain₀ drain₁ : DrainState) (finish : Finish) : Type 0 where
   pub table : TableView
   pub opened : IsOpened world settings.places settings.workers MAX_RUNS appended table

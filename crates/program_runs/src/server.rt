@@ -103,11 +103,11 @@ fn tell_totals<D: ByteDrain>(
 /// knows in the end is what some requests made of it, each answered lawfully. Then, where the table's numbers agree, the
 /// line `connections C sets S members M added A removed R records L` is printed: so many connections came, S, M, A and R
 /// are the passes' totals, and of L no clause speaks. The status is 0; else 4 where there was no memory for the line, and
-/// else 1: accepting failed, the line could not be written, or the numbers disagree. A log that breaks changes neither
-/// line nor status: from then on changes are refused.
+/// else 1: accepting failed, the line could not be written, or the numbers disagree.
 ///
-/// No clause says that a connection is served to its end, that the requests are the connections' own, or that a reply
-/// waits until what it tells of is settled, as it does where the journal has a handle: tests show these.
+/// No clause says that a connection is served to its end, that the requests are the connections' own, when the numbers
+/// disagree, that a log that breaks changes neither line nor status and has changes refused from then on, or that a
+/// reply waits until what it tells of is settled, as it does where the journal has a handle: tests show these.
 pub fn serve_run<A, S, D, K, L, Y, W, R>(
     rt: &R,
     arrivals: &mut A,

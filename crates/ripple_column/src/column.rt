@@ -178,9 +178,10 @@ impl<A: Allocator + Copy> Column<A> {
 
     /// Where the rows with scores in the range stand: from the first place on and before the
     /// second. What waits in the range is merged, and the cuts of the range become pivots; where
-    /// there would be more than 4,096 of them, the others are dropped. What waits outside the range
-    /// goes on waiting. A range whose first cut is not below its second holds no row, is answered
-    /// by (0, 0), and changes nothing. Room that `reserve_write` made need not be there afterwards.
+    /// there would be more than 4,096 of them, all others are dropped. The content stays, and what
+    /// waits outside the range goes on waiting. A range whose first cut is not below its second
+    /// holds no row, is answered by (0, 0), and changes nothing but spare room. Room that
+    /// `reserve_write` made need not be there afterwards.
     ///
     /// Where nothing waits in the range and no pivot is dropped, rows outside the pieces in which a
     /// cut falls stand still.
@@ -207,8 +208,8 @@ impl<A: Allocator + Copy> Column<A> {
     /// between the pivots between which it stood. Pivots keep their values: the place of one inside the range becomes
     /// `from`, and that of one behind it falls by as many rows as leave. What waits goes on waiting. It takes no memory.
     ///
-    /// Its cost grows with the pivots on one side of the range and with the rows that leave, or, where these are fewer,
-    /// with the rows on one side of it.
+    /// No clause speaks of cost. The rows on one side of the range close up, or, where few leave, in each piece there no
+    /// more rows move than leave; and the pivots of that side get new places.
     pub fn remove_rows(&mut self, from: usize, to: usize)
         requires answer { AnswersSome self.old (from, to) }
         ensures removes { (range : Range) → IsAnswer self.old range (from, to) → Removes range from self.old self.new }
@@ -220,8 +221,9 @@ impl<A: Allocator + Copy> Column<A> {
     /// stay, and each range is answered by the same places.
     ///
     /// It is for a listing of the rows from the place `from` on and before the place `to`. Near both it adds inner pivots,
-    /// so that mostly few rows stand between each of them and the pivots around it. No clause says how few, and any two
-    /// places may be given. Where memory is refused, the cracks so far stay and no more come.
+    /// so that mostly few rows stand between each of them and the pivots around it. No clause sees these: neither that any
+    /// is added, nor how few rows stand there, nor that the cracks so far stay where memory is refused. Any two places may
+    /// be given.
     pub fn narrow(&mut self, from: usize, to: usize)
         ensures content { SameContent self.old self.new }
         ensures narrows { Narrows self.old self.new }

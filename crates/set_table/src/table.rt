@@ -112,17 +112,20 @@ impl<H: BuildHasher, S: LogSink, L: Ledger, A: Allocator + Copy> Table<H, S, L, 
     /// what the pass knows and then among the table's names, gets the reply of an empty set; promised is only that the
     /// pass knew none. PING gets its own.
     ///
-    /// The pass's share of that place counts the run and what came in and left by it (`own`), or stays where a question
-    /// was answered under the shared lock. All other shares stay. The names that the pass knows stay, and there may be
-    /// more, where it is refused too. An answered command that creates leaves memory kept back for removals. `rt` waits
-    /// for locks, and the gate is called inside each.
+    /// The pass's share of that place counts the run and what came in and left by it (the answer's `own`), or stays where
+    /// a question was answered under the shared lock. All other shares stay. The names that the pass knows stay, and there
+    /// may be more, where it is refused too. An answered command that creates leaves memory kept back for removals. `rt`
+    /// waits for locks, and the gate is called under the place's.
     ///
     /// # Errors
     ///
-    /// All of the pass's shares stay. Which refusal may come to which command, the clauses say; exactly when it comes is told by
-    /// [`crate::Cell::run`], behind the lock. [`Refusal::TableFull`] where a command that creates finds each place bearing another key's name;
-    /// [`Refusal::OutOfStep`], which a pass of this table met in no test; [`Refusal::Spent`] where the place has no run
-    /// left; [`Refusal::ScoreOverflow`] to ZADD with INCR alone; those of the log to changes; [`Refusal::NoMemory`].
+    /// All of the pass's shares stay. [`Refusal::NoMemory`] may come to any command, at any time. [`Refusal::TableFull`]
+    /// where a command that creates finds each place bearing another key's name. The others the place gives: the clauses
+    /// here say only to which commands they may come, and those of [`crate::Cell::run`] say more, of a run behind the
+    /// lock. The set and the log's count stay. [`Refusal::OutOfStep`] comes first, where the place and the pass's share
+    /// of it tell different numbers, which was met in no test; then [`Refusal::Spent`], where the place has no run left,
+    /// though a question that reads under the shared lock takes none; then [`Refusal::ScoreOverflow`], where a sum of
+    /// INCR is no score, and those of the log, where the command would change the set.
     pub fn run<'c, R: Wait, G: TestGate>(
         &self,
         rt: &R,

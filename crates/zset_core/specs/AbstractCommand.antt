@@ -54,6 +54,7 @@ makes_a_set (Increase flags given member) = not flags.xx
 makes_a_set (Remove members) = false
 makes_a_set (RemoveRange range) = false
 
+-- whether a command makes a set where its key has none: a ZADD without XX
 abbrev pub is_creating : Meaning → Bool
 is_creating (Ping text) = false
 is_creating (Asks key question) = false

@@ -149,7 +149,7 @@ impl<H: BuildHasher, A: Allocator + Copy> ZSet<H, A> {
 
         // Prepared or refused, the members stay. ZADD and ZREM merge what waits where they need room, also
         // where they are then refused. ZREMRANGEBYSCORE merges what waits in its range and cracks it; refused
-        // it leaves the column as it was.
+        // it leaves the column as it was but for spare room.
         ensures members { self.new.members ≡ self.old.members }
         ensures column { PreparesColumn command.now.meaning self.old.members result
             self.old.column self.new.column }
