@@ -18,8 +18,8 @@ pub record Selects (range : Range) (old new : ColumnState) : Type 0 where
   -- with nothing to merge and no pivot dropped, a row moves only within a piece that is cracked
   pub still : pivots_with_cuts range old.pivots ≤ max_pivots → NoneIn range old.insertions → NoneIn range old.deletions → StandsStill range old new
 
--- the rows of a range leave a column that has its answer for it: the rows behind them and the pivots close up, and what waits
--- goes on waiting
+-- the rows of a range leave a column that has its answer for it: those that stay are the bag that closing up would leave, in what
+-- order is not told, the pivots close up, and what waits goes on waiting
 pub record TakesOut (range : Range) (old new : ColumnState) : Type 0 where
   pub ready : HasAnswer old range
   pub rows : (answer : ℕ × ℕ) → IsAnswer old range answer → SameBag new.rows (closed_up_rows answer.0 answer.1 old.rows)
