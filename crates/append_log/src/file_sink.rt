@@ -1,12 +1,11 @@
 //! Files as sinks, and their locks.
 
 ghost use Rattle.std.specs.Prelude.{◌≡◌, ℕ, ◌≤◌, None, length, IfOk, IfErr};
-ghost use Rattle.resp_wire.specs.Device.{saturating_succ};
 ghost use Rattle.append_log.specs.FileOpening.{IsOfLock};
 
 use crate::group_commit::SyncHandle;
 use crate::log_sinks::{LogSink, SinkFault};
-use resp_wire::{ATTEMPTS, is_interrupted, write_uninterrupted};
+use resp_wire::{ATTEMPTS, CallCount, is_interrupted, write_uninterrupted};
 use std::fs::{File, Metadata, OpenFile, TryLockError};
 use std::io::{Result as IoResult, Write};
 use std::os::unix::fs::MetadataExt;
@@ -109,8 +108,7 @@ pub(crate) fn sync_uninterrupted<F: OpenFile>(file: &F) -> IoResult<()> {
 #[derive(Drop)]
 pub struct FileSink<F> {
     file: F,
-    calls: u64,
-    failures: u64,
+    count: CallCount,
 }
 
 impl<F: Write + OpenFile> FileSink<F> {
@@ -120,8 +118,7 @@ impl<F: Write + OpenFile> FileSink<F> {
     {
         FileSink {
             file,
-            calls: 0,
-            failures: 0,
+            count: CallCount::new(),
         }
     }
 
@@ -136,22 +133,13 @@ impl<F: Write + OpenFile> FileSink<F> {
     {
         Ok(FileHandle {
             file: self.file.try_clone()?,
-            calls: 0,
-            failures: 0,
+            count: CallCount::new(),
         })
     }
 
     /// The file, for a sink that counts anew.
     pub(crate) fn into_file(self) -> F {
         self.file
-    }
-
-    fn fail(&mut self) -> SinkFault
-        ensures calls { self.new.calls ≡ self.old.calls }
-        ensures failures { self.new.failures ≡ saturating_succ self.old.failures }
-    {
-        self.failures = self.failures.saturating_add(1);
-        SinkFault
     }
 }
 
@@ -160,23 +148,23 @@ impl<F: Write + OpenFile> LogSink for FileSink<F> {
 
     ghost synced = { λ s. 0 };
 
-    ghost calls = { λ s. s.calls };
+    ghost calls = { λ s. s.count.calls };
 
-    ghost failures = { λ s. s.failures };
+    ghost failures = { λ s. s.count.failures };
 
     fn write(&mut self, bytes: &[u8]) -> Result<usize, SinkFault> {
-        self.calls = self.calls.saturating_add(1);
+        self.count.called();
         match write_uninterrupted(&mut self.file, bytes) {
             Ok(n) if n > 0 || bytes.is_empty() => Ok(n),
-            _ => Err(self.fail()),
+            _ => Err(self.count.failed(SinkFault)),
         }
     }
 
     fn sync(&mut self) -> Result<(), SinkFault> {
-        self.calls = self.calls.saturating_add(1);
+        self.count.called();
         match sync_uninterrupted(&self.file) {
             Ok(()) => Ok(()),
-            Err(_) => Err(self.fail()),
+            Err(_) => Err(self.count.failed(SinkFault)),
         }
     }
 }
@@ -186,20 +174,18 @@ impl<F: Write + OpenFile> LogSink for FileSink<F> {
 #[derive(Drop)]
 pub struct FileHandle<F> {
     file: F,
-    calls: u64,
-    failures: u64,
+    count: CallCount,
 }
 
 impl<F: OpenFile> SyncHandle for FileHandle<F> {
-    ghost calls = { λ h. h.calls };
+    ghost calls = { λ h. h.count.calls };
 
-    ghost failures = { λ h. h.failures };
+    ghost failures = { λ h. h.count.failures };
 
     fn sync(&mut self) -> Result<(), SinkFault> {
-        self.calls = self.calls.saturating_add(1);
+        self.count.called();
         if sync_uninterrupted(&self.file).is_err() {
-            self.failures = self.failures.saturating_add(1);
-            return Err(SinkFault);
+            return Err(self.count.failed(SinkFault));
         }
         Ok(())
     }

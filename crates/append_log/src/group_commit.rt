@@ -5,6 +5,7 @@ ghost use Rattle.resp_wire.specs.Device.{saturating_succ, failures_after, Rose};
 
 use crate::log::Log;
 use crate::log_sinks::{LogSink, SinkFault};
+use resp_wire::Fuse;
 use std::cell::Cell;
 use std::sync::ledger::Ledger;
 use std::sync::{Mutex, Wait};
@@ -27,9 +28,7 @@ pub trait SyncHandle {
 #[derive(Drop)]
 pub struct FuseHandle<'c> {
     seen: &'c Cell<u64>,
-    fails_at: u64,
-    calls: u64,
-    failures: u64,
+    fuse: Fuse,
 }
 
 impl<'c> FuseHandle<'c> {
@@ -40,24 +39,21 @@ impl<'c> FuseHandle<'c> {
     {
         FuseHandle {
             seen,
-            fails_at,
-            calls: 0,
-            failures: 0,
+            fuse: Fuse::new(fails_at),
         }
     }
 }
 
 impl<'c> SyncHandle for FuseHandle<'c> {
-    ghost calls = { λ h. h.calls };
+    ghost calls = { λ h. h.fuse.count.calls };
 
-    ghost failures = { λ h. h.failures };
+    ghost failures = { λ h. h.fuse.count.failures };
 
     fn sync(&mut self) -> Result<(), SinkFault> {
-        self.calls = self.calls.saturating_add(1);
-        self.seen.set(self.calls);
-        if self.calls == self.fails_at {
-            self.failures = self.failures.saturating_add(1);
-            return Err(SinkFault);
+        let blows = self.fuse.blows();
+        self.seen.set(self.fuse.calls());
+        if blows {
+            return Err(self.fuse.failed(SinkFault));
         }
         Ok(())
     }

@@ -5,6 +5,7 @@ ghost use Rattle.std.specs.Io.KnownBytes.{append_known};
 ghost use Rattle.resp_wire.specs.Device.{moved, saturating_succ, failures_after};
 ghost use Rattle.append_log.specs.SyncedBytes.{synced_after};
 
+use resp_wire::{CallCount, Fuse};
 use std::alloc::Allocator;
 use thiserror::Error;
 
@@ -87,8 +88,7 @@ pub struct MemorySink<A: Allocator> {
     bytes: Vec<u8, A>,
     chunk: usize,
     synced: usize,
-    calls: u64,
-    failures: u64,
+    count: CallCount,
     ghost some: { 0 < chunk },
 }
 
@@ -104,8 +104,7 @@ impl<A: Allocator> MemorySink<A> {
             bytes: Vec::new(alloc),
             chunk,
             synced: 0,
-            calls: 0,
-            failures: 0,
+            count: CallCount::new(),
         }
     }
 
@@ -122,22 +121,21 @@ impl<A: Allocator> LogSink for MemorySink<A> {
 
     ghost synced = { λ s. s.synced };
 
-    ghost calls = { λ s. s.calls };
+    ghost calls = { λ s. s.count.calls };
 
-    ghost failures = { λ s. s.failures };
+    ghost failures = { λ s. s.count.failures };
 
     fn write(&mut self, bytes: &[u8]) -> Result<usize, SinkFault> {
-        self.calls = self.calls.saturating_add(1);
+        self.count.called();
         let count = self.chunk.min(bytes.len());
         if self.bytes.extend_from_slice(&bytes[..count]).is_err() {
-            self.failures = self.failures.saturating_add(1);
-            return Err(SinkFault);
+            return Err(self.count.failed(SinkFault));
         }
         Ok(count)
     }
 
     fn sync(&mut self) -> Result<(), SinkFault> {
-        self.calls = self.calls.saturating_add(1);
+        self.count.called();
         self.synced = self.bytes.len();
         Ok(())
     }
@@ -147,9 +145,7 @@ impl<A: Allocator> LogSink for MemorySink<A> {
 #[derive(Drop)]
 pub struct FuseSink<S> {
     inner: S,
-    fails_at: u64,
-    calls: u64,
-    failures: u64,
+    fuse: Fuse,
 }
 
 impl<S: LogSink> FuseSink<S> {
@@ -162,9 +158,7 @@ impl<S: LogSink> FuseSink<S> {
     {
         FuseSink {
             inner,
-            fails_at,
-            calls: 0,
-            failures: 0,
+            fuse: Fuse::new(fails_at),
         }
     }
 
@@ -173,12 +167,7 @@ impl<S: LogSink> FuseSink<S> {
         ensures told { S.told result ≡ ⟦<FuseSink<S> as LogSink>⟧.told self }
         ensures synced { S.synced result ≡ ⟦<FuseSink<S> as LogSink>⟧.synced self }
     {
-        let FuseSink {
-            inner,
-            fails_at: _,
-            calls: _,
-            failures: _,
-        } = self;
+        let FuseSink { inner, fuse: _ } = self;
         inner
     }
 
@@ -186,24 +175,7 @@ impl<S: LogSink> FuseSink<S> {
     pub fn calls(&self) -> u64
         ensures { result ≡ ⟦<FuseSink<S> as LogSink>⟧.calls self.now }
     {
-        self.calls
-    }
-
-    // Counts a call, and says whether it is the one that fails.
-    fn blows(&mut self) -> bool
-        ensures { self.new ≡ record self.old { calls = saturating_succ self.old.calls } }
-    {
-        let before = self.calls;
-        self.calls = before.saturating_add(1);
-        before < u64::MAX && before + 1 == self.fails_at
-    }
-
-    // Counts a failure.
-    fn fail(&mut self) -> SinkFault
-        ensures { self.new ≡ record self.old { failures = saturating_succ self.old.failures } }
-    {
-        self.failures = self.failures.saturating_add(1);
-        SinkFault
+        self.fuse.calls()
     }
 }
 
@@ -212,27 +184,27 @@ impl<S: LogSink> LogSink for FuseSink<S> {
 
     ghost synced = { λ s. S.synced s.inner };
 
-    ghost calls = { λ s. s.calls };
+    ghost calls = { λ s. s.fuse.count.calls };
 
-    ghost failures = { λ s. s.failures };
+    ghost failures = { λ s. s.fuse.count.failures };
 
     fn write(&mut self, bytes: &[u8]) -> Result<usize, SinkFault> {
-        if self.blows() {
-            return Err(self.fail());
+        if self.fuse.blows() {
+            return Err(self.fuse.failed(SinkFault));
         }
         match self.inner.write(bytes) {
             Ok(count) => Ok(count),
-            Err(_) => Err(self.fail()),
+            Err(_) => Err(self.fuse.failed(SinkFault)),
         }
     }
 
     fn sync(&mut self) -> Result<(), SinkFault> {
-        if self.blows() {
-            return Err(self.fail());
+        if self.fuse.blows() {
+            return Err(self.fuse.failed(SinkFault));
         }
         match self.inner.sync() {
             Ok(()) => Ok(()),
-            Err(_) => Err(self.fail()),
+            Err(_) => Err(self.fuse.failed(SinkFault)),
         }
     }
 }

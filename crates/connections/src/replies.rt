@@ -3,7 +3,7 @@
 ghost use Rattle.std.specs.Prelude.{◌≡◌, ◌-◌, length};
 ghost use Rattle.resp_wire.specs.Device.{saturating_succ, failures_after, flushed_after};
 
-use resp_wire::{ByteDrain, Failed, Outbox, PolledDrain};
+use resp_wire::{ByteDrain, CallCount, Failed, Outbox, PolledDrain};
 use std::alloc::Allocator;
 
 /// An outbox that sends when it is asked to, and at no other time: a session that writes replies, and flushes them,
@@ -11,8 +11,7 @@ use std::alloc::Allocator;
 #[derive(Drop)]
 pub struct Replies<D, A: Allocator> {
     outbox: Outbox<D, A>,
-    calls: u64,
-    failures: u64,
+    count: CallCount,
 }
 
 impl<D: PolledDrain, A: Allocator + Copy> Replies<D, A> {
@@ -22,8 +21,7 @@ impl<D: PolledDrain, A: Allocator + Copy> Replies<D, A> {
     {
         Replies {
             outbox: Outbox::new(alloc, drain),
-            calls: 0,
-            failures: 0,
+            count: CallCount::new(),
         }
     }
 
@@ -66,19 +64,16 @@ impl<D: PolledDrain, A: Allocator + Copy> ByteDrain for Replies<D, A> {
 
     ghost flushed = { λ r. ⟦<Outbox<D, A> as ByteDrain>⟧.flushed r.outbox };
 
-    ghost calls = { λ r. r.calls };
+    ghost calls = { λ r. r.count.calls };
 
-    ghost failures = { λ r. r.failures };
+    ghost failures = { λ r. r.count.failures };
 
     /// Holds all of the piece. It fails where no memory is left for it, and holds nothing more then.
     fn write(&mut self, piece: &[u8]) -> Result<usize, Failed> {
-        self.calls = self.calls.saturating_add(1);
+        self.count.called();
         match self.outbox.write(piece) {
             Ok(n) => Ok(n),
-            Err(_) => {
-                self.failures = self.failures.saturating_add(1);
-                Err(Failed)
-            }
+            Err(_) => Err(self.count.failed(Failed)),
         }
     }
 
@@ -87,14 +82,13 @@ impl<D: PolledDrain, A: Allocator + Copy> ByteDrain for Replies<D, A> {
         ensures told { ⟦<Replies<D, A> as ByteDrain>⟧.told self.new ≡ ⟦<Replies<D, A> as ByteDrain>⟧.told self.old }
         ensures flushed { ⟦<Replies<D, A> as ByteDrain>⟧.flushed self.new
             ≡ flushed_after (⟦<Replies<D, A> as ByteDrain>⟧.flushed self.old) (⟦<Replies<D, A> as ByteDrain>⟧.told self.old) result }
-        ensures calls { self.new.calls ≡ saturating_succ self.old.calls }
-        ensures failures { self.new.failures ≡ failures_after self.old.failures result }
+        ensures calls { self.new.count.calls ≡ saturating_succ self.old.count.calls }
+        ensures failures { self.new.count.failures ≡ failures_after self.old.count.failures result }
         // Nothing leaves.
         ensures held { self.new.outbox ≡ self.old.outbox }
     {
         // Nothing is sent.
-        self.calls = self.calls.saturating_add(1);
-        self.failures = self.failures.saturating_add(1);
-        Err(Failed)
+        self.count.called();
+        Err(self.count.failed(Failed))
     }
 }

@@ -9,6 +9,7 @@ ghost use Rattle.std.specs.declared.io.ErrorKind.TheVariants.{Interrupted};
 ghost use Rattle.std.specs.Io.KnownBytes.{append_known, prepend_known, IsAtEnd};
 ghost use Rattle.resp_wire.specs.Device.{Rose, moved, saturating_succ, failures_after, flushed_after};
 
+use crate::call_count::CallCount;
 use std::error::Error;
 use std::fmt;
 use std::io::{Error as IoError, ErrorKind, Read, Result as IoResult, Write};
@@ -169,8 +170,7 @@ fn flush_uninterrupted<W: Write>(writer: &mut W) -> IoResult<()> {
 #[derive(Drop)]
 pub struct Reading<R> {
     pub(crate) inner: R,
-    pub(crate) calls: u64,
-    pub(crate) failures: u64,
+    pub(crate) count: CallCount,
 }
 
 impl<R: Read> Reading<R> {
@@ -180,8 +180,7 @@ impl<R: Read> Reading<R> {
     {
         Reading {
             inner,
-            calls: 0,
-            failures: 0,
+            count: CallCount::new(),
         }
     }
 
@@ -192,11 +191,7 @@ impl<R: Read> Reading<R> {
 
     /// Gives the reader back.
     pub fn into_inner(self) -> R {
-        let Reading {
-            inner,
-            calls: _,
-            failures: _,
-        } = self;
+        let Reading { inner, count: _ } = self;
         inner
     }
 }
@@ -204,18 +199,15 @@ impl<R: Read> Reading<R> {
 impl<R: Read> ByteSource for Reading<R> {
     ghost told = { λ s. None };
 
-    ghost calls = { λ s. s.calls };
+    ghost calls = { λ s. s.count.calls };
 
-    ghost failures = { λ s. s.failures };
+    ghost failures = { λ s. s.count.failures };
 
     fn read(&mut self, buffer: &mut [u8]) -> Result<usize, Failed> {
-        self.calls = self.calls.saturating_add(1);
+        self.count.called();
         match read_uninterrupted(&mut self.inner, buffer) {
             Ok(n) => Ok(n),
-            Err(_) => {
-                self.failures = self.failures.saturating_add(1);
-                Err(Failed)
-            }
+            Err(_) => Err(self.count.failed(Failed)),
         }
     }
 }
@@ -225,8 +217,7 @@ impl<R: Read> ByteSource for Reading<R> {
 #[derive(Drop)]
 pub struct Writing<W> {
     pub(crate) inner: W,
-    pub(crate) calls: u64,
-    failures: u64,
+    pub(crate) count: CallCount,
 }
 
 impl<W: Write> Writing<W> {
@@ -236,8 +227,7 @@ impl<W: Write> Writing<W> {
     {
         Writing {
             inner,
-            calls: 0,
-            failures: 0,
+            count: CallCount::new(),
         }
     }
 
@@ -245,20 +235,8 @@ impl<W: Write> Writing<W> {
     pub fn into_inner(self) -> W
         ensures { result ≡ self.inner }
     {
-        let Writing {
-            inner,
-            calls: _,
-            failures: _,
-        } = self;
+        let Writing { inner, count: _ } = self;
         inner
-    }
-
-    pub(crate) fn fail(&mut self) -> Failed
-        ensures calls { self.new.calls ≡ self.old.calls }
-        ensures failures { self.new.failures ≡ saturating_succ self.old.failures }
-    {
-        self.failures = self.failures.saturating_add(1);
-        Failed
     }
 }
 
@@ -267,23 +245,23 @@ impl<W: Write> ByteDrain for Writing<W> {
 
     ghost flushed = { λ s. None };
 
-    ghost calls = { λ s. s.calls };
+    ghost calls = { λ s. s.count.calls };
 
-    ghost failures = { λ s. s.failures };
+    ghost failures = { λ s. s.count.failures };
 
     fn write(&mut self, piece: &[u8]) -> Result<usize, Failed> {
-        self.calls = self.calls.saturating_add(1);
+        self.count.called();
         match write_uninterrupted(&mut self.inner, piece) {
             Ok(n) if n > 0 || piece.is_empty() => Ok(n),
-            _ => Err(self.fail()),
+            _ => Err(self.count.failed(Failed)),
         }
     }
 
     fn flush(&mut self) -> Result<(), Failed> {
-        self.calls = self.calls.saturating_add(1);
+        self.count.called();
         match flush_uninterrupted(&mut self.inner) {
             Ok(()) => Ok(()),
-            Err(_) => Err(self.fail()),
+            Err(_) => Err(self.count.failed(Failed)),
         }
     }
 }

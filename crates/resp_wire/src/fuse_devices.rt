@@ -3,43 +3,51 @@
 ghost use Rattle.std.specs.Prelude.{◌≡◌};
 ghost use Rattle.resp_wire.specs.Device.{saturating_succ};
 
+use crate::call_count::CallCount;
 use crate::device::{ByteDrain, ByteSource, Failed};
 
-/// Which call fails, and how many calls there were.
+/// Which call of a device fails, and how often it was called and failed, for tests. At 2^64 - 1 a count stays.
 #[derive(Drop)]
-pub(crate) struct Count {
+pub struct Fuse {
     fails_at: u64,
-    calls: u64,
-    failures: u64,
+    count: CallCount,
 }
 
-impl Count {
-    fn new(fails_at: u64) -> Self
-        ensures calls { result.calls ≡ 0 }
-        ensures failures { result.failures ≡ 0 }
+impl Fuse {
+    /// Call number `fails_at`, counted from 1, will fail; at 0 none.
+    pub fn new(fails_at: u64) -> Self
+        ensures { result.count ≡ record { calls = 0; failures = 0 } }
     {
-        Count {
+        Fuse {
             fails_at,
-            calls: 0,
-            failures: 0,
+            count: CallCount::new(),
         }
     }
 
-    /// Counts a call, and says whether it is the one that fails.
-    pub(crate) fn blows(&mut self) -> bool
-        ensures { self.new ≡ record self.old { calls = saturating_succ self.old.calls } }
+    /// The number of calls.
+    pub fn calls(&self) -> u64
+        ensures { result ≡ self.now.count.calls }
     {
-        let before = self.calls;
-        self.calls = before.saturating_add(1);
+        self.count.calls
+    }
+
+    /// Counts a call, and says whether it is the one that fails.
+    pub fn blows(&mut self) -> bool
+        ensures { self.new ≡ record self.old
+            { count = record self.old.count { calls = saturating_succ self.old.count.calls } } }
+    {
+        let before = self.count.calls;
+        self.count.called();
         before < u64::MAX && before + 1 == self.fails_at
     }
 
-    /// Counts a failure.
-    pub(crate) fn fail(&mut self) -> Failed
-        ensures { self.new ≡ record self.old { failures = saturating_succ self.old.failures } }
+    /// Counts a call as failed, and gives its error.
+    pub fn failed<E>(&mut self, error: E) -> E
+        ensures error { result ≡ error }
+        ensures count { self.new ≡ record self.old
+            { count = record self.old.count { failures = saturating_succ self.old.count.failures } } }
     {
-        self.failures = self.failures.saturating_add(1);
-        Failed
+        self.count.failed(error)
     }
 }
 
@@ -47,7 +55,7 @@ impl Count {
 #[derive(Drop)]
 pub struct FuseSource<S> {
     pub(crate) inner: S,
-    pub(crate) count: Count,
+    pub(crate) fuse: Fuse,
 }
 
 impl<S: ByteSource> FuseSource<S> {
@@ -59,7 +67,7 @@ impl<S: ByteSource> FuseSource<S> {
     {
         FuseSource {
             inner,
-            count: Count::new(fails_at),
+            fuse: Fuse::new(fails_at),
         }
     }
 
@@ -67,7 +75,7 @@ impl<S: ByteSource> FuseSource<S> {
     pub fn into_inner(self) -> S
         ensures told { S.told result ≡ ⟦<FuseSource<S> as ByteSource>⟧.told self }
     {
-        let FuseSource { inner, count: _ } = self;
+        let FuseSource { inner, fuse: _ } = self;
         inner
     }
 }
@@ -75,17 +83,17 @@ impl<S: ByteSource> FuseSource<S> {
 impl<S: ByteSource> ByteSource for FuseSource<S> {
     ghost told = { λ s. S.told s.inner };
 
-    ghost calls = { λ s. s.count.calls };
+    ghost calls = { λ s. s.fuse.count.calls };
 
-    ghost failures = { λ s. s.count.failures };
+    ghost failures = { λ s. s.fuse.count.failures };
 
     fn read(&mut self, buffer: &mut [u8]) -> Result<usize, Failed> {
-        if self.count.blows() {
-            return Err(self.count.fail());
+        if self.fuse.blows() {
+            return Err(self.fuse.failed(Failed));
         }
         match self.inner.read(buffer) {
             Ok(n) => Ok(n),
-            Err(_) => Err(self.count.fail()),
+            Err(_) => Err(self.fuse.failed(Failed)),
         }
     }
 }
@@ -95,7 +103,7 @@ impl<S: ByteSource> ByteSource for FuseSource<S> {
 #[derive(Drop)]
 pub struct FuseDrain<D> {
     pub(crate) inner: D,
-    pub(crate) count: Count,
+    pub(crate) fuse: Fuse,
 }
 
 impl<D: ByteDrain> FuseDrain<D> {
@@ -108,7 +116,7 @@ impl<D: ByteDrain> FuseDrain<D> {
     {
         FuseDrain {
             inner,
-            count: Count::new(fails_at),
+            fuse: Fuse::new(fails_at),
         }
     }
 
@@ -117,7 +125,7 @@ impl<D: ByteDrain> FuseDrain<D> {
         ensures told { D.told result ≡ ⟦<FuseDrain<D> as ByteDrain>⟧.told self }
         ensures flushed { D.flushed result ≡ ⟦<FuseDrain<D> as ByteDrain>⟧.flushed self }
     {
-        let FuseDrain { inner, count: _ } = self;
+        let FuseDrain { inner, fuse: _ } = self;
         inner
     }
 }
@@ -127,27 +135,27 @@ impl<D: ByteDrain> ByteDrain for FuseDrain<D> {
 
     ghost flushed = { λ d. D.flushed d.inner };
 
-    ghost calls = { λ d. d.count.calls };
+    ghost calls = { λ d. d.fuse.count.calls };
 
-    ghost failures = { λ d. d.count.failures };
+    ghost failures = { λ d. d.fuse.count.failures };
 
     fn write(&mut self, piece: &[u8]) -> Result<usize, Failed> {
-        if self.count.blows() {
-            return Err(self.count.fail());
+        if self.fuse.blows() {
+            return Err(self.fuse.failed(Failed));
         }
         match self.inner.write(piece) {
             Ok(n) => Ok(n),
-            Err(_) => Err(self.count.fail()),
+            Err(_) => Err(self.fuse.failed(Failed)),
         }
     }
 
     fn flush(&mut self) -> Result<(), Failed> {
-        if self.count.blows() {
-            return Err(self.count.fail());
+        if self.fuse.blows() {
+            return Err(self.fuse.failed(Failed));
         }
         match self.inner.flush() {
             Ok(()) => Ok(()),
-            Err(_) => Err(self.count.fail()),
+            Err(_) => Err(self.fuse.failed(Failed)),
         }
     }
 }

@@ -7,6 +7,7 @@
 #![tactic(auto)]
 
 mod bytes;
+mod call_count;
 mod decoder;
 mod decoder_steps;
 mod device;
@@ -22,6 +23,7 @@ mod reply;
 mod request;
 
 pub use bytes::{Bytes, BytesList};
+pub use call_count::CallCount;
 pub use decoder::Decoder;
 pub use device::{
     ATTEMPTS, ByteDrain, ByteSource, Failed, MAX_READ_BUFFER, MAX_READS, READ_BUFFER, Reading,
@@ -29,7 +31,7 @@ pub use device::{
 };
 pub use encoding::{write_array_header, write_bulk, write_number_bulk, write_reply, write_request};
 pub use fault::{ProtocolFault, WireFault};
-pub use fuse_devices::{FuseDrain, FuseSource};
+pub use fuse_devices::{Fuse, FuseDrain, FuseSource};
 pub use laws::{cut, encoding_round_trip, fault_table, faults, longest, one_encoding};
 pub use memory_devices::{MemoryDrain, MemorySource};
 pub use outbox::Outbox;

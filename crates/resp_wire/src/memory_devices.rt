@@ -4,6 +4,7 @@ ghost use Rattle.std.specs.Prelude.{◌≡◌, ℕ, ◌<◌, ◌≤◌, [], Some
 ghost use Rattle.std.specs.Io.KnownBytes.{append_known, prepend_known, IsAtEnd};
 ghost use Rattle.resp_wire.specs.Device.{moved, saturating_succ, failures_after};
 
+use crate::call_count::CallCount;
 use crate::device::{ByteDrain, ByteSource, Failed};
 use std::alloc::Allocator;
 
@@ -12,7 +13,7 @@ use std::alloc::Allocator;
 pub struct MemorySource<'a> {
     rest: &'a [u8],
     chunk: usize,
-    calls: u64,
+    count: CallCount,
     ghost some: { 0 < chunk },
 }
 
@@ -26,7 +27,7 @@ impl<'a> MemorySource<'a> {
         MemorySource {
             rest: bytes,
             chunk,
-            calls: 0,
+            count: CallCount::new(),
         }
     }
 }
@@ -34,7 +35,7 @@ impl<'a> MemorySource<'a> {
 impl<'a> ByteSource for MemorySource<'a> {
     ghost told = { λ s. Some s.rest.now };
 
-    ghost calls = { λ s. s.calls };
+    ghost calls = { λ s. s.count.calls };
 
     ghost failures = { λ s. 0 };
 
@@ -47,10 +48,10 @@ impl<'a> ByteSource for MemorySource<'a> {
         ensures told { Some self.old.rest.now
             ≡ prepend_known (moved result buffer.new) (Some self.new.rest.now) }
         ensures end { result ≡ Ok 0 → 0 < length buffer.old → IsAtEnd (Some self.new.rest.now) }
-        ensures calls { self.new.calls ≡ saturating_succ self.old.calls }
+        ensures calls { self.new.count.calls ≡ saturating_succ self.old.count.calls }
         ensures failures { 0 ≡ failures_after 0 result }
     {
-        self.calls = self.calls.saturating_add(1);
+        self.count.called();
         let n = self.chunk.min(self.rest.len()).min(buffer.len());
         let (prefix, rest) = self.rest.split_at(n);
         buffer[..n].copy_from_slice(prefix);
@@ -66,8 +67,7 @@ pub struct MemoryDrain<A: Allocator> {
     /// How many of these bytes stood at the last flush.
     flushed: usize,
     chunk: usize,
-    calls: u64,
-    failures: u64,
+    count: CallCount,
     ghost some: { 0 < chunk },
     ghost within: { flushed ≤ length bytes.items },
 }
@@ -85,8 +85,7 @@ impl<A: Allocator> MemoryDrain<A> {
             bytes: Vec::new(alloc),
             flushed: 0,
             chunk,
-            calls: 0,
-            failures: 0,
+            count: CallCount::new(),
         }
     }
 
@@ -110,9 +109,9 @@ impl<A: Allocator> ByteDrain for MemoryDrain<A> {
 
     ghost flushed = { λ s. Some (take s.flushed s.bytes.items) };
 
-    ghost calls = { λ s. s.calls };
+    ghost calls = { λ s. s.count.calls };
 
-    ghost failures = { λ s. s.failures };
+    ghost failures = { λ s. s.count.failures };
 
     /// Takes as much as the piece has and as `chunk` allows, or nothing where no memory is left.
     fn write(&mut self, piece: &[u8]) -> Result<usize, Failed>
@@ -124,14 +123,13 @@ impl<A: Allocator> ByteDrain for MemoryDrain<A> {
             ≡ append_known (Some self.old.bytes.items) (moved result piece.now) }
         ensures flushed { Some (take self.new.flushed self.new.bytes.items)
             ≡ Some (take self.old.flushed self.old.bytes.items) }
-        ensures calls { self.new.calls ≡ saturating_succ self.old.calls }
-        ensures failures { self.new.failures ≡ failures_after self.old.failures result }
+        ensures calls { self.new.count.calls ≡ saturating_succ self.old.count.calls }
+        ensures failures { self.new.count.failures ≡ failures_after self.old.count.failures result }
     {
-        self.calls = self.calls.saturating_add(1);
+        self.count.called();
         let n = self.chunk.min(piece.len());
         if self.bytes.extend_from_slice(&piece[..n]).is_err() {
-            self.failures = self.failures.saturating_add(1);
-            return Err(Failed);
+            return Err(self.count.failed(Failed));
         }
         Ok(n)
     }
@@ -143,10 +141,10 @@ impl<A: Allocator> ByteDrain for MemoryDrain<A> {
         ensures told { Some self.new.bytes.items ≡ Some self.old.bytes.items }
         ensures flushed { Some (take self.new.flushed self.new.bytes.items)
             ≡ Some self.old.bytes.items }
-        ensures calls { self.new.calls ≡ saturating_succ self.old.calls }
-        ensures failures { self.new.failures ≡ self.old.failures }
+        ensures calls { self.new.count.calls ≡ saturating_succ self.old.count.calls }
+        ensures failures { self.new.count.failures ≡ self.old.count.failures }
     {
-        self.calls = self.calls.saturating_add(1);
+        self.count.called();
         self.flushed = self.bytes.len();
         Ok(())
     }

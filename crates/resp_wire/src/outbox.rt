@@ -3,6 +3,7 @@
 ghost use Rattle.std.specs.Prelude.{◌≡◌, ◌↔◌, ◌-◌, ◌≤◌, true, IfOk, IsTrue, drop, length};
 ghost use Rattle.std.specs.Io.KnownBytes.{append_known};
 
+use crate::call_count::CallCount;
 use crate::device::{ByteDrain, Failed};
 use crate::polled_devices::PolledDrain;
 use std::alloc::Allocator;
@@ -16,8 +17,7 @@ pub struct Outbox<D, A: Allocator> {
     held: Vec<u8, A>,
     /// How many of the bytes held the drain has taken.
     sent: usize,
-    calls: u64,
-    failures: u64,
+    count: CallCount,
     ghost within: { sent ≤ length held.items },
 }
 
@@ -31,8 +31,7 @@ impl<D: PolledDrain, A: Allocator + Copy> Outbox<D, A> {
             drain,
             held: Vec::new(alloc),
             sent: 0,
-            calls: 0,
-            failures: 0,
+            count: CallCount::new(),
         }
     }
 
@@ -109,30 +108,26 @@ impl<D: PolledDrain, A: Allocator + Copy> ByteDrain for Outbox<D, A> {
 
     ghost flushed = { λ o. D.flushed o.drain };
 
-    ghost calls = { λ o. o.calls };
+    ghost calls = { λ o. o.count.calls };
 
-    ghost failures = { λ o. o.failures };
+    ghost failures = { λ o. o.count.failures };
 
     /// Holds all of the piece. It fails where no memory is left for it, and holds nothing more then.
     fn write(&mut self, piece: &[u8]) -> Result<usize, Failed> {
-        self.calls = self.calls.saturating_add(1);
+        self.count.called();
         match self.held.extend_from_slice(piece) {
             Ok(()) => Ok(piece.len()),
-            Err(_) => {
-                self.failures = self.failures.saturating_add(1);
-                Err(Failed)
-            }
+            Err(_) => Err(self.count.failed(Failed)),
         }
     }
 
     /// Sends on what is held. It fails where the drain does not take all of it now: the rest is held.
     fn flush(&mut self) -> Result<(), Failed> {
-        self.calls = self.calls.saturating_add(1);
+        self.count.called();
         let is_sent = self.pump() == Ok(true) && self.drain.flush().is_ok();
         if is_sent {
             return Ok(());
         }
-        self.failures = self.failures.saturating_add(1);
-        Err(Failed)
+        Err(self.count.failed(Failed))
     }
 }

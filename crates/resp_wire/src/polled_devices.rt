@@ -41,25 +41,22 @@ pub trait PolledDrain: ByteDrain {
 
 impl<R: Read> PolledSource for Reading<R> {
     fn read_now(&mut self, buffer: &mut [u8]) -> Result<Option<usize>, Failed> {
-        self.calls = self.calls.saturating_add(1);
+        self.count.called();
         match read_uninterrupted(&mut self.inner, buffer) {
             Ok(n) => Ok(Some(n)),
             Err(error) if is_blocked(&error) => Ok(None),
-            Err(_) => {
-                self.failures = self.failures.saturating_add(1);
-                Err(Failed)
-            }
+            Err(_) => Err(self.count.failed(Failed)),
         }
     }
 }
 
 impl<W: Write> PolledDrain for Writing<W> {
     fn write_now(&mut self, piece: &[u8]) -> Result<Option<usize>, Failed> {
-        self.calls = self.calls.saturating_add(1);
+        self.count.called();
         match write_uninterrupted(&mut self.inner, piece) {
             Ok(n) if n > 0 || piece.is_empty() => Ok(Some(n)),
             Err(error) if is_blocked(&error) => Ok(None),
-            _ => Err(self.fail()),
+            _ => Err(self.count.failed(Failed)),
         }
     }
 }
@@ -80,24 +77,24 @@ impl<A: Allocator> PolledDrain for MemoryDrain<A> {
 
 impl<S: PolledSource> PolledSource for FuseSource<S> {
     fn read_now(&mut self, buffer: &mut [u8]) -> Result<Option<usize>, Failed> {
-        if self.count.blows() {
-            return Err(self.count.fail());
+        if self.fuse.blows() {
+            return Err(self.fuse.failed(Failed));
         }
         match self.inner.read_now(buffer) {
             Ok(read) => Ok(read),
-            Err(_) => Err(self.count.fail()),
+            Err(_) => Err(self.fuse.failed(Failed)),
         }
     }
 }
 
 impl<D: PolledDrain> PolledDrain for FuseDrain<D> {
     fn write_now(&mut self, piece: &[u8]) -> Result<Option<usize>, Failed> {
-        if self.count.blows() {
-            return Err(self.count.fail());
+        if self.fuse.blows() {
+            return Err(self.fuse.failed(Failed));
         }
         match self.inner.write_now(piece) {
             Ok(taken) => Ok(taken),
-            Err(_) => Err(self.count.fail()),
+            Err(_) => Err(self.fuse.failed(Failed)),
         }
     }
 }

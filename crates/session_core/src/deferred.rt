@@ -41,8 +41,8 @@ where
     ensures settled { OnOk result (owner.new.log.settled ≡ owner.new.log.appended) }
     ensures synced { IsSynced owner.old owner.new }
     ensures err { IfErr result (λ end. end ≡ WriteFault progress.now.out) }
-    ensures failures { MatchResult result (λ _. replies.new.failures ≡ replies.old.failures)
-        (λ end. DrainFailed end replies.old.failures replies.new.failures) }
+    ensures failures { MatchResult result (λ _. replies.new.count.failures ≡ replies.old.count.failures)
+        (λ end. DrainFailed end replies.old.count.failures replies.new.count.failures) }
 {
     match replies.let_go(owner) {
         Ok(()) => Ok(()),
@@ -73,8 +73,8 @@ impl<A: Allocator + Copy> Session<A> {
             (⟦<HeldReplies<D, A> as ByteDrain>⟧.told replies.old) owner.old self.old.decoder self.old.progress
             → IsPast start source₀ source drain₀ (⟦<HeldReplies<D, A> as ByteDrain>⟧.told replies.new)
             result owner.new self.new.decoder self.new.progress }
-        ensures failures { MatchResult result (λ _. replies.new.failures ≡ replies.old.failures)
-            (λ end. DrainFailed end replies.old.failures replies.new.failures) }
+        ensures failures { MatchResult result (λ _. replies.new.count.failures ≡ replies.old.count.failures)
+            (λ end. DrainFailed end replies.old.count.failures replies.new.count.failures) }
         ensures sent_on { IfErr result (λ end. SentOn end (⟦<HeldReplies<D, A> as ByteDrain>⟧.told replies.new)
             (D.flushed replies.new.inner)) }
         ensures between { IfErr result IsBetween }
@@ -137,8 +137,8 @@ impl<A: Allocator + Copy> Session<A> {
             (λ _. S.failures source.new ≡ S.failures source.old)
             (λ end. SessionSourceFailed end (S.failures source.old) (S.failures source.new)) }
         ensures drain_failures { MatchResult result
-            (λ _. replies.new.failures ≡ replies.old.failures)
-            (λ end. DrainFailed end replies.old.failures replies.new.failures) }
+            (λ _. replies.new.count.failures ≡ replies.old.count.failures)
+            (λ end. DrainFailed end replies.old.count.failures replies.new.count.failures) }
         ensures sent_on { MatchResult result
             (λ next. OnSome next ((D.flushed replies.new.inner ≡ ⟦<HeldReplies<D, A> as ByteDrain>⟧.told replies.new)
             × (owner.new.log.settled ≡ owner.new.log.appended)))
@@ -193,8 +193,8 @@ where
     ensures source_failures { MatchResult result
         (λ _. S.failures source.new ≡ S.failures source.old)
         (λ end. SessionSourceFailed end (S.failures source.old) (S.failures source.new)) }
-    ensures drain_failures { MatchResult result (λ _. replies.new.failures ≡ replies.old.failures)
-        (λ end. DrainFailed end replies.old.failures replies.new.failures) }
+    ensures drain_failures { MatchResult result (λ _. replies.new.count.failures ≡ replies.old.count.failures)
+        (λ end. DrainFailed end replies.old.count.failures replies.new.count.failures) }
     ensures sent_on { MatchResult result
         (λ _. D.flushed replies.new.inner ≡ ⟦<HeldReplies<D, A> as ByteDrain>⟧.told replies.new)
         (λ end. SentOn end (⟦<HeldReplies<D, A> as ByteDrain>⟧.told replies.new) (D.flushed replies.new.inner)) }

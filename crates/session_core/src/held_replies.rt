@@ -2,12 +2,12 @@
 
 ghost use Rattle.std.specs.Prelude.{◌≡◌, ◌≤◌, ◌⊎◌, [], length, take, OnOk, MatchResult};
 ghost use Rattle.std.specs.Io.KnownBytes.{append_known};
-ghost use Rattle.resp_wire.specs.Device.{Rose, saturating_succ};
+ghost use Rattle.resp_wire.specs.Device.{Rose};
 ghost use Rattle.append_log.specs.LogViewAndSteps.{Settles};
 ghost use Rattle.session_core.specs.ExchangesBetweenSyncs.{IsSynced};
 
 use append_log::{LogSink, LoggedOwner};
-use resp_wire::{ByteDrain, Failed, write_all};
+use resp_wire::{ByteDrain, CallCount, Failed, write_all};
 use std::alloc::Allocator;
 use std::hash::BuildHasher;
 use std::sync::ledger::Ledger;
@@ -34,8 +34,7 @@ pub struct HeldReplies<D, A: Allocator> {
     held: Vec<u8, A>,
     /// How many of the bytes held were written before the last flush.
     flushed: usize,
-    calls: u64,
-    failures: u64,
+    count: CallCount,
     ghost within: { flushed ≤ length held.items },
 }
 
@@ -44,14 +43,13 @@ impl<D: ByteDrain, A: Allocator> HeldReplies<D, A> {
     pub fn new(alloc: A, inner: D) -> Self
         ensures inner { result.inner ≡ inner }
         ensures held { result.held.items ≡ [] }
-        ensures uncalled { (result.calls ≡ 0) × (result.failures ≡ 0) }
+        ensures uncalled { (result.count.calls ≡ 0) × (result.count.failures ≡ 0) }
     {
         HeldReplies {
             inner,
             held: Vec::new(alloc),
             flushed: 0,
-            calls: 0,
-            failures: 0,
+            count: CallCount::new(),
         }
     }
 
@@ -71,21 +69,9 @@ impl<D: ByteDrain, A: Allocator> HeldReplies<D, A> {
             inner,
             held,
             flushed: _,
-            calls: _,
-            failures: _,
+            count: _,
         } = self;
         (inner, held.len())
-    }
-
-    /// Counts a failure.
-    fn fail(&mut self) -> Failed
-        ensures inner { self.new.inner ≡ self.old.inner }
-        ensures held { (self.new.held ≡ self.old.held) × (self.new.flushed ≡ self.old.flushed) }
-        ensures calls { self.new.calls ≡ self.old.calls }
-        ensures failures { self.new.failures ≡ saturating_succ self.old.failures }
-    {
-        self.failures = self.failures.saturating_add(1);
-        Failed
     }
 
     /// Sends what is held, and has the inner drain send it on.
@@ -98,21 +84,21 @@ impl<D: ByteDrain, A: Allocator> HeldReplies<D, A> {
             ≡ ⟦<HeldReplies<D, A> as ByteDrain>⟧.told self.old }
         ensures none { OnOk result (self.new.held.items ≡ []) }
         ensures sent { OnOk result (D.flushed self.new.inner ≡ ⟦<HeldReplies<D, A> as ByteDrain>⟧.told self.new) }
-        ensures calls { self.new.calls ≡ self.old.calls }
-        ensures failures { MatchResult result (λ _. self.new.failures ≡ self.old.failures)
-            (λ _. Rose self.old.failures self.new.failures) }
+        ensures calls { self.new.count.calls ≡ self.old.count.calls }
+        ensures failures { MatchResult result (λ _. self.new.count.failures ≡ self.old.count.failures)
+            (λ _. Rose self.old.count.failures self.new.count.failures) }
     {
         self.flushed = 0;
         if let Err(taken) = write_all(&mut self.inner, &self.held) {
             let len = self.held.len();
             self.held.copy_within(taken.., 0);
             self.held.truncate(len - taken);
-            return Err(self.fail());
+            return Err(self.count.failed(Failed));
         }
         self.held.clear();
         match self.inner.flush() {
             Ok(()) => Ok(()),
-            Err(_) => Err(self.fail()),
+            Err(_) => Err(self.count.failed(Failed)),
         }
     }
 
@@ -134,13 +120,13 @@ impl<D: ByteDrain, A: Allocator> HeldReplies<D, A> {
         // Nothing leaves but behind a sync of all records.
         ensures unsettled { (owner.new.log.settled ≡ owner.new.log.appended) ⊎ (self.new.inner ≡ self.old.inner) }
         ensures synced { IsSynced owner.old owner.new }
-        ensures calls { self.new.calls ≡ self.old.calls }
-        ensures failures { MatchResult result (λ _. self.new.failures ≡ self.old.failures)
-            (λ _. Rose self.old.failures self.new.failures) }
+        ensures calls { self.new.count.calls ≡ self.old.count.calls }
+        ensures failures { MatchResult result (λ _. self.new.count.failures ≡ self.old.count.failures)
+            (λ _. Rose self.old.count.failures self.new.count.failures) }
     {
         match settle(owner) {
             Ok(()) => self.send(),
-            Err(_) => Err(self.fail()),
+            Err(_) => Err(self.count.failed(Failed)),
         }
     }
 }
@@ -150,22 +136,22 @@ impl<D: ByteDrain, A: Allocator> ByteDrain for HeldReplies<D, A> {
 
     ghost flushed = { λ h. append_known (D.told h.inner) (take h.flushed h.held.items) };
 
-    ghost calls = { λ h. h.calls };
+    ghost calls = { λ h. h.count.calls };
 
-    ghost failures = { λ h. h.failures };
+    ghost failures = { λ h. h.count.failures };
 
     /// Holds all of the piece. It fails where no memory is left for it, and holds nothing more then.
     fn write(&mut self, piece: &[u8]) -> Result<usize, Failed> {
-        self.calls = self.calls.saturating_add(1);
+        self.count.called();
         match self.held.extend_from_slice(piece) {
             Ok(()) => Ok(piece.len()),
-            Err(_) => Err(self.fail()),
+            Err(_) => Err(self.count.failed(Failed)),
         }
     }
 
     /// What is held goes on being held.
     fn flush(&mut self) -> Result<(), Failed> {
-        self.calls = self.calls.saturating_add(1);
+        self.count.called();
         self.flushed = self.held.len();
         Ok(())
     }

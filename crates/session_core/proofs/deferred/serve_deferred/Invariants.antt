@@ -15,5 +15,5 @@ invariant-reads g l = record {
   few : g.S.ByteSource.calls l.source ≤ g.S.ByteSource.calls l.fn.source + l.counter;
   many : min (g.S.ByteSource.calls l.fn.source + l.counter) (2 ^ 64 - 1) ≤ g.S.ByteSource.calls l.source;
   source_good : g.S.ByteSource.failures l.source ≡ g.S.ByteSource.failures l.fn.source;
-  drain_good : l.replies.failures ≡ l.fn.replies.failures;
+  drain_good : l.replies.count.failures ≡ l.fn.replies.count.failures;
 }

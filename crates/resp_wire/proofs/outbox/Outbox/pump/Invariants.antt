@@ -7,8 +7,8 @@ invariant-loop-self g l = record {
   within : l.self.sent ≤ length l.self.held.items;
   told : append_known (g.D.ByteDrain.told l.self.drain) (drop l.self.sent l.self.held.items) ≡ append_known (g.D.ByteDrain.told l.fn.self.drain) (drop l.fn.self.sent l.fn.self.held.items);
   flushed : g.D.ByteDrain.flushed l.self.drain ≡ g.D.ByteDrain.flushed l.fn.self.drain;
-  calls : l.self.calls ≡ l.fn.self.calls;
-  failures : l.self.failures ≡ l.fn.self.failures;
+  calls : l.self.count.calls ≡ l.fn.self.count.calls;
+  failures : l.self.count.failures ≡ l.fn.self.count.failures;
 }
 
 abbrev pub decreases-loop-self : goal.decreases-loop-self

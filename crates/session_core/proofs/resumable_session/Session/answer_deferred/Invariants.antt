@@ -12,7 +12,7 @@ invariant-turns g l = record {
       → PartWay TalkBetweenSyncs start source₀ source drain₀ (append_known (g.D.ByteDrain.told l.replies.inner) l.replies.held.items) l.owner l.self.decoder l.self.progress;
   ready : SessionIsBetweenReads l.self.decoder l.self.progress;
   bytes : l.self.decoder.taken + length l.self.decoder.held ≡ l.fn.self.decoder.taken + length l.fn.self.decoder.held;
-  good : l.replies.failures ≡ l.fn.replies.failures;
+  good : l.replies.count.failures ≡ l.fn.replies.count.failures;
 }
 
 abbrev pub decreases-turns : goal.decreases-turns
