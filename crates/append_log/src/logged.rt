@@ -223,26 +223,23 @@ impl<H: BuildHasher + Clone + Drop, S: LogSink, L: Ledger, A: Allocator + Copy> 
         if !command.writes() {
             return run_reading(&mut self.owner, command);
         }
-        let ran = run_writing_once(
+        match run_writing_once(
             self.alloc,
             &mut self.owner,
             &mut self.log,
             &mut self.share,
             command,
-        );
-        // A removal that finds no memory lets go what the owner keeps back, and is run again.
-        if let Err(refusal) = ran {
-            if self.owner.lets_go_for::<()>(command, &Err(refusal)) {
-                return run_writing_once(
-                    self.alloc,
-                    &mut self.owner,
-                    &mut self.log,
-                    &mut self.share,
-                    command,
-                );
-            }
+        ) {
+            // A removal that finds no memory lets go what the owner keeps back, and is run again.
+            Err(refusal) if self.owner.lets_go_for(command, refusal) => run_writing_once(
+                self.alloc,
+                &mut self.owner,
+                &mut self.log,
+                &mut self.share,
+                command,
+            ),
+            ran => ran,
         }
-        ran
     }
 
     /// Settles the records of a deferred log, as [`Log::sync`] does. No set changes.

@@ -217,13 +217,10 @@ impl<H: BuildHasher, S: LogSink, L: Ledger, A: Allocator + Copy> Table<H, S, L, 
             pass.spare.keep()?;
             return self.run_at(pass, at);
         }
-        let ran = self.run_at(pass, at);
-        if let Err(refusal) = ran {
-            if pass.spare.lets_go_for::<()>(at.command, &Err(refusal)) {
-                return self.run_at(pass, at);
-            }
+        match self.run_at(pass, at) {
+            Err(refusal) if pass.spare.lets_go_for(at.command, refusal) => self.run_at(pass, at),
+            ran => ran,
         }
-        ran
     }
 
     /// Answers a command that reads: under the shared lock where the set can as it stands and reads few rows for it,

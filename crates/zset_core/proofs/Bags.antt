@@ -17,11 +17,14 @@ use Rattle.zset_core.proofs.Tests.{first, second}
 use Rattle.zset_core.specs.SortedSet.{Members, Pair, bytes_cmp, pairs}
 use Rattle.zset_core.specs.Plan.{NeedsAtMost}
 use Rattle.zset_core.specs.RowEdits.{Notes, Turns}
-use Rattle.zset_core.specs.declared.set.plan.Plan.{Plan}
+use Rattle.zset_core.specs.declared.set.plan.Plan.TheVariants.{Scores}
+use Rattle.zset_core.specs.declared.set.plan.ScoresPlan.{ScoresPlan}
 use Rattle.zset_core.specs.declared.set.row_edits.Edits.{Edits}
 use Rattle.zset_core.proofs.Bridge.{total, exact}
 use Rattle.zset_core.proofs.Order.{swapped}
+use Rattle.zset_core.specs.MembersWithStagedScores.{Entry, ScoresAreSettled, current_score, staged_score, members_by}
 use Rattle.zset_core.proofs.Gathering.{remove_absent}
+use Rattle.zset_core.proofs.Staging.{members_same}
 
 abbrev pub one : Test → Pair → ℕ
 one p x = cond (p x) 1 0
@@ -163,16 +166,20 @@ module _ {A : Type 0} where
       let d : count_by p e.leaving.items ≡ 0 = ap (count_by p) nothing in
       omega (arith, a, b, c, d, n.bags p)
 
-  pub NeedsAtMost-noted : (most more : ℕ) (old new : Members) (e : Edits A) (plan : Plan A) → e.coming.items ≡ [] → e.leaving.items ≡ [] → plan.removed.keys ≡ [] → most ≤ more
-      → Notes most old new e plan.draft.edits → NeedsAtMost more plan
-  NeedsAtMost-noted most more old new e plan none nothing stays up n = record {
+  pub NeedsAtMost-noted : (most more : ℕ) (old new : Members) (e : Edits A) (plan : ScoresPlan A) → e.coming.items ≡ [] → e.leaving.items ≡ [] → most ≤ more
+      → Notes most old new e plan.draft.edits → NeedsAtMost more (Scores plan)
+  NeedsAtMost-noted most more old new e plan none nothing up n = record {
     coming = omega (arith, up, n.coming, ap length none);
-    leaving = omega (arith, up, n.leaving, ap length nothing, ap length stays);
+    leaving = omega (arith, up, n.leaving, ap length nothing);
   }
 
-  pub NeedsAtMost-removed : (most : ℕ) (plan : Plan A) → plan.draft.edits.coming.items ≡ [] → plan.draft.edits.leaving.items ≡ [] → length plan.removed.keys ≤ most → NeedsAtMost most plan
-  NeedsAtMost-removed most plan none nothing few = record { coming = omega (arith, ap length none); leaving = omega (arith, few, ap length nothing) }
+  pub NeedsAtMost-none : (most : ℕ) (plan : ScoresPlan A) → plan.draft.edits.coming.items ≡ [] → plan.draft.edits.leaving.items ≡ [] → NeedsAtMost most (Scores plan)
+  NeedsAtMost-none most plan none nothing = record { coming = omega (arith, ap length none); leaving = omega (arith, ap length nothing) }
 
   -- nothing changes where nothing is noted
   pub Turns-none : (m : Members) (e : Edits A) → e.coming.items ≡ [] → e.leaving.items ≡ [] → Turns m m e.coming.items e.leaving.items
   Turns-none m e none nothing p = omega (arith, ap (count_by p) none, ap (count_by p) nothing)
+
+-- entries whose scores are settled are what they were by no edit
+pub Turns-settled : (es : List Entry) → ScoresAreSettled es → Turns (members_by current_score es) (members_by staged_score es) [] []
+Turns-settled es settled p = ap (λ (m : Members). count_by p (pairs m) + 0) (members_same es settled)

@@ -9,7 +9,7 @@ use Rattle.zset_core.specs.SortedSet.{Members}
 use Rattle.zset_core.specs.AbstractCommand.{Meaning, Ping, Asks, Changes, Change, Add, Increase, Remove, RemoveRange, range_of_change, range_to_remove}
 use Rattle.zset_core.specs.MovedMembers.{effect, moved_names, names_in, names_of_change, prepared_effect}
 use Rattle.zset_core.specs.MembersWithStagedScores.{Entry, current_score, rows_by, name_at}
-use Rattle.zset_core.specs.Plan.{edited_by, left_by, moved_places, range_of, without_given}
+use Rattle.zset_core.specs.Plan.{edited_by, kept_by, left_by, moved_by, range_of, without_given}
 use Rattle.zset_core.specs.SetAndOwnerViews.{SetView}
 use Rattle.zset_core.specs.SetViewAndInvariant.{view_of, IsPlanned, IsSoundSet}
 use Rattle.zset_core.specs.declared.set.Prepared.{Prepared}
@@ -28,13 +28,13 @@ no_range range (Changes key change) old new n i is many lt = no_range_of range c
 
 module _ {A : Type 0} (es : List Entry) (column : ColumnState) (q : Prepared A) (planned : IsPlanned es column q.asked.value.meaning q.plan) where
   abbrev old : Members
-  old = fin.from_entries (take q.plan.draft.kept (rows_by current_score es))
+  old = fin.from_entries (take (kept_by es q.plan) (rows_by current_score es))
 
   abbrev new : Members
   new = left_by es q.plan
 
   abbrev places : List ℕ
-  places = moved_places q.plan.draft
+  places = moved_by q.plan
 
   abbrev named : List (List ℕ)
   named = moved_names old new (names_in q.asked.value.meaning)
@@ -65,11 +65,11 @@ module _ {A : Type 0} (es : List Entry) (column : ColumnState) (p : Option (Prep
   view : view_of es column (Some q) ≡ v
   view = sym (ap (view_of es column) prepared) ∙ is
 
-  pub len_shown : length (moved_places q.plan.draft) ≡ length (prepared_effect v)
+  pub len_shown : length (moved_by q.plan) ≡ length (prepared_effect v)
   len_shown = effect-len es column q planned ∙ ap (λ (w : SetView). length (prepared_effect w)) view
 
-  pub at_shown : (i : ℕ) (name : List ℕ) (score : Option ℤ) → i < length (moved_places q.plan.draft) → name ≡ name_at es (get_or (moved_places q.plan.draft) i 0)
-      → score ≡ fin.get (edited_by es q.plan) (name_at es (get_or (moved_places q.plan.draft) i 0)) → slice_get (prepared_effect v) i ≡ Some (name, score)
+  pub at_shown : (i : ℕ) (name : List ℕ) (score : Option ℤ) → i < length (moved_by q.plan) → name ≡ name_at es (get_or (moved_by q.plan) i 0)
+      → score ≡ fin.get (edited_by es q.plan) (name_at es (get_or (moved_by q.plan) i 0)) → slice_get (prepared_effect v) i ≡ Some (name, score)
   at_shown i name score lt same has =
       sym (ap (λ (w : SetView). slice_get (prepared_effect w) i) view) ∙ effect-at es column q planned i name score lt same has
 

@@ -1,13 +1,12 @@
 -- The places of the members that a draft moves, gathered from those that it noted.
-use Rattle.std.proofs.Common.{◌≡◌, ℕ, zero, suc, ◌+◌, ◌<◌, ◌≤◌, ◌||◌, ◌&&◌, not, Bool, true, false, cond, nat_eq, List, [], ◌∷◌, ◌++◌, length, take, set, nat_lt, get_or, refl, sym, ap, subst, ◌∙◌, arith, true≢false, append_assoc, append-nil, length-append, ◌-◌, ℤ, Option, None, Some, slice_get}
+use Rattle.std.proofs.Common.{◌≡◌, ℕ, zero, suc, ◌+◌, ◌<◌, ◌≤◌, ◌||◌, ◌&&◌, not, Bool, true, false, cond, nat_eq, List, [], ◌∷◌, ◌++◌, length, take, set, nat_lt, get_or, refl, sym, ap, subst, ◌∙◌, arith, true≢false, append_assoc, append-nil, length-append, ◌-◌, None}
 use Rattle.std.specs.List.{IsDistinct, list_any, range_with_len, swap}
 use Rattle.std.specs.Map.{keys_of}
 use Rattle.std.specs.Str.{bytes_eq}
 use Rattle.std.proofs.lemmas.Bool.Decides.{nat_tests}
-use Rattle.std.proofs.lemmas.List.{take_all, take_more, take-set-le, length-take-le, get_or_append_left, get_or-append_right, get_or-take}
+use Rattle.std.proofs.lemmas.List.{take_more, take-set-le, length-take-le, get_or_append_left, get_or-append_right, get_or-take}
 use Rattle.std.proofs.lemmas.List.FromFn.{length-range_with_len, get_or-range_with_len}
 use Rattle.std.specs.FinMap as fin
-use Rattle.std.specs.Ordering.{is_eq, nat_cmp}
 use Rattle.std.proofs.lemmas.List.Edits.{swapped_from_swap, length-swap, swap_is}
 use Rattle.std.proofs.lemmas.List.Folds.{list_any_at, list_any-append}
 use Rattle.zset_core.specs.SortedSet.{Members}
@@ -19,7 +18,7 @@ use Rattle.zset_core.specs.MembersWithStagedScores.{Entry, staged_score, members
 use Rattle.zset_core.specs.Semantics.{remove_all}
 use Rattle.zset_core.proofs.Gathering.{get-remove_all}
 use Rattle.zset_core.proofs.Outlines.{before, has}
-use Rattle.zset_core.proofs.Effects.{any_place, new_moved, moved-kept, moved-there, moved-more, names_at-push, staged_at}
+use Rattle.zset_core.proofs.Effects.{any_place, new_moved, moved-kept, moved-there, moved-more, names_at-push}
 
 -- ---- places in a row
 pub IsWithin-append : (n : ℕ) (ps qs : List ℕ) → IsWithin n ps → IsWithin n qs → IsWithin n (ps ++ qs)
@@ -213,11 +212,6 @@ no_last : (ps : List ℕ) (p : ℕ) → ps ++ p ∷ [] ≡ [] → ⊥
 no_last [] p h = cc
 no_last (q ∷ ps) p h = cc
 
--- where all that was noted moves
-pub moved_all : (es : List Entry) (kept leading moved : ℕ) (touched : List ℕ) → leading ≡ 0 → moved ≡ length touched → names_at es (range_with_len kept leading ++ take moved touched) ≡ names_at es touched
-moved_all es kept leading moved touched none all =
-    ap (λ (n : ℕ). names_at es (range_with_len kept n ++ take moved touched)) none ∙ ap (names_at es) (take_all moved touched (omega (arith, all)))
-
 -- ---- drafts
 module _ {A : Type 0} where
   -- a new draft notes nothing and moves nothing
@@ -273,17 +267,15 @@ module _ {A : Type 0} where
       get_or-append_right (range_with_len draft.kept draft.leading) (take draft.moved draft.touched.items) draft.leading i 0 (length-range_with_len draft.kept draft.leading) le
       ∙ get_or-take draft.moved draft.touched.items (i - draft.leading) 0 (omega (arith, le, lt))
 
-compared : (p k : ℕ) → is_eq (nat_cmp p k) ≡ nat_eq p k
-compared p k = grind (arith, nat_tests)
+self : (n : ℕ) → nat_eq n n ≡ true
+self n = grind (arith, nat_tests)
 
-any_compared : (p : ℕ) (ks : List ℕ) → list_any (λ k. is_eq (nat_cmp p k)) ks ≡ list_any (nat_eq p) ks
-any_compared p [] = refl
-any_compared p (k ∷ ks) = ap (λ (b : Bool). b || list_any (λ k. is_eq (nat_cmp p k)) ks) (compared p k) ∙ ap (λ (b : Bool). nat_eq p k || b) (any_compared p ks)
-
--- what a member has once those at some places left
-pub score_left : (es : List Entry) (removed : List ℕ) (p : ℕ) (e : Entry) → IsDistinct same_bytes (keys_of es) → IsWithin (length es) removed → p < length es → slice_get es p ≡ Some e
-    → fin.get (remove_all (members_by staged_score es) (names_at es removed)) (name_at es p) ≡ cond (list_any (λ k. is_eq (nat_cmp p k)) removed) None (Some e.1.staged)
-score_left es removed p e apart within inside at =
-    get-remove_all (members_by staged_score es) (names_at es removed) (name_at es p)
-    ∙ ap (λ (b : Bool). cond b None (fin.get (members_by staged_score es) (name_at es p))) (sym (any_compared p removed ∙ any_place es removed p apart within inside))
-    ∙ ap (λ (o : Option ℤ). cond (list_any (λ k. is_eq (nat_cmp p k)) removed) None o) (staged_at es p e apart at)
+-- a member that leaves has no score once those at all places left
+pub score_gone : (es : List Entry) (order places : List ℕ) (i : ℕ) → IsDistinct same_bytes (keys_of es) → IsWithin (length es) order
+    → ((q : List ℕ) → list_any (bytes_eq q) (names_at es order) ≡ list_any (bytes_eq q) (names_at es places)) → i < length order
+    → fin.get (remove_all (members_by staged_score es) (names_at es places)) (name_at es (get_or order i 0)) ≡ None
+score_gone es order places i apart within same lt =
+    let place = get_or order i 0 in
+    let named : list_any (bytes_eq (name_at es place)) (names_at es order) ≡ true = sym (any_place es order place apart within (IsWithin-get (length es) order i within lt)) ∙ list_any_at (nat_eq place) order i 0 lt (self place) in
+    get-remove_all (members_by staged_score es) (names_at es places) (name_at es place)
+    ∙ ap (λ (b : Bool). cond b None (fin.get (members_by staged_score es) (name_at es place))) (sym (same (name_at es place)) ∙ named)

@@ -10,6 +10,7 @@ use Rattle.indexmap.proofs.MapLemmas.{distinct-take, Found-position}
 use Rattle.ripple_column.specs.Content.{ColumnState}
 use Rattle.zset_core.specs.SetAndOwnerViews.{SetView}
 use Rattle.zset_core.specs.MembersWithStagedScores.{Entry, current_score, members_by, slot_at, same_bytes}
+use Rattle.zset_core.specs.Plan.{kept_by}
 use Rattle.zset_core.specs.SetViewAndInvariant.{view_of, IsSoundSet, kept_of}
 use Rattle.zset_core.specs.declared.set.Prepared.{Prepared}
 use Rattle.zset_core.specs.declared.set.members_with_staged_scores.ScoreSlot.{ScoreSlot}
@@ -66,7 +67,7 @@ keys_of-take (suc n) (e ∷ es) = ap (λ ks. e.0 ∷ ks) (keys_of-take n es)
 module _ {A : Type 0} where
   pub members_kept : (es : List Entry) (c : ColumnState) (p : Option (Prepared A)) (v : SetView) → view_of es c p ≡ v → v.members ≡ members_by current_score (take (kept_of es p) es)
   members_kept es c None v is = sym (ap (λ w. w.members) is) ∙ ap (λ (l : List Entry). members_by current_score l) (sym (take-length es))
-  members_kept es c (Some q) v is = sym (ap (λ w. w.members) is) ∙ ap (λ (rows : List (List ℕ × ℤ)). fin.from_entries rows) (sym (rows_take current_score q.plan.draft.kept es))
+  members_kept es c (Some q) v is = sym (ap (λ w. w.members) is) ∙ ap (λ (rows : List (List ℕ × ℤ)). fin.from_entries rows) (sym (rows_take current_score (kept_by es q.plan) es))
 
   pub kept_within : (es : List Entry) (p : Option (Prepared A)) (c : ColumnState) → IsSoundSet es c p → kept_of es p ≤ length es
   kept_within es None c s = omega arith

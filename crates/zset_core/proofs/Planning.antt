@@ -8,7 +8,7 @@ use Rattle.zset_core.specs.SortedSet.{Members, pairs}
 use Rattle.zset_core.specs.MembersWithStagedScores.{Entry, current_score, staged_score, rows_by, members_by, names_at, IsBack, ScoresAreSettled}
 use Rattle.zset_core.specs.RowEdits.{most_edits}
 use Rattle.zset_core.specs.MovedMembers.{moved_names, names_in}
-use Rattle.zset_core.specs.Plan.{Moves, MovesTo, NeedsAtMost, Plans, Prepares, edited_by, left_by, range_of, rows_coming, rows_leaving}
+use Rattle.zset_core.specs.Plan.{Moves, MovesTo, NeedsAtMost, Plans, Prepares, coming_rows, edited_by, kept_by, replaced_rows, left_by, outline_of, range_of, removed_by, count_coming, count_leaving}
 use Rattle.zset_core.specs.ChangeCounts.{IsOutline}
 use Rattle.zset_core.specs.CommandEffectsOnColumn.{MakesReady, MakesRoom, PreparesColumn}
 use Rattle.zset_core.specs.AbstractCommand.{Change, Add, Increase, Remove, RemoveRange, Changes, Meaning, range_to_remove}
@@ -41,28 +41,28 @@ module _ {A : Type 0} where
       let shown : Some (next_of es q) ≡ v.next = ap (λ (w : SetView). w.next) is in
       absurd (not_none (next_of es q) (shown ∙ idle))
 
-  pub outline_left : (old new : List Entry) (plan : Plan A) (o : Option (Members × Response)) (m : Members) → members_by current_score old ≡ m → Plans old new plan o → IsOutline plan.outline m (left_by new plan)
+  pub outline_left : (old new : List Entry) (plan : Plan A) (o : Option (Members × Response)) (m : Members) → members_by current_score old ≡ m → Plans old new plan o → IsOutline (outline_of plan) m (left_by new plan)
   outline_left old new plan o m is h =
       let p = (Prepares-some old new plan o h).1 in
-      subst (λ (k : Members). IsOutline plan.outline k (left_by new plan)) is (subst (IsOutline plan.outline (members_by current_score old)) (sym p.members_are) p.outline_is)
+      subst (λ (k : Members). IsOutline (outline_of plan) k (left_by new plan)) is (subst (IsOutline (outline_of plan) (members_by current_score old)) (sym p.members_are) p.outline_is)
 
   -- no more members come in than there are edits
-  pub few_added : (old new : List Entry) (plan : Plan A) (o : Option (Members × Response)) → Plans old new plan o → plan.outline.added ≤ most_edits
+  pub few_added : (old new : List Entry) (plan : Plan A) (o : Option (Members × Response)) → Plans old new plan o → (outline_of plan).added ≤ most_edits
   few_added old new plan o h =
       let s = Prepares-some old new plan o h in
       let p = s.1 in
       let bag = p.edits_are (λ r. true) in
       let a = count_pairs (members_by current_score old) in
       let b = count_pairs (members_by staged_score new) in
-      let less = len_removed (members_by staged_score new) (names_at new plan.removed.keys) in
+      let less = len_removed (members_by staged_score new) (names_at new (removed_by plan)) in
       let fewer : fin.len s.0.0 ≤ fin.len (edited_by new plan) = subst (λ (m : Members). fin.len m ≤ fin.len (edited_by new plan)) p.members_are (len_without_given (range_of plan) (edited_by new plan)) in
       elim p.outline_is.one_way [
         | inl none ↦ omega (arith, none)
-        | inr none ↦ omega (arith, none, p.outline_is.sums, bag, a, b, less, fewer, count_all plan.draft.edits.coming.items, count_all plan.draft.edits.leaving.items, p.few_rows.coming)
+        | inr none ↦ omega (arith, none, p.outline_is.sums, bag, a, b, less, fewer, count_all (coming_rows plan), count_all (replaced_rows plan), p.few_rows.coming)
       ]
 
   -- a column with room for so many rows has room for these
-  pub room_fits : (old new : ColumnState) (plan : Plan A) (n : ℕ) → NeedsAtMost n plan → MakesRoom (max (rows_coming plan) (rows_leaving plan)) old new → MakesRoom n old new
+  pub room_fits : (old new : ColumnState) (plan : Plan A) (n : ℕ) → NeedsAtMost n plan → MakesRoom (max (count_coming plan) (count_leaving plan)) old new → MakesRoom n old new
   room_fits old new plan n most room = record { pivots = room.pivots; still = λ fits. room.still (omega (arith, most.coming, most.leaving, fits)) }
 
   pub column_shown : (es : List Entry) (c : ColumnState) (p : Option (Prepared A)) (v : SetView) → view_of es c p ≡ v → c ≡ v.column
@@ -91,16 +91,16 @@ module _ {A : Type 0} where
       absurd (not_none (next_of old q) (shown ∙ idle))
 
   -- the members that a plan moves, by the set that its commit leaves
-  MovesTo-left : (old new : List Entry) (plan : Plan A) (names : List (List ℕ)) (o : Option (Members × Response)) → Plans old new plan o → Moves old new plan names o → MovesTo old new plan.draft names (left_by new plan)
+  MovesTo-left : (old new : List Entry) (plan : Plan A) (names : List (List ℕ)) (o : Option (Members × Response)) → Plans old new plan o → Moves old new plan names o → MovesTo old new plan names (left_by new plan)
   MovesTo-left old new plan names None h m = absurd h
-  MovesTo-left old new plan names (Some done) h m = subst (MovesTo old new plan.draft names) (sym h.members_are) m
+  MovesTo-left old new plan names (Some done) h m = subst (MovesTo old new plan names) (sym h.members_are) m
 
   pub IsPlanned-made : (old new : List Entry) (c c' : ColumnState) (meaning : Meaning) (plan : Plan A) (o : Option (Members × Response)) → IsIdle old c → Plans old new plan o → SameContent c c'
       → IsReadyForPlan c' plan → range_of plan ≡ range_to_remove meaning → Moves old new plan (names_in meaning) o → IsPlanned new c' meaning plan
   IsPlanned-made old new c c' meaning plan o idle h content ready range moves =
       let done = (Prepares-some old new plan o h).0 in
       let p = (Prepares-some old new plan o h).1 in
-      let front : take plan.draft.kept (rows_by current_score new) ≡ rows_by current_score old = ap (λ (n : ℕ). take n (rows_by current_score new)) p.kept ∙ p.grows.front in
+      let front : take (kept_by new plan) (rows_by current_score new) ≡ rows_by current_score old = ap (λ (n : ℕ). take n (rows_by current_score new)) p.kept ∙ p.grows.front in
       let to = MovesTo-left old new plan (names_in meaning) o h moves in
       record {
         kept = omega (arith, p.kept, p.grows.longer);
@@ -115,7 +115,7 @@ module _ {A : Type 0} where
       }
 
   -- once the plan is let go
-  pub IsIdle-discard : (es new : List Entry) (c : ColumnState) (meaning : Meaning) (plan : Plan A) → IsPlanned es c meaning plan → rows_by current_score new ≡ take plan.draft.kept (rows_by current_score es) → ScoresAreSettled new → IsIdle new c
+  pub IsIdle-discard : (es new : List Entry) (c : ColumnState) (meaning : Meaning) (plan : Plan A) → IsPlanned es c meaning plan → rows_by current_score new ≡ take (kept_by es plan) (rows_by current_score es) → ScoresAreSettled new → IsIdle new c
   IsIdle-discard es new c meaning plan p is settled = record {
     settled = settled;
     content = λ t. p.content t ∙ ap (λ (rows : List (List ℕ × ℤ)). count_by t (pairs (fin.from_entries rows))) (sym is);

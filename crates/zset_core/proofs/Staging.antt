@@ -232,7 +232,3 @@ members_gone f bs m n h = one_gone f m.entries n.entries bs (updates_bytes bs m 
 
 pub IsWaiting-none : (es : List Entry) → ScoresAreSettled es → IsWaiting [] es
 IsWaiting-none es h = record { within = tt; settled = λ i none. h i }
-
--- none of these places waits where no entry does
-pub IsWaiting-any : (ps : List ℕ) (es : List Entry) → ScoresAreSettled es → IsWithin (length es) ps → IsWaiting ps es
-IsWaiting-any ps es h within = record { within = within; settled = λ i none. h i }

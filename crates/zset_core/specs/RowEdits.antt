@@ -21,5 +21,5 @@ abbrev pub most_edits : ℕ
 most_edits = 1027
 
 -- the content of a column, with the rows that come and without those that leave, is the bag of a set's pairs
-abbrev pub TurnsInto : {A : Type 0} → ColumnState → Members → Edits A → Type 0
-TurnsInto c new edits = (p : Test) → count_by p (pairs new) + count_by p edits.leaving.items ≡ content_count p c + count_by p edits.coming.items
+abbrev pub TurnsInto : ColumnState → Members → (coming leaving : List Pair) → Type 0
+TurnsInto c new coming leaving = (p : Test) → count_by p (pairs new) + count_by p leaving ≡ content_count p c + count_by p coming

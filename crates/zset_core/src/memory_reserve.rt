@@ -1,6 +1,6 @@
 //! Memory that is kept back for removals.
 
-ghost use Rattle.std.specs.Prelude.{◌≡◌, ◌<◌, ◌≤◌, ◌↔◌, Err, IsOk, OnErr, OnOk, IsTrue, IsFalse};
+ghost use Rattle.std.specs.Prelude.{◌≡◌, ◌<◌, ◌≤◌, ◌↔◌, IsOk, OnErr, OnOk, IsTrue, IsFalse};
 ghost use Rattle.zset_core.specs.AbstractCommand.{is_removing};
 ghost use Rattle.zset_core.specs.declared.refusal.Refusal.TheVariants.{NoMemory};
 
@@ -53,15 +53,15 @@ impl<A: Allocator> Spare<A> {
         self.block.reserve_exact(KEPT_BACK)
     }
 
-    /// Whether a command is to be run again: a removal that found no memory, while some was kept back for it. That is let
-    /// go then.
-    pub fn lets_go_for<T>(&mut self, command: &Command<A>, ran: &Result<T, Refusal>) -> bool
-        ensures again { IsTrue result ↔ ((ran.now ≡ Err NoMemory) × IsTrue (is_removing command.now.meaning)
+    /// Whether a command that was refused is to be run again: a removal that found no memory, while some was kept back for
+    /// it. That is let go then.
+    pub fn lets_go_for(&mut self, command: &Command<A>, refusal: Refusal) -> bool
+        ensures again { IsTrue result ↔ ((refusal ≡ NoMemory) × IsTrue (is_removing command.now.meaning)
             × (0 < self.old)) }
         ensures gone { IsTrue result → self.new ≡ 0 }
         ensures kept { IsFalse result → self.new ≡ self.old }
     {
-        matches!(ran, Err(Refusal::NoMemory)) && command.removes() && self.let_go()
+        refusal == Refusal::NoMemory && command.removes() && self.let_go()
     }
 
     /// Lets go what is kept back, and answers whether there was any.

@@ -1,5 +1,5 @@
 //! Sets by key.
-ghost use Rattle.std.specs.Prelude.{◌≡◌, None, Err, IfOk, IfErr, IfSome, OnOk, OnErr, IsSome, IsTrue, MatchOption, option_map, slice_get};
+ghost use Rattle.std.specs.Prelude.{◌≡◌, None, IfOk, IfErr, IfSome, OnOk, OnErr, IsSome, IsTrue, MatchOption, option_map, slice_get};
 ghost use Rattle.std.specs.FinMap as map;
 ghost use Rattle.std.specs.Option.{option_copied};
 ghost use Rattle.resp_wire.specs.Response.{response_of};
@@ -142,13 +142,13 @@ impl<H: BuildHasher + Clone + Drop, A: Allocator + Copy> OneOwner<H, A> {
         }
     }
 
-    /// Whether a command is to be run again: a removal that found no memory, while some was kept back for it, which is let
-    /// go then. Nothing that a contract tells of the owner changes.
-    pub fn lets_go_for<T>(&mut self, command: &Command<A>, ran: &Result<T, Refusal>) -> bool
+    /// Whether a command that was refused is to be run again: a removal that found no memory, while some was kept back for
+    /// it, which is let go then. Nothing that a contract tells of the owner changes.
+    pub fn lets_go_for(&mut self, command: &Command<A>, refusal: Refusal) -> bool
         ensures same { self.new ≡ self.old }
-        ensures again { IsTrue result → (ran.now ≡ Err NoMemory) × IsTrue (is_removing command.now.meaning) }
+        ensures again { IsTrue result → (refusal ≡ NoMemory) × IsTrue (is_removing command.now.meaning) }
     {
-        self.spare.lets_go_for(command, ran)
+        self.spare.lets_go_for(command, refusal)
     }
 
     /// Makes the change that is prepared in the set of the command's key, and gives its reply. It

@@ -170,7 +170,7 @@ impl<H: BuildHasher, A: Allocator + Copy> ZSet<H, A> {
             words,
             change,
         )?;
-        let outline = plan.outline;
+        let outline = plan.outline();
         let asked = Snapshot::of(command);
         self.prepared = Some(Prepared { asked, plan });
         Ok(outline)
@@ -184,7 +184,7 @@ impl<H: BuildHasher, A: Allocator + Copy> ZSet<H, A> {
     {
         match &self.prepared {
             None => 0,
-            Some(prepared) => prepared.plan.draft.moved_len(&self.members),
+            Some(prepared) => prepared.plan.moved_len(&self.members),
         }
     }
 
@@ -236,7 +236,7 @@ impl<H: BuildHasher, A: Allocator + Copy> ZSet<H, A> {
     }
 }
 
-/// The number of entries that stand whatever becomes of what is prepared.
+/// The number of entries from before what is prepared: of the members that callers see.
 fn kept_len<H: BuildHasher, A: Allocator + Copy>(
     members: &MemberMap<H, A>,
     prepared: &Option<Prepared<A>>,
@@ -248,7 +248,10 @@ fn kept_len<H: BuildHasher, A: Allocator + Copy>(
     let len = members.len();
     match prepared {
         None => len,
-        Some(prepared) => prepared.plan.draft.kept,
+        Some(prepared) => match &prepared.plan {
+            Plan::Scores(plan) => plan.draft.kept,
+            Plan::Removal(_) | Plan::RangeRemoval(_) => len,
+        },
     }
 }
 

@@ -69,11 +69,12 @@ pub fn prepare_at<H: BuildHasher + Clone + Drop, A: Allocator + Copy>(
     if command.creates() {
         spare.keep()?;
     }
-    let outline = prepare_once_at(alloc, hasher, sets, key, command);
-    if spare.lets_go_for(command, &outline) {
-        return prepare_once_at(alloc, hasher, sets, key, command);
+    match prepare_once_at(alloc, hasher, sets, key, command) {
+        Err(refusal) if spare.lets_go_for(command, refusal) => {
+            prepare_once_at(alloc, hasher, sets, key, command)
+        }
+        prepared => prepared,
     }
-    outline
 }
 
 /// Commits what is prepared in the set at a key.

@@ -92,9 +92,10 @@ pub fn run_at<H: BuildHasher + Clone + Drop, A: Allocator + Copy>(
     if command.creates() {
         spare.keep()?;
     }
-    let ran = run_once_at(alloc, hasher, sets, key, command);
-    if spare.lets_go_for(command, &ran) {
-        return run_once_at(alloc, hasher, sets, key, command);
+    match run_once_at(alloc, hasher, sets, key, command) {
+        Err(refusal) if spare.lets_go_for(command, refusal) => {
+            run_once_at(alloc, hasher, sets, key, command)
+        }
+        ran => ran,
     }
-    ran
 }

@@ -1,6 +1,6 @@
 //! The removal of members that a ZREM names: planned by their places, and made once it is committed. No
 //! member is copied on the way: its name goes from the entries into the row that leaves the column.
-ghost use Rattle.std.specs.Prelude.{◌≡◌, ◌+◌, ◌-◌, ◌<◌, ◌≤◌, ◌++◌, ◌∷◌, ℕ, pos, length, List, [], IfOk, OnOk, None};
+ghost use Rattle.std.specs.Prelude.{◌≡◌, ◌+◌, ◌-◌, ◌<◌, ◌≤◌, ◌++◌, ◌∷◌, ℕ, pos, length, List, [], IfOk, OnOk};
 ghost use Rattle.std.specs.FinMap as map;
 ghost use Rattle.std.specs.List.{list_any};
 ghost use Rattle.std.specs.Str.{bytes_eq};
@@ -12,14 +12,14 @@ ghost use Rattle.zset_core.specs.MovedMembers.{moved_names};
 ghost use Rattle.zset_core.specs.RemovedMemberPlaces.{AreFoundPlaces};
 ghost use Rattle.zset_core.specs.NamesTouchedByPlan.{noted};
 ghost use Rattle.zset_core.specs.Plan.{MovesTo, NeedsAtMost, Prepares};
+ghost use Rattle.zset_core.specs.declared.set.plan.Plan.TheVariants.{Removal};
 ghost use Rattle.zset_core.specs.RowEdits.{most_edits};
 ghost use Rattle.zset_core.specs.SortedSet.{pairs};
 
 use crate::score_and_count_replies::count_reply;
 use crate::set::change_counts::Outline;
-use crate::set::draft::Draft;
 use crate::set::members_with_staged_scores::{MemberMap, find_slot};
-use crate::set::plan::Plan;
+use crate::set::plan::RemovalPlan;
 use crack_kernel::Row;
 use resp_wire::Bytes;
 use ripple_column::Column;
@@ -87,6 +87,8 @@ fn find_places<H: BuildHasher, A: Allocator + Copy>(
         ≡ moved_names (members_by current_score members.now.entries)
         (remove_all (members_by current_score members.now.entries) names.now) names.now) }
     ensures noted { OnOk result (IsWithin (length members.now.entries) order.new.items) }
+    ensures same { IfOk result (λ places. (q : List ℕ) → list_any (bytes_eq q) (names_at members.now.entries order.new.items)
+        ≡ list_any (bytes_eq q) (names_at members.now.entries places.keys)) }
     ensures gone { IfOk result (λ places. remove_all (members_by current_score members.now.entries)
         (names_at members.now.entries places.keys)
         ≡ remove_all (members_by current_score members.now.entries) names.now) }
@@ -108,27 +110,24 @@ pub fn plan_remove<H: BuildHasher, A: Allocator + Copy>(
     alloc: A,
     members: &MemberMap<H, A>,
     names: &[Bytes<A>],
-) -> Result<Plan<A>, AllocError>
+) -> Result<RemovalPlan<A>, AllocError>
     requires settled { ScoresAreSettled members.now.entries }
     requires few { length names.now ≤ most_edits }
-    ensures ok { IfOk result (λ plan. Prepares members.now.entries members.now.entries plan
+    ensures ok { IfOk result (λ plan. Prepares members.now.entries members.now.entries (Removal plan)
         (remove_all (members_by current_score members.now.entries) names.now)
         (Integer (pos (map.len (members_by current_score members.now.entries)
         - map.len (remove_all (members_by current_score members.now.entries) names.now))))) }
     ensures rows { IfOk result (λ plan. NeedsAtMost (map.len (members_by current_score members.now.entries)
-        - map.len (remove_all (members_by current_score members.now.entries) names.now)) plan) }
-    ensures named { IfOk result (λ plan. plan.range ≡ None) }
-    ensures moved { IfOk result (λ plan. MovesTo members.now.entries members.now.entries plan.draft names.now
+        - map.len (remove_all (members_by current_score members.now.entries) names.now)) (Removal plan)) }
+    ensures moved { IfOk result (λ plan. MovesTo members.now.entries members.now.entries (Removal plan) names.now
         (remove_all (members_by current_score members.now.entries) names.now)) }
 {
-    let mut draft = Draft::new(alloc, members.len());
-    let removed = find_places(alloc, members, names, &mut draft.touched)?;
-    let count = removed.len();
-    draft.moved = draft.touched.len();
-    Ok(Plan {
-        draft,
-        removed,
-        range: None,
+    let mut order = Vec::new(alloc);
+    let places = find_places(alloc, members, names, &mut order)?;
+    let count = places.len();
+    Ok(RemovalPlan {
+        places,
+        order,
         reply: count_reply(count),
         outline: Outline {
             added: 0,

@@ -7,7 +7,7 @@ ghost use Rattle.zset_core.specs.MovedMembers.{differs, moved_names};
 ghost use Rattle.zset_core.specs.MembersWithStagedScores.{current_score, staged_score, members_by, name_at, names_at, IsWaiting, IsWithin};
 ghost use Rattle.zset_core.specs.NamesTouchedByPlan.{IsLed, noted_places};
 ghost use Rattle.zset_core.specs.PlaceMarks.{AreMarked};
-ghost use Rattle.zset_core.specs.Plan.{IsCounted, edited_by, moved_places};
+ghost use Rattle.zset_core.specs.Plan.{HasMovedPlaces, IsCounted, edited_by, moved_by, moved_places, touched_by};
 
 use crate::set::draft::Draft;
 use crate::set::members_with_staged_scores::MemberMap;
@@ -172,6 +172,35 @@ impl<A: Allocator + Copy> Draft<A> {
     }
 }
 
+impl<A: Allocator + Copy> Plan<A> {
+    /// How many members move that are named.
+    pub fn moved_len<H: BuildHasher>(&self, members: &MemberMap<H, A>) -> usize
+        requires counted { HasMovedPlaces self.now members.now.entries }
+        ensures { result ≡ length (moved_by self.now) }
+    {
+        match self {
+            Plan::Scores(plan) => plan.draft.moved_len(members),
+            Plan::Removal(plan) => plan.order.len(),
+            Plan::RangeRemoval(_) => 0,
+        }
+    }
+
+    /// The place of one of them.
+    fn moved_place<H: BuildHasher>(&self, members: &MemberMap<H, A>, index: usize) -> usize
+        requires counted { HasMovedPlaces self.now members.now.entries }
+        requires waiting { IsWaiting (touched_by self.now) members.now.entries }
+        requires index { index < length (moved_by self.now) }
+        ensures place { result ≡ get_or (moved_by self.now) index 0 }
+        ensures within { result < length members.now.entries }
+    {
+        match self {
+            Plan::Scores(plan) => plan.draft.moved_place(members, index),
+            Plan::Removal(plan) => plan.order[index],
+            Plan::RangeRemoval(_) => unreachable!(),
+        }
+    }
+}
+
 /// What becomes of one of the members that a plan moves: its name, and the score that it gets, None where
 /// it leaves by its name.
 pub fn effect_entry<'a, H: BuildHasher, A: Allocator + Copy>(
@@ -179,24 +208,21 @@ pub fn effect_entry<'a, H: BuildHasher, A: Allocator + Copy>(
     plan: &Plan<A>,
     index: usize,
 ) -> (&'a [u8], Option<i64>)
-    requires counted { IsCounted plan.now.draft members.now.entries }
-    requires waiting { IsWaiting plan.now.draft.touched.items members.now.entries }
-    requires removed { IsWithin (length members.now.entries) plan.now.removed.keys }
-    requires index { index < length (moved_places plan.now.draft) }
+    requires counted { HasMovedPlaces plan.now members.now.entries }
+    requires waiting { IsWaiting (touched_by plan.now) members.now.entries }
+    requires index { index < length (moved_by plan.now) }
     ensures name { result.0.now
-        ≡ name_at members.entry.now.entries (get_or (moved_places plan.entry.now.draft) index 0) }
+        ≡ name_at members.entry.now.entries (get_or (moved_by plan.entry.now) index 0) }
     ensures score { result.1 ≡ map.get (edited_by members.entry.now.entries plan.entry.now)
-        (name_at members.entry.now.entries (get_or (moved_places plan.entry.now.draft) index 0)) }
+        (name_at members.entry.now.entries (get_or (moved_by plan.entry.now) index 0)) }
 {
     let _count = members.len();
-    let place = plan.draft.moved_place(members, index);
+    let place = plan.moved_place(members, index);
     match members.get_index(place) {
         None => unreachable!(),
-        Some((name, slot)) => {
-            if plan.removed.contains(&place) {
-                return (name.as_slice(), None);
-            }
-            (name.as_slice(), Some(slot.staged))
-        }
+        Some((name, slot)) => match plan {
+            Plan::Scores(_) => (name.as_slice(), Some(slot.staged)),
+            Plan::Removal(_) | Plan::RangeRemoval(_) => (name.as_slice(), None),
+        },
     }
 }

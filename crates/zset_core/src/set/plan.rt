@@ -1,8 +1,8 @@
 //! What is prepared in a set, and how the plan for it is made.
-ghost use Rattle.std.specs.Prelude.{◌≡◌, ◌+◌, ◌-◌, ◌<◌, ◌≤◌, ◌∷◌, [], true, max, length, take, pos, IfOk, IfErr, None, OnOk, OnErr, IsTrue};
+ghost use Rattle.std.specs.Prelude.{◌≡◌, ◌+◌, ◌-◌, ◌<◌, ◌≤◌, ◌∷◌, [], true, max, length, take, pos, IfOk, IfErr, OnOk, OnErr};
 ghost use Rattle.std.specs.FinMap as map;
 ghost use Rattle.resp_wire.specs.Response.{Integer, response_of};
-ghost use Rattle.zset_core.specs.CommandEffectsOnColumn.{MakesReady, MakesRoom, edits_of, increase_edits, names_members};
+ghost use Rattle.zset_core.specs.CommandEffectsOnColumn.{MakesReady, MakesRoom, increase_edits};
 ghost use Rattle.zset_core.specs.Semantics.{counted, outcome_of, put_one, put_all, count_all, remove_all, increase, changed_by};
 ghost use Rattle.zset_core.specs.AbstractCommand.{range_of_change};
 ghost use Rattle.resp_wire.specs.RequestEncoding.{most_arguments};
@@ -12,7 +12,8 @@ ghost use Rattle.zset_core.specs.RowEdits.{most_edits};
 ghost use Rattle.zset_core.specs.MembersWithStagedScores.{current_score, staged_score, rows_by, members_by, ScoresAreSettled, IsBack, IsWaiting, Grows};
 ghost use Rattle.zset_core.specs.SortedSet.{names_of, pairs};
 ghost use Rattle.zset_core.specs.MovedMembers.{names_of_change};
-ghost use Rattle.zset_core.specs.Plan.{NeedsAtMost, Prepares, Plans, Moves, MovesTo, IsCounted, moved_places, range_of, rows_coming, rows_leaving};
+ghost use Rattle.zset_core.specs.Plan.{NeedsAtMost, Prepares, Plans, Moves, MovesTo, IsCounted, moved_places, outline_of, range_of, count_coming, count_leaving};
+ghost use Rattle.zset_core.specs.declared.set.plan.Plan.TheVariants.{Scores, Removal};
 ghost use Rattle.zset_core.specs.SetViewAndInvariant.{HasRoomForPlan, IsReadyForPlan};
 ghost use Rattle.zset_core.specs.Refusal.{IsRefused};
 
@@ -22,7 +23,6 @@ use crate::command::parsed_arguments::ChangeForm;
 use crate::refusal::Refusal;
 use crate::score_and_count_replies::increase_reply;
 use crate::set::change_counts::{Outline, outline_staged};
-use crate::set::commit::discard;
 use crate::set::draft::Draft;
 use crate::set::member_removal::plan_remove;
 use crate::set::members_with_staged_scores::{MemberMap, score_of};
@@ -42,25 +42,51 @@ pub struct LeavingRange {
     pub to: usize,
 }
 
-/// What a commit does to the entries of a set.
+/// Members come in or get other scores.
 #[derive(Drop)]
-pub struct Plan<A: Allocator + Copy> {
+pub struct ScoresPlan<A: Allocator + Copy> {
     pub draft: Draft<A>,
-    /// The places of the members that leave by their names.
-    pub removed: BTreeSet<usize, A>,
-    /// The range whose members leave, if it is one.
-    pub range: Option<LeavingRange>,
     pub reply: Reply<A>,
     pub outline: Outline,
 }
 
+/// Members leave by their names.
+#[derive(Drop)]
+pub struct RemovalPlan<A: Allocator + Copy> {
+    /// Their places, each once.
+    pub places: BTreeSet<usize, A>,
+    /// The same places in the order in which the members are first named.
+    pub order: Vec<usize, A>,
+    pub reply: Reply<A>,
+    pub outline: Outline,
+}
+
+/// The members of a range leave.
+#[derive(Drop)]
+pub struct RangeRemovalPlan<A: Allocator + Copy> {
+    pub leaving: LeavingRange,
+    pub reply: Reply<A>,
+    pub outline: Outline,
+}
+
+/// What a commit does to a set.
+#[derive(Drop)]
+pub enum Plan<A: Allocator + Copy> {
+    Scores(ScoresPlan<A>),
+    Removal(RemovalPlan<A>),
+    RangeRemoval(RangeRemovalPlan<A>),
+}
+
 impl<A: Allocator + Copy> Plan<A> {
-    /// For how many rows the longer of the pending lists must have room.
-    pub fn room(&self) -> usize
-        ensures { result ≡ max (rows_coming self.now) (rows_leaving self.now) }
+    /// What it does in numbers.
+    pub fn outline(&self) -> Outline
+        ensures { result ≡ outline_of self.now }
     {
-        let leaving = self.draft.edits.leaving.len() + self.removed.len();
-        self.draft.edits.coming.len().max(leaving)
+        match self {
+            Plan::Scores(plan) => plan.outline,
+            Plan::Removal(plan) => plan.outline,
+            Plan::RangeRemoval(plan) => plan.outline,
+        }
     }
 }
 
@@ -71,18 +97,17 @@ pub fn plan_add<H: BuildHasher, A: Allocator + Copy>(
     flags: Flags,
     changed: bool,
     pairs: &GivenPairs<A>,
-) -> Result<Plan<A>, AllocError>
+) -> Result<ScoresPlan<A>, AllocError>
     requires settled { ScoresAreSettled members.old.entries }
     requires few { length pairs.now.scores.now ≤ most_edits }
-    ensures ok { IfOk result (λ plan. Prepares members.old.entries members.new.entries plan
+    ensures ok { IfOk result (λ plan. Prepares members.old.entries members.new.entries (Scores plan)
         (put_all flags (members_by current_score members.old.entries) (given_pairs pairs.now))
         (Integer (pos (count_all flags changed (members_by current_score members.old.entries)
         (given_pairs pairs.now))))) }
     ensures rows { IfOk result
         (λ plan. NeedsAtMost (count_all flags true (members_by current_score members.old.entries)
-        (given_pairs pairs.now)) plan) }
-    ensures named { IfOk result (λ plan. plan.range ≡ None) }
-    ensures moved { IfOk result (λ plan. MovesTo members.old.entries members.new.entries plan.draft
+        (given_pairs pairs.now)) (Scores plan)) }
+    ensures moved { IfOk result (λ plan. MovesTo members.old.entries members.new.entries (Scores plan)
         (names_of (given_pairs pairs.now))
         (put_all flags (members_by current_score members.old.entries) (given_pairs pairs.now))) }
     ensures err { OnErr result (IsBack members.old.entries members.new.entries) }
@@ -92,10 +117,8 @@ pub fn plan_add<H: BuildHasher, A: Allocator + Copy>(
         Ok(count) => {
             draft.settle_moved(members);
             let outline = outline_staged(members, &draft);
-            Ok(Plan {
+            Ok(ScoresPlan {
                 draft,
-                removed: BTreeSet::new(alloc),
-                range: None,
                 reply: Reply::Int(count as i64),
                 outline,
             })
@@ -115,16 +138,15 @@ fn plan_score<H: BuildHasher, A: Allocator + Copy>(
     score: i64,
     member: &[u8],
     reply: Reply<A>,
-) -> Result<Plan<A>, AllocError>
+) -> Result<ScoresPlan<A>, AllocError>
     requires { ScoresAreSettled members.old.entries }
-    ensures ok { IfOk result (λ plan. Prepares members.old.entries members.new.entries plan
+    ensures ok { IfOk result (λ plan. Prepares members.old.entries members.new.entries (Scores plan)
         (put_one flags (members_by current_score members.old.entries) member.now score)
         (response_of reply)) }
     ensures rows { IfOk result
         (λ plan. NeedsAtMost (counted true (outcome_of flags
-        (map.get (members_by current_score members.old.entries) member.now) score)) plan) }
-    ensures named { IfOk result (λ plan. plan.range ≡ None) }
-    ensures moved { IfOk result (λ plan. MovesTo members.old.entries members.new.entries plan.draft
+        (map.get (members_by current_score members.old.entries) member.now) score)) (Scores plan)) }
+    ensures moved { IfOk result (λ plan. MovesTo members.old.entries members.new.entries (Scores plan)
         (member.now ∷ [])
         (put_one flags (members_by current_score members.old.entries) member.now score)) }
     ensures err { OnErr result (IsBack members.old.entries members.new.entries) }
@@ -134,10 +156,8 @@ fn plan_score<H: BuildHasher, A: Allocator + Copy>(
         Ok(_) => {
             draft.settle_moved(members);
             let outline = outline_staged(members, &draft);
-            Ok(Plan {
+            Ok(ScoresPlan {
                 draft,
-                removed: BTreeSet::new(alloc),
-                range: None,
                 reply,
                 outline,
             })
@@ -154,19 +174,16 @@ fn plan_nothing<H: BuildHasher, A: Allocator + Copy>(
     alloc: A,
     members: &MemberMap<H, A>,
     reply: Reply<A>,
-) -> Plan<A>
+) -> ScoresPlan<A>
     requires { ScoresAreSettled members.now.entries }
-    ensures plan { Prepares members.now.entries members.now.entries result
+    ensures plan { Prepares members.now.entries members.now.entries (Scores result)
         (members_by current_score members.now.entries) (response_of reply) }
-    ensures rows { NeedsAtMost 0 result }
-    ensures named { result.range ≡ None }
+    ensures rows { NeedsAtMost 0 (Scores result) }
     ensures counted { IsCounted result.draft members.now.entries }
     ensures moved { moved_places result.draft ≡ [] }
 {
-    Plan {
+    ScoresPlan {
         draft: Draft::new(alloc, members.len()),
-        removed: BTreeSet::new(alloc),
-        range: None,
         reply,
         outline: Outline {
             added: 0,
@@ -183,15 +200,14 @@ pub fn plan_increase<H: BuildHasher, A: Allocator + Copy>(
     flags: Flags,
     given: i64,
     member: &[u8],
-) -> Result<Plan<A>, Refusal>
+) -> Result<ScoresPlan<A>, Refusal>
     requires { ScoresAreSettled members.old.entries }
-    ensures ok { IfOk result (λ plan. Plans members.old.entries members.new.entries plan
+    ensures ok { IfOk result (λ plan. Plans members.old.entries members.new.entries (Scores plan)
         (increase flags (members_by current_score members.old.entries) member.now given)) }
     ensures rows { IfOk result
         (λ plan. NeedsAtMost (increase_edits flags (members_by current_score members.old.entries) member.now
-        given) plan) }
-    ensures named { IfOk result (λ plan. plan.range ≡ None) }
-    ensures moved { IfOk result (λ plan. Moves members.old.entries members.new.entries plan (member.now ∷ [])
+        given) (Scores plan)) }
+    ensures moved { IfOk result (λ plan. Moves members.old.entries members.new.entries (Scores plan) (member.now ∷ [])
         (increase flags (members_by current_score members.old.entries) member.now given)) }
     ensures err { OnErr result (IsBack members.old.entries members.new.entries) }
     ensures refused { IfErr result
@@ -211,111 +227,50 @@ pub fn plan_increase<H: BuildHasher, A: Allocator + Copy>(
     }
 }
 
-/// The plan of ZADD or ZREM. Where it is refused the entries are what they were.
-fn plan_for<H: BuildHasher, A: Allocator + Copy>(
-    alloc: A,
-    members: &mut MemberMap<H, A>,
-    words: &[Bytes<A>],
-    change: &ChangeForm<A>,
-) -> Result<Plan<A>, Refusal>
-    requires settled { ScoresAreSettled members.old.entries }
-    requires whole { IsWholeChange words.now change.now }
-    requires few { length words.now ≤ most_arguments }
-    requires named { IsTrue (names_members (change_of words.now change.now)) }
-    ensures ok { IfOk result (λ plan. Plans members.old.entries members.new.entries plan
-        (changed_by (members_by current_score members.old.entries) (change_of words.now change.now))) }
-    ensures rows { IfOk result
-        (λ plan. NeedsAtMost (edits_of (members_by current_score members.old.entries) (change_of words.now change.now))
-        plan) }
-    ensures named { IfOk result (λ plan. plan.range ≡ None) }
-    ensures moved { IfOk result (λ plan. Moves members.old.entries members.new.entries plan
-        (names_of_change (change_of words.now change.now))
-        (changed_by (members_by current_score members.old.entries) (change_of words.now change.now))) }
-    ensures err { OnErr result (IsBack members.old.entries members.new.entries) }
-    ensures refused { IfErr result
-        (λ refusal. IsRefused refusal
-        (changed_by (members_by current_score members.old.entries) (change_of words.now change.now))) }
-{
-    match change {
-        ChangeForm::Add {
-            flags,
-            changed,
-            first,
-            scores,
-        } => {
-            let pairs = GivenPairs {
-                scores: scores.as_slice(),
-                arguments: &words[*first..],
-            };
-            Ok(plan_add(alloc, members, *flags, *changed, &pairs)?)
-        }
-        ChangeForm::Increase {
-            flags,
-            given,
-            member,
-        } => { plan_increase(alloc, members, *flags, *given, words[*member].as_slice()) }
-        ChangeForm::Remove => Ok(plan_remove(alloc, members, words.split_at(2).1)?),
-        ChangeForm::RemoveRange { .. } => unreachable!(),
-    }
-}
-
-/// Makes room in the column for the edits of a plan. Where it is refused the entries are what they
-/// were before it, and the column holds what it held.
+/// Makes room in the column for the rows of a plan of scores. Where it is refused the entries are what they
+/// were before the plan, and the column holds what it held.
 fn make_room<H: BuildHasher, A: Allocator + Copy>(
     members: &mut MemberMap<H, A>,
     column: &mut Column<A>,
-    plan: Plan<A>,
+    plan: ScoresPlan<A>,
 ) -> Result<Plan<A>, AllocError>
     requires waiting { IsWaiting plan.draft.touched.items members.old.entries }
-    requires few { NeedsAtMost most_edits plan }
+    requires few { NeedsAtMost most_edits (Scores plan) }
     ensures content { SameContent column.old column.new }
-    ensures ok { IfOk result (λ kept. (kept ≡ plan) × (members.new ≡ members.old)) }
-    ensures room { OnOk result (HasRoomForPlan column.new plan) }
-    ensures column { MakesRoom (max (rows_coming plan) (rows_leaving plan)) column.old column.new }
+    ensures ok { IfOk result (λ kept. (kept ≡ Scores plan) × (members.new ≡ members.old)) }
+    ensures room { OnOk result (HasRoomForPlan column.new (Scores plan)) }
+    ensures column { MakesRoom (max (count_coming (Scores plan)) (count_leaving (Scores plan)))
+        column.old column.new }
     ensures current { OnErr result (rows_by current_score members.new.entries
         ≡ take plan.draft.kept (rows_by current_score members.old.entries)) }
     ensures settled { OnErr result (ScoresAreSettled members.new.entries) }
 {
-    match column.reserve_write(plan.room()) {
-        Ok(()) => Ok(plan),
+    let edits = &plan.draft.edits;
+    match column.reserve_write(edits.coming.len().max(edits.leaving.len())) {
+        Ok(()) => Ok(Plan::Scores(plan)),
         Err(refused) => {
-            discard(members, plan);
+            plan.draft.roll_back(members);
             Err(refused)
         }
     }
 }
 
-/// The plan of ZADD or ZREM, with room in the column for its edits. Where it is refused the entries
-/// are what they were, and the column holds what it held.
-fn plan_named<H: BuildHasher, A: Allocator + Copy>(
-    alloc: A,
-    members: &mut MemberMap<H, A>,
+/// Makes room in the column for the rows of members that leave. Where it is refused the column holds what it held.
+fn make_room_for_removal<A: Allocator + Copy>(
     column: &mut Column<A>,
-    words: &[Bytes<A>],
-    change: &ChangeForm<A>,
-) -> Result<Plan<A>, Refusal>
-    requires settled { ScoresAreSettled members.old.entries }
-    requires whole { IsWholeChange words.now change.now }
-    requires few { length words.now ≤ most_arguments }
-    requires named { IsTrue (names_members (change_of words.now change.now)) }
-    ensures ok { IfOk result (λ plan. Plans members.old.entries members.new.entries plan
-        (changed_by (members_by current_score members.old.entries) (change_of words.now change.now))) }
-    ensures room { IfOk result (λ plan. HasRoomForPlan column.new plan) }
-    ensures named { IfOk result (λ plan. plan.range ≡ None) }
-    ensures moved { IfOk result (λ plan. Moves members.old.entries members.new.entries plan
-        (names_of_change (change_of words.now change.now))
-        (changed_by (members_by current_score members.old.entries) (change_of words.now change.now))) }
+    plan: RemovalPlan<A>,
+) -> Result<Plan<A>, AllocError>
+    requires few { NeedsAtMost most_edits (Removal plan) }
     ensures content { SameContent column.old column.new }
-    ensures column { MakesRoom
-        (edits_of (members_by current_score members.old.entries) (change_of words.now change.now))
+    ensures ok { IfOk result (λ kept. kept ≡ Removal plan) }
+    ensures room { OnOk result (HasRoomForPlan column.new (Removal plan)) }
+    ensures column { MakesRoom (max (count_coming (Removal plan)) (count_leaving (Removal plan)))
         column.old column.new }
-    ensures err { OnErr result (IsBack members.old.entries members.new.entries) }
-    ensures refused { IfErr result
-        (λ refusal. IsRefused refusal
-        (changed_by (members_by current_score members.old.entries) (change_of words.now change.now))) }
 {
-    let plan = plan_for(alloc, members, words, change)?;
-    Ok(make_room(members, column, plan)?)
+    match column.reserve_write(plan.places.len()) {
+        Ok(()) => Ok(Plan::Removal(plan)),
+        Err(refused) => Err(refused),
+    }
 }
 
 /// The plan of a change that stands beside its command's words, and the column made ready for it. Where it is refused the
@@ -347,7 +302,34 @@ pub fn make_plan<H: BuildHasher, A: Allocator + Copy>(
         (changed_by (members_by current_score members.old.entries) (change_of words.now change.now))) }
 {
     match change {
-        ChangeForm::RemoveRange { range } => Ok(plan_range(alloc, members, column, range)?),
-        _ => plan_named(alloc, members, column, words, change),
+        ChangeForm::Add {
+            flags,
+            changed,
+            first,
+            scores,
+        } => {
+            let pairs = GivenPairs {
+                scores: scores.as_slice(),
+                arguments: &words[*first..],
+            };
+            let plan = plan_add(alloc, members, *flags, *changed, &pairs)?;
+            Ok(make_room(members, column, plan)?)
+        }
+        ChangeForm::Increase {
+            flags,
+            given,
+            member,
+        } => {
+            let member = words[*member].as_slice();
+            let plan = plan_increase(alloc, members, *flags, *given, member)?;
+            Ok(make_room(members, column, plan)?)
+        }
+        ChangeForm::Remove => {
+            let plan = plan_remove(alloc, members, words.split_at(2).1)?;
+            Ok(make_room_for_removal(column, plan)?)
+        }
+        ChangeForm::RemoveRange { range } => {
+            Ok(Plan::RangeRemoval(plan_range(members, column, range)?))
+        }
     }
 }

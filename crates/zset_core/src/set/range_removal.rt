@@ -6,54 +6,47 @@ ghost use Rattle.score_bounds.specs.RangesAndCuts.{is_in};
 ghost use Rattle.ripple_column.specs.Content.{Holds, IsUnchanged, SameContent};
 ghost use Rattle.ripple_column.specs.RangeEffects.{Selects, TakesOut};
 ghost use Rattle.zset_core.specs.MembersWithStagedScores.{current_score, members_by, ScoresAreSettled};
-ghost use Rattle.zset_core.specs.Plan.{IsCounted, NeedsAtMost, Prepares, moved_places, range_of};
+ghost use Rattle.zset_core.specs.Plan.{Prepares};
+ghost use Rattle.zset_core.specs.declared.set.plan.Plan.TheVariants.{RangeRemoval};
 ghost use Rattle.zset_core.specs.Semantics.{without_range};
 ghost use Rattle.zset_core.specs.SetViewAndInvariant.{RangeStandsIn};
 ghost use Rattle.zset_core.specs.SortedSet.{listing, pairs};
 
 use crate::score_and_count_replies::count_reply;
 use crate::set::change_counts::Outline;
-use crate::set::draft::Draft;
 use crate::set::members_with_staged_scores::{MemberMap, take_out_rows};
-use crate::set::plan::{LeavingRange, Plan};
+use crate::set::plan::{LeavingRange, RangeRemovalPlan};
 use ripple_column::Column;
 use score_bounds::Range;
 use std::alloc::{AllocError, Allocator};
-use std::collections::BTreeSet;
 use std::hash::BuildHasher;
 
 /// The plan of a ZREMRANGEBYSCORE, and the column made ready for its range. Where it is refused the
 /// column is what it was.
 pub fn plan_range<H: BuildHasher, A: Allocator + Copy>(
-    alloc: A,
     members: &MemberMap<H, A>,
     column: &mut Column<A>,
     range: &Range,
-) -> Result<Plan<A>, AllocError>
+) -> Result<RangeRemovalPlan<A>, AllocError>
     requires settled { ScoresAreSettled members.now.entries }
     requires content { Holds column.old (pairs (members_by current_score members.now.entries)) }
-    ensures ok { IfOk result (λ plan. Prepares members.now.entries members.now.entries plan
+    ensures ok { IfOk result (λ plan. Prepares members.now.entries members.now.entries (RangeRemoval plan)
         (without_range range.now (members_by current_score members.now.entries))
         (Integer (pos (length (listing (is_in range.now) (members_by current_score members.now.entries)))))) }
-    ensures range { IfOk result (λ plan. range_of plan ≡ Some range.now) }
-    ensures counted { IfOk result (λ plan. IsCounted plan.draft members.now.entries) }
-    ensures moved { IfOk result (λ plan. moved_places plan.draft ≡ []) }
-    ensures alone { IfOk result (λ plan. NeedsAtMost 0 plan) }
-    ensures answer { IfOk result (λ plan. IfSome plan.range (RangeStandsIn column.new)) }
+    ensures range { IfOk result (λ plan. plan.leaving.range ≡ range.now) }
+    ensures answer { IfOk result (λ plan. RangeStandsIn column.new plan.leaving) }
     ensures content { SameContent column.old column.new }
     ensures selected { OnOk result (Selects range.now column.old column.new) }
     ensures refused { OnErr result (IsUnchanged column.old column.new) }
 {
     let (from, to) = column.select(range)?;
     let count = column.rows(from, to).len();
-    Ok(Plan {
-        draft: Draft::new(alloc, members.len()),
-        removed: BTreeSet::new(alloc),
-        range: Some(LeavingRange {
+    Ok(RangeRemovalPlan {
+        leaving: LeavingRange {
             range: *range,
             from,
             to,
-        }),
+        },
         reply: count_reply(count),
         outline: Outline {
             added: 0,

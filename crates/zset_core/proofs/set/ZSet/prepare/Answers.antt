@@ -1,10 +1,13 @@
-use Rattle.std.proofs.Common.{◌∙◌, refl, sym, ap, subst, is_ok, List, ℕ}
+use Rattle.std.proofs.Common.{◌∙◌, ◌≤◌, refl, sym, ap, subst, is_ok, List, ℕ}
 use Rattle.std.proofs.lemmas.Result.{err_from_is_err_and}
 use Rattle.zset_core.specs.CommandEffectsOnColumn.{PreparesColumn}
 use Rattle.zset_core.specs.AbstractCommand.{Asked, Changes, Meaning, range_to_remove}
 use Rattle.zset_core.specs.MovedMembers.{names_in}
 use Rattle.zset_core.specs.MeaningOfForm.{change_of, meaning_of, word_at}
-use Rattle.zset_core.specs.Plan.{Moves}
+use Rattle.zset_core.specs.ChangeCounts.{IsOutline}
+use Rattle.zset_core.specs.Plan.{Moves, left_by}
+use Rattle.zset_core.specs.RowEdits.{most_edits}
+use Rattle.zset_core.specs.declared.set.change_counts.Outline.{Outline}
 use Rattle.zset_core.specs.MembersWithStagedScores.{current_score, members_by}
 use Rattle.zset_core.specs.Semantics.{changed_by}
 use Rattle.zset_core.proofs.Planning.{IsIdle-of, IsPlanned-made, members_idle, outline_left, few_added, column_shown, ready_shown, IsSoundSet-back}
@@ -27,12 +30,15 @@ invariant_of-self-2 g c =
 pub returns-clause-outline : goal.returns-clause-outline
 returns-clause-outline g c =
     let old = c.self.inside.members.entries in
-    outline_left old c.make_plan.new.members.entries c.in_ok-plan.plan (changed_by (members_by current_score old) (change_of c.words-words.result.now c.in-Changes.change)) c.args.self.now.members
-    (members_idle old c.self.inside.column c.self.inside.prepared c.args.self.now c.self.view_is c.requires.idle) c.in_ok-plan.ensures.ok
+    let left = left_by c.make_plan.new.members.entries c.in_ok-plan.plan in
+    subst (λ (outline : Outline). IsOutline outline c.args.self.now.members left) (sym c.outline-outline.ensures)
+    (outline_left old c.make_plan.new.members.entries c.in_ok-plan.plan (changed_by (members_by current_score old) (change_of c.words-words.result.now c.in-Changes.change)) c.args.self.now.members
+    (members_idle old c.self.inside.column c.self.inside.prepared c.args.self.now c.self.view_is c.requires.idle) c.in_ok-plan.ensures.ok)
 
 pub returns-clause-few : goal.returns-clause-few
 returns-clause-few g c =
-    few_added c.self.inside.members.entries c.make_plan.new.members.entries c.in_ok-plan.plan (changed_by (members_by current_score c.self.inside.members.entries) (change_of c.words-words.result.now c.in-Changes.change)) c.in_ok-plan.ensures.ok
+    subst (λ (outline : Outline). outline.added ≤ most_edits) (sym c.outline-outline.ensures)
+    (few_added c.self.inside.members.entries c.make_plan.new.members.entries c.in_ok-plan.plan (changed_by (members_by current_score c.self.inside.members.entries) (change_of c.words-words.result.now c.in-Changes.change)) c.in_ok-plan.ensures.ok)
 
 pub invariant_of-self : goal.invariant_of-self
 invariant_of-self g c =

@@ -1,10 +1,10 @@
-use Rattle.std.proofs.Common.{◌++◌, ◌≡◌, ◌∙◌, ◌<◌, ℕ, List, length, refl, sym, subst, ap, rules, pos, w64, true, arith}
+use Rattle.std.proofs.Common.{◌++◌, ◌≡◌, ◌∙◌, ◌<◌, ℕ, List, length, refl, ap, rules, pos, w64, true, arith}
 use Rattle.std.proofs.lemmas.Int.{to_z_pos}
 use Rattle.resp_wire.specs.Response.{Integer}
 use Rattle.zset_core.specs.MeaningOfForm.{scored}
 use Rattle.zset_core.specs.SortedSet.{Members}
-use Rattle.zset_core.specs.Semantics.{put_all, count_all, remove_all}
-use Rattle.zset_core.specs.MembersWithStagedScores.{current_score, staged_score, members_by, names_at, IsWithin}
+use Rattle.zset_core.specs.Semantics.{put_all, count_all}
+use Rattle.zset_core.specs.MembersWithStagedScores.{current_score, staged_score, members_by, names_at}
 use Rattle.zset_core.specs.RowEdits.{most_edits}
 use Rattle.zset_core.proofs.Outlines.{outline_same, before, before_grown}
 use Rattle.zset_core.proofs.Staging.{members_same}
@@ -24,15 +24,14 @@ returns-in-Ok-clause-ok g c =
     let left = c.in-Ok.ensures.staged ∙ ap (λ (m : Members). put_all c.args.flags m ps) same in
     let new = c.stage_all.new.members.entries in
     let noted = Notes-same (count_all c.args.flags true (members_by staged_score old) ps) (members_by staged_score old) (members_by staged_score new) c.new-draft.result.edits c.stage_all.new.self.edits c.settle_moved.new.self.edits c.settle_moved.ensures.edits c.in-Ok.ensures.edits in
-    let is = ap (λ (gone : List ℕ). remove_all (members_by staged_score new) (names_at new gone)) c.new.ensures.empty ∙ left in
     record {
       kept = c.settle_moved.ensures.kept ∙ c.stage_all.ensures.kept ∙ c.new-draft.ensures.kept ∙ c.len.ensures.len;
       grows = c.stage_all.ensures.grows;
       waiting = c.settle_moved.ensures.waiting;
-      members_are = is;
+      members_are = left;
       edits_are = Turns-between (count_all c.args.flags true (members_by staged_score old) ps) (members_by staged_score old) (members_by current_score old) (members_by staged_score new) (members_by staged_score new) c.new-draft.result.edits c.settle_moved.new.self.edits same refl c.new-draft.ensures.coming c.new-draft.ensures.leaving noted;
-      removed_are = subst (IsWithin (length new)) (sym c.new.ensures.empty) tt;
-      few_rows = NeedsAtMost-noted (count_all c.args.flags true (members_by staged_score old) ps) most_edits (members_by staged_score old) (members_by staged_score new) c.new-draft.result.edits _ c.new-draft.ensures.coming c.new-draft.ensures.leaving c.new.ensures.empty
+      removed_are = tt;
+      few_rows = NeedsAtMost-noted (count_all c.args.flags true (members_by staged_score old) ps) most_edits (members_by staged_score old) (members_by staged_score new) c.new-draft.result.edits _ c.new-draft.ensures.coming c.new-draft.ensures.leaving
           (omega (arith, c.requires.few, count_all-few c.args.flags true (members_by staged_score old) ps, length_scored c.args.pairs.now.scores.now c.args.pairs.now.arguments.now)) noted;
       outline_is = outline_same c.outline_staged-outline.result (before new c.settle_moved.new.self.kept) (members_by current_score old) (members_by staged_score new) (put_all c.args.flags (members_by current_score old) ps)
           (before_grown old new c.settle_moved.new.self.kept (c.settle_moved.ensures.kept ∙ c.stage_all.ensures.kept ∙ c.new-draft.ensures.kept ∙ c.len.ensures.len) c.stage_all.ensures.grows) left c.outline_staged-outline.ensures;
@@ -46,7 +45,7 @@ returns-in-Ok-clause-rows g c =
     let ps = scored c.args.pairs.now.scores.now c.args.pairs.now.arguments.now in
     let written = count_all c.args.flags true (members_by staged_score old) ps in
     let same : written ≡ count_all c.args.flags true (members_by current_score old) ps = ap (λ (m : Members). count_all c.args.flags true m ps) (members_same old c.requires.settled) in
-    NeedsAtMost-noted written (count_all c.args.flags true (members_by current_score old) ps) (members_by staged_score old) (members_by staged_score new) c.new-draft.result.edits _ c.new-draft.ensures.coming c.new-draft.ensures.leaving c.new.ensures.empty
+    NeedsAtMost-noted written (count_all c.args.flags true (members_by current_score old) ps) (members_by staged_score old) (members_by staged_score new) c.new-draft.result.edits _ c.new-draft.ensures.coming c.new-draft.ensures.leaving
     (omega (arith, same))
     (Notes-same written (members_by staged_score old) (members_by staged_score new) c.new-draft.result.edits c.stage_all.new.self.edits c.settle_moved.new.self.edits c.settle_moved.ensures.edits c.in-Ok.ensures.edits)
 

@@ -1,11 +1,11 @@
-use Rattle.std.proofs.Common.{◌++◌, ◌≡◌, ◌∙◌, List, length, refl, sym, ap, arith, true, ℕ, ℤ, subst, w64, to_z, of_z, to_z-of_z}
+use Rattle.std.proofs.Common.{◌++◌, ◌≡◌, ◌∙◌, List, length, refl, ap, arith, true, ℕ, ℤ, subst, w64, to_z, of_z, to_z-of_z}
 use Rattle.std.specs.FinMap as map
 use Rattle.zset_core.specs.SortedSet.{Members}
 use Rattle.zset_core.specs.RowEdits.{Notes, most_edits}
 use Rattle.zset_core.specs.declared.command.pair_outcome.Outcome.{Outcome}
 use Rattle.zset_core.specs.declared.set.row_edits.Edits.{Edits}
-use Rattle.zset_core.specs.Semantics.{counted, put_one, remove_all, outcome_of}
-use Rattle.zset_core.specs.MembersWithStagedScores.{current_score, staged_score, members_by, names_at, IsWithin}
+use Rattle.zset_core.specs.Semantics.{counted, put_one, outcome_of}
+use Rattle.zset_core.specs.MembersWithStagedScores.{current_score, staged_score, members_by, names_at}
 use Rattle.zset_core.proofs.Outlines.{outline_same, before, before_grown}
 use Rattle.zset_core.proofs.Staging.{members_same}
 use Rattle.zset_core.proofs.Bags.{NeedsAtMost-noted, Notes-same, Turns-between}
@@ -29,15 +29,14 @@ returns-in-Ok-clause-ok g c =
     let new = c.stage_one.new.members.entries in
     let written = counted true (outcome_of c.args.flags (map.get (members_by staged_score old) c.args.member.now) z) in
     let noted = Notes-same written (members_by staged_score old) (members_by staged_score new) c.new-draft.result.edits c.stage_one.new.self.edits c.settle_moved.new.self.edits c.settle_moved.ensures.edits (noted_as c.in-Ok.ensures.outcome c.in-Ok.ensures.edits) in
-    let is = ap (λ (gone : List ℕ). remove_all (members_by staged_score new) (names_at new gone)) c.new.ensures.empty ∙ left in
     record {
       kept = c.settle_moved.ensures.kept ∙ c.stage_one.ensures.kept ∙ c.new-draft.ensures.kept ∙ c.len.ensures.len;
       grows = c.stage_one.ensures.grows;
       waiting = c.settle_moved.ensures.waiting;
-      members_are = is;
+      members_are = left;
       edits_are = Turns-between written (members_by staged_score old) (members_by current_score old) (members_by staged_score new) (members_by staged_score new) c.new-draft.result.edits c.settle_moved.new.self.edits same refl c.new-draft.ensures.coming c.new-draft.ensures.leaving noted;
-      removed_are = subst (IsWithin (length new)) (sym c.new.ensures.empty) tt;
-      few_rows = NeedsAtMost-noted written most_edits (members_by staged_score old) (members_by staged_score new) c.new-draft.result.edits _ c.new-draft.ensures.coming c.new-draft.ensures.leaving c.new.ensures.empty
+      removed_are = tt;
+      few_rows = NeedsAtMost-noted written most_edits (members_by staged_score old) (members_by staged_score new) c.new-draft.result.edits _ c.new-draft.ensures.coming c.new-draft.ensures.leaving
           (omega (arith, counted_one true (outcome_of c.args.flags (map.get (members_by staged_score old) c.args.member.now) z))) noted;
       outline_is = outline_same c.outline_staged-outline.result (before new c.settle_moved.new.self.kept) (members_by current_score old) (members_by staged_score new) (put_one c.args.flags (members_by current_score old) c.args.member.now c.args.score)
           (before_grown old new c.settle_moved.new.self.kept (c.settle_moved.ensures.kept ∙ c.stage_one.ensures.kept ∙ c.new-draft.ensures.kept ∙ c.len.ensures.len) c.stage_one.ensures.grows) left c.outline_staged-outline.ensures;
@@ -53,7 +52,7 @@ returns-in-Ok-clause-rows g c =
     let same : written ≡ counted true (outcome_of c.args.flags (map.get (members_by current_score old) c.args.member.now) c.args.score) =
     ap (λ (m : Members). counted true (outcome_of c.args.flags (map.get m c.args.member.now) z)) (members_same old c.requires)
     ∙ ap (λ s. counted true (outcome_of c.args.flags (map.get (members_by current_score old) c.args.member.now) s)) (to_z-of_z c.ranges.score) in
-    NeedsAtMost-noted written _ (members_by staged_score old) (members_by staged_score new) c.new-draft.result.edits _ c.new-draft.ensures.coming c.new-draft.ensures.leaving c.new.ensures.empty
+    NeedsAtMost-noted written _ (members_by staged_score old) (members_by staged_score new) c.new-draft.result.edits _ c.new-draft.ensures.coming c.new-draft.ensures.leaving
     (omega (arith, same))
     (Notes-same written (members_by staged_score old) (members_by staged_score new) c.new-draft.result.edits c.stage_one.new.self.edits c.settle_moved.new.self.edits c.settle_moved.ensures.edits (noted_as c.in-Ok.ensures.outcome c.in-Ok.ensures.edits))
 
