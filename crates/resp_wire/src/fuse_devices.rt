@@ -1,6 +1,6 @@
 //! Devices that fail at one of their calls, for tests.
 
-ghost use Rattle.std.specs.Prelude.{◌≡◌};
+ghost use Rattle.std.specs.Prelude.{◌≡◌, ◌+◌, ◌↔◌, IsTrue};
 ghost use Rattle.resp_wire.specs.Device.{saturating_succ};
 
 use crate::call_count::CallCount;
@@ -16,7 +16,7 @@ pub struct Fuse {
 impl Fuse {
     /// Call number `fails_at`, counted from 1, will fail; at 0 none.
     pub fn new(fails_at: u64) -> Self
-        ensures { result.count ≡ record { calls = 0; failures = 0 } }
+        ensures { result ≡ record { fails_at = fails_at; count = record { calls = 0; failures = 0 } } }
     {
         Fuse {
             fails_at,
@@ -33,12 +33,14 @@ impl Fuse {
 
     /// Counts a call, and says whether it is the one that fails.
     pub fn blows(&mut self) -> bool
-        ensures { self.new ≡ record self.old
+        ensures blows { IsTrue result ↔ (self.old.count.calls + 1 ≡ self.old.fails_at) }
+        ensures count { self.new ≡ record self.old
             { count = record self.old.count { calls = saturating_succ self.old.count.calls } } }
     {
+        let fails_at = self.fails_at;
         let before = self.count.calls;
         self.count.called();
-        before < u64::MAX && before + 1 == self.fails_at
+        before < u64::MAX && before + 1 == fails_at
     }
 
     /// Counts a call as failed, and gives its error.
