@@ -55,11 +55,14 @@ pub(crate) fn explain_option<'a>(alloc: Global) -> Arg<'a> {
 }
 
 fn stdio_command<'a>(alloc: Global) -> Result<Command<'a>, AllocError> {
+    let options = vec![in alloc;
+        file_option(alloc),
+        sync_option(alloc),
+        explain_option(alloc),
+    ]?;
     Command::new(alloc, "stdio")
         .about("Serves standard input to standard output")
-        .arg(file_option(alloc))?
-        .arg(sync_option(alloc))?
-        .arg(explain_option(alloc))
+        .args(options)
 }
 
 fn rewrite_command<'a>(alloc: Global) -> Result<Command<'a>, AllocError> {
@@ -69,22 +72,34 @@ fn rewrite_command<'a>(alloc: Global) -> Result<Command<'a>, AllocError> {
     let new = Arg::new(alloc, "NEW")
         .help("The append file that is made; nothing of this name may be there")
         .required(true);
+    let words = vec![in alloc; old, new, explain_option(alloc)]?;
     Command::new(alloc, "rewrite")
         .about("Writes the append file OLD anew, as short as it can be, to NEW")
-        .arg(old)?
-        .arg(new)?
-        .arg(explain_option(alloc))
+        .args(words)
 }
 
-fn command<'a>(alloc: Global) -> Result<Command<'a>, AllocError> {
+/// The program's own command: those that name a task stand below it.
+fn program<'a>(alloc: Global) -> Command<'a> {
     Command::new(alloc, "zcrackd")
         .about("A server for sorted sets whose commands are proved")
         .version(VERSION)
         .subcommand_required(true)
         .disable_help_subcommand(true)
-        .subcommand(stdio_command(alloc)?)?
-        .subcommand(serve_command(alloc)?)?
-        .subcommand(rewrite_command(alloc)?)
+}
+
+/// A command with one more below it, if that one could be made.
+fn with<'a>(
+    command: Command<'a>,
+    below: Result<Command<'a>, AllocError>,
+) -> Result<Command<'a>, AllocError> {
+    command.subcommand(below?)
+}
+
+// One command is held at a time: what several cost to prove grows with their type, which is large.
+fn command<'a>(alloc: Global) -> Result<Command<'a>, AllocError> {
+    let command = with(program(alloc), stdio_command(alloc))?;
+    let command = with(command, serve_command(alloc))?;
+    with(command, rewrite_command(alloc))
 }
 
 fn asked<'a>(found: &ArgMatches<'a>) -> Option<Task<'a>> {

@@ -121,18 +121,21 @@ fn timeout_option<'a>(alloc: Global) -> Arg<'a> {
 }
 
 pub(crate) fn serve_command<'a>(alloc: Global) -> Result<Command<'a>, AllocError> {
+    let options = vec![in alloc;
+        listen_option(alloc),
+        file_option(alloc),
+        sync_option(alloc),
+        workers_option(alloc),
+        places_option(alloc),
+        records_option(alloc),
+        connections_option(alloc),
+        clients_option(alloc),
+        timeout_option(alloc),
+        explain_option(alloc),
+    ]?;
     Command::new(alloc, "serve")
         .about("Serves clients over TCP")
-        .arg(listen_option(alloc))?
-        .arg(file_option(alloc))?
-        .arg(sync_option(alloc))?
-        .arg(workers_option(alloc))?
-        .arg(places_option(alloc))?
-        .arg(records_option(alloc))?
-        .arg(connections_option(alloc))?
-        .arg(clients_option(alloc))?
-        .arg(timeout_option(alloc))?
-        .arg(explain_option(alloc))
+        .args(options)
 }
 
 /// The mode that is asked for. The option takes no other words.
