@@ -1,6 +1,6 @@
 //! A hand-over as a whole.
 
-ghost use Rattle.std.specs.Prelude.{ℕ, ◌≡◌, ◌+◌, ◌<◌, ◌≤◌, ◌^◌, ◌++◌, true, [], IfOk, OnErr, All, map, vec_len};
+ghost use Rattle.std.specs.Prelude.{ℕ, ◌≡◌, ◌+◌, ◌<◌, ◌≤◌, ◌^◌, ◌++◌, true, [], IfOk, OnErr, All, map, vec_len, vec_capacity};
 ghost use Rattle.crossbeam_channel.specs.Claims.{view, IsSeatAt};
 ghost use Rattle.crossbeam_channel.specs.Ends.{sends_on, receives_on, ruled_capacity};
 ghost use Rattle.hand_over.specs.ChannelInvariant.{pass_view};
@@ -10,13 +10,13 @@ use crate::accepting::Unsent;
 use crate::arrivals::Arrivals;
 use crate::channel_protocol::{ChannelEnds, ChannelPass, drain};
 use crate::handler::Handler;
-use crate::load_balancing::doors_of;
+use crate::load_balancing::{Doors, doors_of};
 use crate::outcome::{HandOverFault, HandedOver};
 use crate::recalling_workers::Returned;
-use crate::starting_workers::{desks_of, start_all};
+use crate::starting_workers::{Child, desks_of, start_all};
 use crate::worker::Desk;
 use crossbeam_channel::bounded_with;
-use std::alloc::Global;
+use std::alloc::{AllocError, Global};
 use std::sync::Wait;
 use std::thread;
 use std::thread::{Scope, Threads};
@@ -30,6 +30,25 @@ struct Crew<H> {
     alloc: Global,
     desks: Vec<Desk<H>>,
     limit: u64,
+}
+
+/// The lists that are filled while workers run, each with its room: for so many workers, and for
+/// `limit` numbers.
+fn rooms<C: Drop + Send, H: Handler<C> + Drop + Send>(
+    alloc: Global,
+    workers: usize,
+    limit: u64,
+) -> Result<(Vec<Child<C, H>>, Returned<H>, Unsent), AllocError>
+    ensures children { IfOk result (λ r. (r.0.items ≡ []) × (workers ≤ vec_capacity r.0)) }
+    ensures returned { IfOk result (λ r. (r.1.handlers.items ≡ []) × (r.1.taken.items ≡ [])
+        × (workers ≤ vec_capacity r.1.handlers) × (workers ≤ vec_capacity r.1.taken)) }
+    ensures unsent { IfOk result (λ r. (r.2.numbers.items ≡ [])
+        × (limit ≤ vec_capacity r.2.numbers)) }
+{
+    let children = Vec::with_capacity(alloc, workers)?;
+    let returned = Returned::with_room(alloc, workers)?;
+    let unsent = Unsent::with_room(alloc, limit)?;
+    Ok((children, returned, unsent))
 }
 
 /// Accepts connections while workers handle them. All lists have their room before the first worker
@@ -61,9 +80,7 @@ where
         desks,
         limit,
     } = crew;
-    let mut children = Vec::with_capacity(alloc, desks.len())?;
-    let mut returned = Returned::with_room(alloc, desks.len())?;
-    let mut unsent = Unsent::with_room(alloc, limit)?;
+    let (mut children, mut returned, mut unsent) = rooms(alloc, desks.len(), limit)?;
     match start_all(scope, rt, ends, &mut pass, desks, &mut children) {
         Err(fault) => {
             returned.recall(rt, ends, &mut pass, children);
@@ -129,6 +146,30 @@ where
     )
 }
 
+/// A crew of these handlers, and the doors to them.
+fn crew_of<C: Drop, H: Handler<C> + Drop>(
+    alloc: Global,
+    handlers: Vec<H>,
+    limit: u64,
+) -> Result<(Doors<H::Bell>, Crew<H>), AllocError>
+    requires room { All (λ handler. H.handled handler + limit < 2 ^ 64) handlers.items }
+    ensures handlers { IfOk result (λ r. map (λ d. d.handler) r.1.desks.items ≡ handlers.items) }
+    ensures limit { IfOk result (λ r. r.1.limit ≡ limit) }
+    ensures room { IfOk result
+        (λ r. All (λ d. H.handled d.handler + d.limit < 2 ^ 64) r.1.desks.items) }
+{
+    let doors = doors_of(alloc, &handlers)?;
+    let desks = desks_of(alloc, handlers, limit as usize)?;
+    Ok((
+        doors,
+        Crew {
+            alloc,
+            desks,
+            limit,
+        },
+    ))
+}
+
 /// Ends a borrow.
 fn end<A>(last: &mut A)
     ensures { last.new ≡ last.old }
@@ -170,18 +211,12 @@ where
         arrivals.new handed) }
     ensures err { OnErr result (arrivals.new ≡ arrivals.old) }
 {
-    let doors = doors_of(alloc, &handlers)?;
-    let desks = desks_of(alloc, handlers, limit as usize)?;
+    let (doors, crew) = crew_of(alloc, handlers, limit)?;
     let (sender, receiver, pass) = bounded_with(alloc, WAITING)?;
     let ends = ChannelEnds {
         sender,
         receiver,
         doors,
-    };
-    let crew = Crew {
-        alloc,
-        desks,
-        limit,
     };
     let (arrivals, given) = in_scope(rt, &ends, pass, arrivals, crew);
     end(arrivals);
