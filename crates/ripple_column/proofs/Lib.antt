@@ -9,6 +9,7 @@ pub mod Blanks
 pub mod Gaps
 pub mod Tails
 pub mod Taken
+pub mod TakenOut
 pub mod Marking
 pub mod MarkBits
 pub mod CallerLemmas

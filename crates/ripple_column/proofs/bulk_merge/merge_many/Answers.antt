@@ -1,7 +1,9 @@
-use Rattle.std.proofs.Common.{arith}
+use Rattle.std.proofs.Common.{refl, arith}
 use Rattle.std.proofs.lemmas.List.Sorted.{length_permutation}
 use Rattle.ripple_column.proofs.Counts.{count_moved}
+use Rattle.ripple_column.proofs.Frames.{KeepsFrame-start}
 use Rattle.ripple_column.proofs.Taken.{TakenFrom-more, TakenFrom-turned}
+use Rattle.ripple_column.proofs.TakenOut.{TakenFrom-none}
 use Rattle.ripple_column.proofs.bulk_merge.merge_many.Goals as goal
 
 pub returns-clause-content : goal.returns-clause-content
@@ -22,3 +24,30 @@ pub merge_tails-requires-clause-room : goal.merge_tails-requires-clause-room
 merge_tails-requires-clause-room g c =
     let long = length_permutation c.args.pending.now.insertions.items c.sort_from-2.new.self.items c.sort_from-2.ensures.rows in
     omega (arith, long, c.requires.room)
+
+pub returns-then-not-are_many-clause-content : goal.returns-then-not-are_many-clause-content
+returns-then-not-are_many-clause-content g c p = refl
+
+pub returns-then-not-are_many-clause-deletions : goal.returns-then-not-are_many-clause-deletions
+returns-then-not-are_many-clause-deletions g c = TakenFrom-none _ _ c.requires.deletions
+
+pub returns-then-not-are_many-clause-insertions : goal.returns-then-not-are_many-clause-insertions
+returns-then-not-are_many-clause-insertions g c = TakenFrom-none _ _ c.requires.insertions
+
+pub returns-then-not-are_many-clause-frame : goal.returns-then-not-are_many-clause-frame
+returns-then-not-are_many-clause-frame g c = KeepsFrame-start
+
+pub sort_from-requires : goal.sort_from-requires
+sort_from-requires g c = c.requires.deletions
+
+pub sort_from-requires-2 : goal.sort_from-requires-2
+sort_from-requires-2 g c = c.requires.insertions
+
+pub merge_tails-requires-clause-deletions : goal.merge_tails-requires-clause-deletions
+merge_tails-requires-clause-deletions g c = rw (length_permutation c.args.pending.now.deletions.items c.sort_from.new.self.items c.sort_from.ensures.rows) c.requires.deletions
+
+pub merge_tails-requires-clause-insertions : goal.merge_tails-requires-clause-insertions
+merge_tails-requires-clause-insertions g c = rw (length_permutation c.args.pending.now.insertions.items c.sort_from-2.new.self.items c.sort_from-2.ensures.rows) c.requires.insertions
+
+pub returns-clause-frame : goal.returns-clause-frame
+returns-clause-frame g c = c.merge_tails.ensures.frame
