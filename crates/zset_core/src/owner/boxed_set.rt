@@ -45,11 +45,20 @@ impl<H: BuildHasher + Drop, A: Allocator + Copy> BoxedSet<H, A> {
     pub fn new(alloc: A, set: ZSet<H, A>) -> Result<Self, AllocError>
         ensures { IfOk result (λ kept. kept ≡ set) }
     {
-        match Box::new(alloc, set) {
-            Ok(set) => Ok(BoxedSet { set }),
-            Err(_) => Err(AllocError),
-        }
+        Ok(BoxedSet {
+            set: boxed(alloc, set)?,
+        })
     }
+}
+
+/// A value of any type in a block of its own.
+///
+/// Where a set is let go in place, a proof takes apart all that it may hold, which takes a minute: so sets are let go by
+/// calls.
+fn boxed<T: Drop, A: Allocator + Copy>(alloc: A, value: T) -> Result<Box<T, A>, AllocError>
+    ensures { IfOk result (λ kept. kept.value ≡ value) }
+{
+    Ok(Box::new(alloc, value)?)
 }
 
 impl<H: BuildHasher, A: Allocator + Copy> BoxedSet<H, A> {

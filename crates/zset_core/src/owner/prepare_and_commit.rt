@@ -29,9 +29,16 @@ fn prepare_absent<H: BuildHasher + Clone + Drop, A: Allocator + Copy>(
     ensures { PreparesAt key.now command.now.meaning result sets.old.entries sets.new.entries }
 {
     let mut set = ZSet::with_hasher(alloc, hasher.clone()?);
-    let outline = set.prepare(command)?;
-    insert_set(alloc, sets, key, set)?;
-    Ok(outline)
+    match set.prepare(command) {
+        Ok(outline) => {
+            insert_set(alloc, sets, key, set)?;
+            Ok(outline)
+        }
+        Err(refusal) => {
+            drop(set);
+            Err(refusal)
+        }
+    }
 }
 
 /// Prepares a command in the set of its key once.

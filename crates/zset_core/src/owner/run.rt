@@ -43,12 +43,20 @@ fn run_absent<H: BuildHasher + Clone + Drop, A: Allocator + Copy>(
     ensures { RunsAt key.now command.now.meaning result sets.old.entries sets.new.entries }
 {
     let mut set = ZSet::with_hasher(alloc, hasher.clone()?);
-    let reply = run_set(&mut set, command)?;
-    if set.card() == 0 {
-        return Ok(reply);
+    match run_set(&mut set, command) {
+        Ok(reply) => {
+            if set.card() == 0 {
+                drop(set);
+                return Ok(reply);
+            }
+            insert_set(alloc, sets, key, set)?;
+            Ok(reply)
+        }
+        Err(refusal) => {
+            drop(set);
+            Err(refusal)
+        }
     }
-    insert_set(alloc, sets, key, set)?;
-    Ok(reply)
 }
 
 /// Runs a command on the set of its key once.

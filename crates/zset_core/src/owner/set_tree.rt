@@ -21,8 +21,8 @@ pub fn insert_set<H: BuildHasher + Drop, A: Allocator + Copy>(
     ensures put { OnOk result (IsAfter sets.old.entries key.now (Some set) sets.new.entries) }
     ensures err { OnErr result (sets.new.entries ≡ sets.old.entries) }
 {
-    let name = Vec::from_slice(alloc, key)?;
     let kept = BoxedSet::new(alloc, set)?;
+    let name = Vec::from_slice(alloc, key)?;
     sets.insert(name, kept)?;
     Ok(())
 }
