@@ -5,7 +5,7 @@ ghost use Rattle.std.specs.Io.KnownBytes.{prepend_known, IsAtEnd};
 ghost use Rattle.resp_wire.specs.Device.{Rose, saturating_succ};
 ghost use Rattle.resp_wire.specs.RequestEncoding.{IsArgument, argument, line, request as request_text};
 ghost use Rattle.zset_core.specs.SetsByKey.{World as WorldType};
-ghost use Rattle.append_log.specs.Replay.{after, is_replayed as is_replayed_by};
+ghost use Rattle.append_log.specs.Replay.{after, after_reading, is_replayed as is_replayed_by};
 ghost use Rattle.append_log.specs.ReloadOutcome.{ReloadHolds, ReloadReads};
 ghost use Rattle.append_log.specs.ReloadSteps.{IsBetweenReads, ReloadStepped, Drained, ReadsOn, SourceFailed, IsOfBytes, UnreplayedFor, NotTakenFor, Takes};
 ghost use Rattle.append_log.specs.declared.loading.ReloadFault.TheVariants as faults;
@@ -79,6 +79,30 @@ fn is_replayed<A: Allocator>(version: Version, command: &Command<A>) -> bool
     }
 }
 
+/// Replays the command of a record. All sets stay where it is not replayed.
+fn replay_command<H: BuildHasher + Clone + Drop, A: Allocator + Copy>(
+    owner: &mut OneOwner<H, A>,
+    version: Version,
+    command: &Command<A>,
+) -> Result<(), Unreplayed>
+    requires idle { owner.old.next ≡ None }
+    ensures idle { owner.new.next ≡ None }
+    ensures ok { OnOk result
+        (after_reading version owner.old.world (Ok command.now.meaning) ≡ Some owner.new.world) }
+    ensures err { OnErr result (owner.new.world ≡ owner.old.world) }
+    ensures cause { IfErr result
+        (λ cause. UnreplayedFor cause (after_reading version owner.old.world (Ok command.now.meaning))) }
+{
+    if !is_replayed(version, command) {
+        return Err(Unreplayed::NotACommand);
+    }
+    match owner.run(command) {
+        Ok(_) => Ok(()),
+        Err(Refusal::NoMemory) => Err(Unreplayed::NoMemory),
+        Err(_) => Err(Unreplayed::NotACommand),
+    }
+}
+
 /// Replays one record. All sets stay where it is not replayed.
 fn replay_one<H: BuildHasher + Clone + Drop, A: Allocator + Copy>(
     alloc: A,
@@ -97,14 +121,9 @@ fn replay_one<H: BuildHasher + Clone + Drop, A: Allocator + Copy>(
         Err(Refusal::NoMemory) => return Err(Unreplayed::NoMemory),
         Err(_) => return Err(Unreplayed::NotACommand),
     };
-    if !is_replayed(version, &command) {
-        return Err(Unreplayed::NotACommand);
-    }
-    match owner.run(&command) {
-        Ok(_) => Ok(()),
-        Err(Refusal::NoMemory) => Err(Unreplayed::NoMemory),
-        Err(_) => Err(Unreplayed::NotACommand),
-    }
+    let replayed = replay_command(owner, version, &command);
+    drop(command);
+    replayed
 }
 
 /// A number of 64 bits and the end of its line are no longer.

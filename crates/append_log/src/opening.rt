@@ -139,6 +139,32 @@ fn check_named<R: Files>(rt: &R, file: &R::File, path: &str) -> Result<(), FileF
     }
 }
 
+/// Opens a file to which a log may append, or makes it, and locks it alone. With it comes the path under which it
+/// stands.
+fn open_alone<R: Files, A: Allocator>(
+    rt: &R,
+    alloc: A,
+    path: &str,
+) -> Result<(R::File, PathBuf<A>), OpenFault>
+where
+    R::File: LockFile,
+    ensures { IfErr result LeavesSets }
+{
+    let Ok(file) = OpenOptions::new()
+        .read(true)
+        .append(true)
+        .create(true)
+        .open(rt, path)
+    else {
+        return Err(OpenFault::File(FileFault::Open));
+    };
+    check_regular(&file)?;
+    file.hold_alone()?;
+    let place = place_of(rt, alloc, path)?;
+    check_named(rt, &file, place.as_str())?;
+    Ok((file, place))
+}
+
 /// The file to which a log appends, once this one was replayed: itself, or of version 1 the one that
 /// takes its place. The old one stays locked until its name is the new one's.
 fn made_ready<R: Files, H: BuildHasher + Clone + Drop, A: Allocator + Copy>(
@@ -194,18 +220,7 @@ where
         (λ opened. ⟦<FileSink<R::File> as LogSink>⟧.failures opened.0 ≡ 0) }
     ensures fails { IfErr result (λ fault. OpenFails fault owner.old.world owner.new.world) }
 {
-    let Ok(file) = OpenOptions::new()
-        .read(true)
-        .append(true)
-        .create(true)
-        .open(rt, path)
-    else {
-        return Err(OpenFault::File(FileFault::Open));
-    };
-    check_regular(&file)?;
-    file.hold_alone()?;
-    let place = place_of(rt, alloc, path)?;
-    check_named(rt, &file, place.as_str())?;
+    let (file, place) = open_alone(rt, alloc, path)?;
     let mut source = Reading::new(file);
     let loaded = reload(alloc, &mut source, owner, READ_BUFFER, MAX_READS)?;
     let file = made_ready(
