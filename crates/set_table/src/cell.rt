@@ -91,17 +91,22 @@ impl<H: BuildHasher + Drop, L: Ledger, A: Allocator + Copy> Cell<H, L, A> {
             added: 0,
             removed: 0,
         };
-        let tallies = Vec::from_elem(alloc, none, passes)?;
-        Ok(Cell {
-            place,
-            sorted_set,
-            opened,
-            max_runs,
-            tallies,
-            total: none,
-            share,
-            alloc,
-        })
+        match Vec::from_elem(alloc, none, passes) {
+            Ok(tallies) => Ok(Cell {
+                place,
+                sorted_set,
+                opened,
+                max_runs,
+                tallies,
+                total: none,
+                share,
+                alloc,
+            }),
+            Err(refused) => {
+                drop(sorted_set);
+                Err(refused)
+            }
+        }
     }
 }
 

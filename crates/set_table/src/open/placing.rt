@@ -1,6 +1,6 @@
 //! An owner's sets are given their places.
 
-ghost use Rattle.std.specs.Prelude.{◌≡◌, ◌<◌, ◌≤◌, None, length, IfOk, OnOk};
+ghost use Rattle.std.specs.Prelude.{◌≡◌, ◌<◌, ◌≤◌, None, length, slice_set, IfOk, OnOk};
 ghost use Rattle.std.specs.FinMap as fin;
 ghost use Rattle.set_table.specs.Naming.{AreNotesOf};
 ghost use Rattle.set_table.specs.Opening.{AllHavePlaces, AreEmptySets, AreIdleSets, cards_of, members_of, sum_of_numbers};
@@ -28,6 +28,15 @@ pub(crate) fn empty_sets<H: BuildHasher + Clone + Drop>(
     Ok(sets)
 }
 
+/// Puts a value in the place of another, which is let go. It is of any type: where it is a set, a proof takes apart all
+/// that this may hold.
+fn put<T: Drop>(values: &mut Vec<T>, place: usize, value: T)
+    requires { place < length values.old.items }
+    ensures { values.new.items ≡ slice_set values.old.items place value }
+{
+    values[place] = value;
+}
+
 /// Puts each set of an owner where its key's place is, in the byte order of the keys.
 pub(crate) fn place_all<H: BuildHasher + Clone + Drop>(
     owner: OneOwner<H, Global>,
@@ -52,9 +61,12 @@ pub(crate) fn place_all<H: BuildHasher + Clone + Drop>(
         match owner.take_first() {
             None => unreachable!(),
             Some((key, set)) => match names.claim(knowledge, &key) {
-                Ok(place) => sets[place] = set,
+                Ok(place) => put(sets, place, set),
                 // No place is missing: there are as many as keys, and nobody else names any yet.
-                Err(_) => return Err(AllocError),
+                Err(_) => {
+                    drop(set);
+                    return Err(AllocError);
+                }
             },
         }
     }

@@ -1,9 +1,10 @@
-use Rattle.std.proofs.Common.{◌≡◌, ◌∙◌, ℕ, None, List, refl, sym, subst, arith, length-set}
+use Rattle.std.proofs.Common.{◌≡◌, ◌∙◌, ◌+◌, ℕ, None, List, length, refl, sym, ap, subst, arith, length-set}
 use Rattle.std.specs.FinMap as fin
 use Rattle.std.proofs.lemmas.List.Elements.{All-set}
 use Rattle.zset_core.specs.SetAndOwnerViews.{SetView}
 use Rattle.set_table.specs.Naming.{IsPlace}
-use Rattle.set_table.proofs.OpeningLemmas.{next_of, no_entry, none_left, took, placed_none, all_have, all_counted}
+use Rattle.set_table.specs.Opening.{AreIdleSets, cards_of}
+use Rattle.set_table.proofs.OpeningLemmas.{Placed, next_of, no_entry, none_left, took, placed_none, all_have, all_counted}
 use Rattle.set_table.proofs.open.placing.place_all.Goals as goal
 
 pub loop-init : goal.loop-init
@@ -29,10 +30,11 @@ loop-preserved g c =
       own = c.claim.ensures.own;
       idle = c.take_first.ensures.idle;
       rest = next.behind;
-      count = length-set c.loop.sets.items c.in-Ok.place c.in-Some.set ∙ i.count;
-      sets_idle = All-set (λ (s : SetView). s.next ≡ None) c.loop.sets.items c.in-Ok.place c.in-Some.set first.idle i.sets_idle;
-      placed = took c.args.owner.world c.loop.counter c.loop.knowledge.known c.claim.new.known.known c.loop.sets.items c.in-Ok.place c.in-Some.key.items c.in-Some.set (fin.entries c.take_first.new.self.world) next c.in-Ok.ensures.grows
-          (c.claim.ensures.own.places ∙ sym i.count) (subst (λ (k : List ℕ). IsPlace c.claim.new.known.known k c.in-Ok.place) c.deref.ensures.value c.in-Ok.ensures.ok) i.placed;
+      count = ap length c.put.ensures ∙ length-set c.loop.sets.items c.in-Ok.place c.in-Some.set ∙ i.count;
+      sets_idle = subst AreIdleSets (sym c.put.ensures) (All-set (λ (s : SetView). s.next ≡ None) c.loop.sets.items c.in-Ok.place c.in-Some.set first.idle i.sets_idle);
+      placed = subst (λ (sets : List SetView). Placed (fin.entries c.args.owner.world) (c.loop.counter + 1) c.claim.new.known.known (cards_of sets)) (sym c.put.ensures)
+          (took c.args.owner.world c.loop.counter c.loop.knowledge.known c.claim.new.known.known c.loop.sets.items c.in-Ok.place c.in-Some.key.items c.in-Some.set (fin.entries c.take_first.new.self.world) next c.in-Ok.ensures.grows
+          (c.claim.ensures.own.places ∙ sym i.count) (subst (λ (k : List ℕ). IsPlace c.claim.new.known.known k c.in-Ok.place) c.deref.ensures.value c.in-Ok.ensures.ok) i.placed);
     }
 
 pub returns-clause-known : goal.returns-clause-known
