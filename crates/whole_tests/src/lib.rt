@@ -23,6 +23,8 @@ mod logging;
 #[cfg(test)]
 mod memory;
 #[cfg(test)]
+mod polled_devices;
+#[cfg(test)]
 mod sessions;
 #[cfg(test)]
 mod want_of_memory;

@@ -67,32 +67,6 @@ fn the_end_of_a_session_is_told(rt: HostRuntime) -> Result<(), Fail> {
     Ok(())
 }
 
-/// More requests than a session that gave up after some would serve.
-const MANY: u64 = 120_000;
-
-/// A short request so many times.
-fn pings(alloc: Global, times: u64) -> Result<Vec<u8>, Fail> {
-    let mut input = Vec::new(alloc);
-    for _ in 0..times {
-        input.extend_from_slice(b"*1\r\n$4\r\nPING\r\n")?;
-    }
-    Ok(input)
-}
-
-#[test]
-fn one_session_serves_many_requests(rt: HostRuntime) -> Result<(), Fail> {
-    let input = pings(rt.alloc(), MANY)?;
-    let session = serve_bytes(&rt, &input, 65_536)?;
-    let whole = Ended {
-        requests: MANY,
-        rest: 0,
-    };
-    let has_all = session.written.len() as u64 == 7 * MANY;
-    assert!(rt; session.end == Ok(whole) && has_all);
-    assert!(rt; session.written.ends_with(b"+PONG\r\n"));
-    Ok(())
-}
-
 #[test]
 fn reads_are_counted(rt: HostRuntime) -> Result<(), Fail> {
     let alloc = rt.alloc();
