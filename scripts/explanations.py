@@ -1,4 +1,5 @@
 """A part of serve_test: what --explain and a terminal are told behind the fixed lines, and while the program runs."""
+import fcntl
 import os
 import re
 import resource
@@ -8,7 +9,7 @@ import socket
 import subprocess
 import time
 
-from harness import PROGRAM, SECONDS, on_a_terminal, run, same, start, test, with_terminal, write
+from harness import PROGRAM, SECONDS, on_a_terminal, read, run, same, start, test, with_terminal, write
 from tcp import HEADER, LOOPBACK, Server, request, soon, totals
 
 NO_FILE = b"zcrackd: cannot use file\n"
@@ -58,6 +59,31 @@ def a_file_that_cannot_be_used_is_named_with_its_cause():
 def a_file_in_use_is_told():
     with Server("--file", "kept"):
         same(told("stdio", "--file", "kept"), (3, NO_FILE + b"kept: it is in use\n"))
+
+
+@test
+def a_file_that_is_not_renewed_is_told_by_its_draft():
+    write("kept", RECORDS)
+    os.mkdir("kept.new")
+    cause = b"kept.new: it can't be opened or made: File exists (os error 17)\n"
+    same(told("stdio", "--file", "kept"), (3, NO_FILE + cause))
+    os.rmdir("kept.new")
+    write("kept.new", b"")
+    with open("kept.new", "rb") as draft:
+        fcntl.flock(draft, fcntl.LOCK_EX)
+        same(told("stdio", "--file", "kept"), (3, NO_FILE + b"kept.new: it is in use\n"))
+    many = b"".join(request("ZADD", "k", it, it) for it in range(4))
+    write("kept", many)
+    lines = NO_FILE + b"kept.new: it can't be written\n"
+    same(run("stdio", "--file", "kept", "--explain", preexec_fn=limited), (3, b"", lines))
+    same(read("kept"), many)
+
+
+@test
+def a_file_of_a_later_version_is_told():
+    write("later", request("ZCRACKD", 3))
+    lines = b"zcrackd: unknown append file version\nlater: a later zcrackd wrote it, which can read it\n"
+    same(told("stdio", "--file", "later"), (3, lines))
 
 
 @test

@@ -2,7 +2,6 @@
 import re
 import socket
 import time
-from contextlib import ExitStack
 
 from harness import SECONDS, read, same, test, write
 from tcp import Server, read_reply, request, soon, totals, traced
@@ -159,10 +158,8 @@ def a_connection_is_set_up_and_read_in_long_pieces():
 def the_longest_requests_are_answered_by_each_worker():
     key, member = b"k" * LONGEST, b"m" * LONGEST
     pairs = [it for number in range(512) for it in (number, b"%d " % number + member[:1_000])]
-    with Server("--workers", 3) as server, ExitStack() as stack:
+    with Server("--connections", 3, "--workers", 3) as server:
         first, second, third = (server.connect() for _ in range(3))
-        for client in (first, second, third):
-            stack.callback(client.close)
         same(first.ask("ZADD", key, 7, member), b":1\r\n")
         same(second.ask("ZSCORE", key, member), b"$1\r\n7\r\n")
         same(third.ask("ZRANGEBYSCORE", key, 7, 7), [b"$65536\r\n" + member + b"\r\n"])
@@ -170,6 +167,24 @@ def the_longest_requests_are_answered_by_each_worker():
         same(second.ask("ZADD", key, "CH", *pairs), b":512\r\n")
         same(third.ask("ZREM", key, *pairs[1::2], *range(MOST_WORDS - 514)), b":512\r\n")
         same((first.ask("ZREM", key, member), first.ask("ZCARD", key)), (b":1\r\n", b":0\r\n"))
+        same([client.finish() for client in (first, second, third)], [b""] * 3)
+        same(server.ends(), (0, totals(3, 0, 0, 513, 513, 4), b""))
+
+
+@test
+def long_keys_that_differ_in_their_last_byte_have_sets_of_their_own():
+    with Server("--connections", 2, "--workers", 2) as server:
+        first, second = server.connect(), server.connect()
+        for length in (1_000, 1_001, LONGEST - 1, LONGEST):
+            start = b"k" * (length - 1)
+            one, other = start + b"a", start + b"b"
+            same(first.ask("ZADD", one, 1, start + b"m", 2, "y"), b":2\r\n")
+            same(first.ask("ZADD", other, 3, "z"), b":1\r\n")
+            same((second.ask("ZCARD", one), second.ask("ZCOUNT", one, 2, 9)), (b":2\r\n", b":1\r\n"))
+            same(second.ask("ZSCORE", one, start + b"m"), b"$1\r\n1\r\n")
+            same(second.ask("ZSCORE", other, "z"), b"$1\r\n3\r\n")
+        same((first.finish(), second.finish()), (b"", b""))
+        same(server.ends(), (0, totals(2, 8, 12, 12, 0, 8), b""))
 
 
 @test

@@ -1,9 +1,7 @@
-//! Tests of what the program does: sessions in memory, real files, the lines and statuses of its ends, and servers
-//! over connections in memory and over loopback. This crate has nothing but tests.
+//! Tests of what the program does that no run of it can show: servers over connections in memory, whose calls and those
+//! of their append file fail in turn, and the lines and statuses of ends. This crate has nothing but tests.
 #![tactic(auto)]
 
-#[cfg(test)]
-mod files;
 #[cfg(test)]
 mod lines;
 #[cfg(test)]

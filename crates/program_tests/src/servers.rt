@@ -1,4 +1,4 @@
-//! Servers over connections in memory, and over loopback.
+//! Servers over connections in memory.
 
 ghost use Rattle.std.specs.Prelude.{◌≡◌, ◌+◌, ◌≤◌, IfOk, Some, None};
 ghost use Rattle.std.specs.Thread.{IsSync};
@@ -6,18 +6,16 @@ ghost use Rattle.hand_over.specs.ArrivalCounts.{came_after, kind_of};
 
 use append_log::{FileHandle, FuseSink, LogSink, MemorySink, NoSink};
 use hand_over::{Arrival, ArrivalKind, Arrivals};
-use program_runs::{Finish, Settings, Stock, TcpArrivals, serve_stock, stdio_run};
+use program_runs::{Finish, Settings, Stock, serve_stock, stdio_run};
 use resp_wire::{ByteDrain, FuseDrain, FuseSource, MemoryDrain, MemorySource, Writing};
 use std::alloc::{AllocError, AllocGlobal, Global};
 use std::fs::{File, OpenOptions};
 use std::hash::RandomState;
-use std::io::{self, Write};
 use std::marker::Brand;
-use std::net::{Net, OpenStream, Shutdown, SocketAddr, TcpListener, TcpStream};
+use std::net::Net;
 use std::sync::Wait;
 use std::sync::ledger::{Blank, Ledger};
 use std::test::*;
-use std::thread;
 use std::thread::Threads;
 use std::time::Clock;
 use zset_core::OneOwner;
@@ -318,68 +316,5 @@ fn totals_that_cannot_be_printed(rt: HostRuntime) -> Result<(), Fail> {
         text.as_str(),
         "1\nzcrackd: write fault\nzcrackd: accept fault\n"
     );
-    Ok(())
-}
-
-/// What a server on this address replies to an input.
-fn ask<R: Net + AllocGlobal>(rt: &R, address: SocketAddr, input: &[u8]) -> io::Result<String> {
-    let mut stream = TcpStream::connect(rt, address)?;
-    stream.write_all(input)?;
-    stream.shutdown(Shutdown::Write)?;
-    io::read_to_string(rt.alloc(), stream)
-}
-
-/// How a server ends that serves so many connections of a listener, and what it prints.
-fn served_over_tcp<R: Wait + Threads + Net + Clock + AllocGlobal + Sync>(
-    rt: &R,
-    hasher: RandomState,
-    mut arrivals: TcpArrivals,
-    settings: &Settings,
-) -> Result<String, AllocError>
-    requires { settings.now.places ≤ 1 }
-{
-    let alloc = rt.alloc();
-    let stock = Stock {
-        owner: OneOwner::new(alloc, hasher),
-        sink: NoSink::new(),
-        handle: None::<FileHandle<File>>,
-        max_records: 1_000_000,
-    };
-    let mut drain = MemoryDrain::new(alloc, 3);
-    let finish = serve_stock::<Brand, _, _, _, _, _, _, _>(
-        rt,
-        &mut arrivals,
-        Blank::new(3),
-        stock,
-        settings,
-        &mut drain,
-    );
-    let mut text = told(alloc, &finish)?;
-    text.push_str(str::from_utf8(drain.flushed()).unwrap_or("?"))?;
-    Ok(text)
-}
-
-// One client and then another, on a thread beside the server's.
-#[test]
-fn clients_are_answered_over_tcp(rt: HostRuntime) -> Result<(), Fail> {
-    let hasher = RandomState::new(&rt)?;
-    let listener = TcpListener::bind(&rt, "127.0.0.1:0")?;
-    let address = listener.local_addr()?;
-    let arrivals = TcpArrivals::new(&rt, listener, 900, 60)?;
-    let settings = Settings::new(4, 1, 2).ok_or("no settings")?;
-    let (replies, end) = thread::join(
-        &rt,
-        || -> io::Result<(String, String)> {
-            Ok((ask(&rt, address, WRONG)?, ask(&rt, address, ADD_AND_LIST)?))
-        },
-        move || -> Result<String, AllocError>
-            requires { settings.places ≤ 1 }
-        { served_over_tcp(&rt, hasher, arrivals, &settings) },
-    );
-    let (wrong, listed) = replies?;
-    assert_eq!(rt; wrong.as_str(), "-ERR protocol 3 bad number\r\n");
-    assert_eq!(rt; listed.as_str(), ":1\r\n*1\r\n$1\r\na\r\n");
-    let totals = "0\nconnections 2 sets 1 members 1 added 1 removed 0 records 1\n";
-    assert_eq!(rt; end?.as_str(), totals);
     Ok(())
 }

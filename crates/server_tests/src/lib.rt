@@ -1,4 +1,4 @@
-//! Tests of workers on one table, connections in memory served by each: two at once on threads of their own,
+//! Tests of workers on one table, connections in memory served by each: one that is held inside a set's lock,
 //! connections that fail, and a log that fails. This crate has nothing but tests.
 #![tactic(auto)]
 
@@ -11,8 +11,4 @@ mod failing_log;
 #[cfg(test)]
 mod held_runs;
 #[cfg(test)]
-mod many_requests;
-#[cfg(test)]
 mod requests;
-#[cfg(test)]
-mod two_sessions;

@@ -19,8 +19,6 @@ mod gates;
 #[cfg(test)]
 mod last_run;
 #[cfg(test)]
-mod long_words;
-#[cfg(test)]
 mod opening;
 #[cfg(test)]
 mod runs;
