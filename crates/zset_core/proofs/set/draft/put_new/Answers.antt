@@ -4,7 +4,7 @@ use Rattle.indexmap.proofs.CallerLemmas.{insert_entry-new}
 use Rattle.zset_core.specs.MembersWithStagedScores.{Entry, staged_score, members_by, name_at, slot_at, same_bytes, Grows, IsWaiting}
 use Rattle.zset_core.specs.declared.set.members_with_staged_scores.ScoreSlot.{ScoreSlot}
 use Rattle.zset_core.proofs.Bridge.{updates_bytes, one_put}
-use Rattle.zset_core.proofs.Staging.{Grows-push, IsWaiting-push}
+use Rattle.zset_core.proofs.Staging.{Grows-self, Grows-push, IsWaiting-push}
 use Rattle.zset_core.proofs.Naming.{name_push, name_last}
 use Rattle.zset_core.proofs.set.draft.put_new.Goals as goal
 
@@ -64,3 +64,24 @@ returns-clause-names g c p lt =
     let absent = ap (slot_at old) c.in_ok-key.ensures.bytes ∙ c.requires.absent in
     let is = c.in_ok-insert.ensures.entries ∙ insert_entry-new same_bytes c.args.members.now key slot absent in
     ap (λ (es : List Entry). name_at es p) is ∙ name_push old (key, slot) p lt
+
+pub returns-in_err-key-clause-grows : goal.returns-in_err-key-clause-grows
+returns-in_err-key-clause-grows g c = Grows-self c.args.members.now.entries
+
+pub returns-in_err-key-clause-waiting : goal.returns-in_err-key-clause-waiting
+returns-in_err-key-clause-waiting g c places w = w
+
+pub returns-in_err-name-clause-grows : goal.returns-in_err-name-clause-grows
+returns-in_err-name-clause-grows g c = Grows-self c.args.members.now.entries
+
+pub returns-in_err-name-clause-waiting : goal.returns-in_err-name-clause-waiting
+returns-in_err-name-clause-waiting g c places w = w
+
+pub returns-clause-name : goal.returns-clause-name
+returns-clause-name g c = c.in_ok-name.ensures.bytes ∙ c.in_ok-key.ensures.bytes
+
+pub returns-in_err-insert-clause-grows : goal.returns-in_err-insert-clause-grows
+returns-in_err-insert-clause-grows g c = subst (Grows c.args.members.now.entries) (sym c.in_err-insert.ensures.err) (Grows-self c.args.members.now.entries)
+
+pub returns-in_err-insert-clause-waiting : goal.returns-in_err-insert-clause-waiting
+returns-in_err-insert-clause-waiting g c places w = subst (IsWaiting places) (sym c.in_err-insert.ensures.err) w

@@ -1,9 +1,9 @@
-use Rattle.std.proofs.Common.{◌∙◌, sym, ap, subst, rules, List, ℕ, ℤ, SFits, w64, to_z, of_z, to_z-of_z}
+use Rattle.std.proofs.Common.{◌∙◌, refl, sym, ap, subst, rules, List, ℕ, ℤ, SFits, w64, to_z, of_z, to_z-of_z}
 use Rattle.std.specs.FinMap as map
 use Rattle.indexmap.specs.IndexMap.{set_value_at}
 use Rattle.zset_core.specs.MembersWithStagedScores.{staged_score, current_score, members_by, IsWaiting}
 use Rattle.zset_core.specs.declared.set.members_with_staged_scores.ScoreSlot.{ScoreSlot}
-use Rattle.zset_core.proofs.Staging.{members_written, length_written, Grows-written, IsWaiting-written, score_at_place}
+use Rattle.zset_core.proofs.Staging.{Grows-self, members_written, length_written, Grows-written, IsWaiting-written, score_at_place}
 use Rattle.zset_core.proofs.Naming.{names_written}
 use Rattle.zset_core.proofs.set.draft.put_staged.Goals as goal
 
@@ -33,3 +33,15 @@ returns-clause-names g c places =
 pub returns-clause-len : goal.returns-clause-len
 returns-clause-len g c =
     length_written c.args.members.now.entries c.args.place (record { current = to_z w64 (of_z w64 c.index.result.now.current); staged = to_z w64 (of_z w64 c.args.score) })
+
+pub returns-in_err-push-clause-grows : goal.returns-in_err-push-clause-grows
+returns-in_err-push-clause-grows g c = Grows-self c.args.members.now.entries
+
+pub returns-in_err-push-clause-names : goal.returns-in_err-push-clause-names
+returns-in_err-push-clause-names g c places = refl
+
+pub returns-in_err-push-clause-len : goal.returns-in_err-push-clause-len
+returns-in_err-push-clause-len g c = refl
+
+pub returns-clause-noted : goal.returns-clause-noted
+returns-clause-noted g c = c.in_ok-push.ensures.items

@@ -57,3 +57,21 @@ pub returns-in_default-clause-order : goal.returns-in_default-clause-order
 returns-in_default-clause-order g c =
     let es = c.args.members.now.entries in
     sym (noted_absent (members_by current_score es) (names_at es c.args.order.now.items) c.args.name.now (get_members current_score es c.args.name.now ∙ ap (option_map current_score) (sym c.in_default.ensures.slot)))
+
+pub returns-in_default-clause-within : goal.returns-in_default-clause-within
+returns-in_default-clause-within g c = c.requires.within
+
+pub returns-in_default-clause-seen : goal.returns-in_default-clause-seen
+returns-in_default-clause-seen g c = c.requires.seen
+
+pub returns-in_default-clause-found : goal.returns-in_default-clause-found
+returns-in_default-clause-found g c = c.requires.found
+
+pub returns-else-branch-clause-within : goal.returns-else-branch-clause-within
+returns-else-branch-clause-within g c = c.requires.within
+
+pub returns-else-branch-clause-found : goal.returns-else-branch-clause-found
+returns-else-branch-clause-found g c =
+    let done = c.in_ok-insert.ensures in
+    AreFoundPlaces-after c.args.members.now.entries c.args.places.now c.insert.new.self c.in-Some.place c.args.name.now c.in-Some.field-0-1 c.in_ok-insert.field-0
+    c.in-Some.ensures.unique c.in-Some.ensures.place done.added done.updates.0 done.keys done.unchanged done.len c.requires.found

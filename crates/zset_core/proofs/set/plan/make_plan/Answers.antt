@@ -1,16 +1,18 @@
-use Rattle.std.proofs.Common.{◌≡◌, ◌<◌, ◌-◌, ◌∷◌, [], true, ℕ, ℤ, List, length, drop, take, Option, Some, Result, OnErr, pos, SFits, w64, to_z-of_z, length-drop, sym, ap, subst, ◌∙◌, arith, rules}
+use Rattle.std.proofs.Common.{◌≡◌, ◌<◌, ◌-◌, ◌∷◌, [], true, ℕ, ℤ, List, length, drop, take, Option, Some, Result, OnErr, pos, SFits, w64, to_z-of_z, length-drop, refl, sym, ap, subst, ◌∙◌, arith, rules}
 use Rattle.std.proofs.lemmas.List.{get_or_read, take_all}
 use Rattle.std.proofs.lemmas.Result.{err_from_is_err_and}
 use Rattle.std.specs.FinMap as map
 use Rattle.resp_wire.specs.Response.{Integer, Response}
 use Rattle.ripple_column.specs.Content.{ColumnState}
+use Rattle.zset_core.specs.AbstractCommand.{range_of_change}
+use Rattle.zset_core.specs.SetViewAndInvariant.{IsReadyForPlan}
 use Rattle.zset_core.specs.CommandEffectsOnColumn.{MakesReady, MakesRoom, increase_edits}
 use Rattle.zset_core.specs.Semantics.{changed_by, count_all, increase, put_all, remove_all}
 use Rattle.zset_core.specs.MeaningOfForm.{IsWholeChange, change_of, scored, word_at}
 use Rattle.zset_core.specs.MembersWithStagedScores.{Entry, current_score, rows_by, members_by, ScoresAreSettled, IsBack}
 use Rattle.zset_core.specs.MovedMembers.{names_of_change}
 use Rattle.zset_core.specs.SortedSet.{Members, names_of}
-use Rattle.zset_core.specs.Plan.{Moves, MovesTo, Plans, Prepares}
+use Rattle.zset_core.specs.Plan.{Moves, MovesTo, Plans, Prepares, range_of}
 use Rattle.zset_core.specs.declared.command.parsed_arguments.ChangeForm.{ChangeForm}
 use Rattle.zset_core.specs.declared.command.parsed_arguments.ChangeForm.TheVariants.{Increase}
 use Rattle.zset_core.specs.declared.command.pair_outcome.Flags.{Flags}
@@ -52,6 +54,14 @@ module _ {A : Type 0} where
   back old new last plan o h is settled =
       let p = (Prepares-some old new (Scores plan) o h).1 in
       record { same = is ∙ ap (λ (n : ℕ). take n (rows_by current_score new)) p.kept ∙ p.grows.front; settled = settled }
+
+  -- what a plan is ready for, and its range, once it is kept
+  ready_kept : (column : ColumnState) (plan kept : Plan A) → kept ≡ plan → IsReadyForPlan column plan → IsReadyForPlan column kept
+  ready_kept column plan kept stays h = subst (λ (p : Plan A). IsReadyForPlan column p) (sym stays) h
+
+  range_kept : (words : List (List ℕ)) (form form' : ChangeForm A) (plan kept : Plan A) → form ≡ form' → kept ≡ plan → range_of plan ≡ range_of_change (change_of words form') → range_of kept ≡ range_of_change (change_of words form)
+  range_kept words form form' plan kept is stays h =
+      ap (λ (p : Plan A). range_of p) stays ∙ h ∙ sym (ap (λ (f : ChangeForm A). range_of_change (change_of words f)) is)
 
 pub returns-in_err-make_room-in-Add-clause-column : goal.returns-in_err-make_room-in-Add-clause-column
 returns-in_err-make_room-in-Add-clause-column g c =
@@ -160,3 +170,74 @@ returns-in_ok-make_room_for_removal-in-Remove-clause-column g c =
     let room = room_fits c.args.column.now c.make_room_for_removal.new.column (Removal c.in_ok-plan-in-Remove.plan) _ c.in_ok-plan-in-Remove.ensures.rows c.make_room_for_removal.ensures.column in
     ready words c.args.change.now _ m _ c.args.column.now c.make_room_for_removal.new.column c.in-Remove.is
     (subst (λ (names : List (List ℕ)). MakesRoom (map.len m - map.len (remove_all m names)) c.args.column.now c.make_room_for_removal.new.column) c.split_at.ensures.back room)
+
+pub returns-in_err-plan-in-Add-clause-content : goal.returns-in_err-plan-in-Add-clause-content
+returns-in_err-plan-in-Add-clause-content g c p = refl
+
+pub returns-in_err-make_room-in-Add-clause-content : goal.returns-in_err-make_room-in-Add-clause-content
+returns-in_err-make_room-in-Add-clause-content g c = c.make_room.ensures.content
+
+pub returns-in_ok-make_room-in-Add-clause-content : goal.returns-in_ok-make_room-in-Add-clause-content
+returns-in_ok-make_room-in-Add-clause-content g c = c.make_room.ensures.content
+
+pub returns-in_ok-make_room-in-Add-clause-ready : goal.returns-in_ok-make_room-in-Add-clause-ready
+returns-in_ok-make_room-in-Add-clause-ready g c = ready_kept c.make_room.new.column (Scores c.in_ok-plan-in-Add.plan) c.in_ok-make_room-in-Add.field-0 c.in_ok-make_room-in-Add.ensures.ok.0 c.in_ok-make_room-in-Add.ensures.room
+
+pub returns-in_ok-make_room-in-Add-clause-range : goal.returns-in_ok-make_room-in-Add-clause-range
+returns-in_ok-make_room-in-Add-clause-range g c = range_kept c.args.words.now c.args.change.now _ (Scores c.in_ok-plan-in-Add.plan) c.in_ok-make_room-in-Add.field-0 c.in-Add.is c.in_ok-make_room-in-Add.ensures.ok.0 refl
+
+pub returns-in_err-plan-in-Increase-clause-content : goal.returns-in_err-plan-in-Increase-clause-content
+returns-in_err-plan-in-Increase-clause-content g c p = refl
+
+pub returns-in_err-make_room-in-Increase-clause-content : goal.returns-in_err-make_room-in-Increase-clause-content
+returns-in_err-make_room-in-Increase-clause-content g c = c.make_room-in-Increase.ensures.content
+
+pub returns-in_ok-make_room-in-Increase-clause-content : goal.returns-in_ok-make_room-in-Increase-clause-content
+returns-in_ok-make_room-in-Increase-clause-content g c = c.make_room-in-Increase.ensures.content
+
+pub returns-in_ok-make_room-in-Increase-clause-ready : goal.returns-in_ok-make_room-in-Increase-clause-ready
+returns-in_ok-make_room-in-Increase-clause-ready g c = ready_kept c.make_room-in-Increase.new.column (Scores c.in_ok-plan-in-Increase.plan) c.in_ok-make_room-in-Increase.field-0 c.in_ok-make_room-in-Increase.ensures.ok.0 c.in_ok-make_room-in-Increase.ensures.room
+
+pub returns-in_ok-make_room-in-Increase-clause-range : goal.returns-in_ok-make_room-in-Increase-clause-range
+returns-in_ok-make_room-in-Increase-clause-range g c = range_kept c.args.words.now c.args.change.now _ (Scores c.in_ok-plan-in-Increase.plan) c.in_ok-make_room-in-Increase.field-0 c.in-Increase.is c.in_ok-make_room-in-Increase.ensures.ok.0 refl
+
+pub returns-in_err-plan-in-Remove-clause-content : goal.returns-in_err-plan-in-Remove-clause-content
+returns-in_err-plan-in-Remove-clause-content g c p = refl
+
+pub returns-in_err-make_room_for_removal-in-Remove-clause-content : goal.returns-in_err-make_room_for_removal-in-Remove-clause-content
+returns-in_err-make_room_for_removal-in-Remove-clause-content g c = c.make_room_for_removal.ensures.content
+
+pub returns-in_ok-make_room_for_removal-in-Remove-clause-content : goal.returns-in_ok-make_room_for_removal-in-Remove-clause-content
+returns-in_ok-make_room_for_removal-in-Remove-clause-content g c = c.make_room_for_removal.ensures.content
+
+pub returns-in_ok-make_room_for_removal-in-Remove-clause-ready : goal.returns-in_ok-make_room_for_removal-in-Remove-clause-ready
+returns-in_ok-make_room_for_removal-in-Remove-clause-ready g c = ready_kept c.make_room_for_removal.new.column (Removal c.in_ok-plan-in-Remove.plan) c.in_ok-make_room_for_removal-in-Remove.field-0 c.in_ok-make_room_for_removal-in-Remove.ensures.ok c.in_ok-make_room_for_removal-in-Remove.ensures.room
+
+pub returns-in_ok-make_room_for_removal-in-Remove-clause-range : goal.returns-in_ok-make_room_for_removal-in-Remove-clause-range
+returns-in_ok-make_room_for_removal-in-Remove-clause-range g c = range_kept c.args.words.now c.args.change.now _ (Removal c.in_ok-plan-in-Remove.plan) c.in_ok-make_room_for_removal-in-Remove.field-0 c.in-Remove.is c.in_ok-make_room_for_removal-in-Remove.ensures.ok refl
+
+pub returns-in_ok-make_room-in-Increase-clause-ok : goal.returns-in_ok-make_room-in-Increase-clause-ok
+returns-in_ok-make_room-in-Increase-clause-ok g c =
+    let es = c.args.members.now.entries in
+    let words = c.args.words.now in
+    let m = members_by current_score es in
+    let fits : SFits w64 c.in-Increase.given = search rules in
+    let inside = within words c.args.change.now c.in-Increase.flags c.in-Increase.given c.in-Increase.member c.in-Increase.is c.requires.whole in
+    let same : c.as_slice-member.result.now ≡ word_at words c.in-Increase.member = c.as_slice-member.ensures ∙ get_or_read words c.in-Increase.member _ inside c.index-words-member.is [] in
+    plans words c.args.change.now _ es c.plan_increase.new.members.entries c.make_room-in-Increase.new.members.entries (Scores c.in_ok-plan-in-Increase.plan) c.in_ok-make_room-in-Increase.field-0 m c.in-Increase.is (ap (λ members. members.entries) c.in_ok-make_room-in-Increase.ensures.ok.1) c.in_ok-make_room-in-Increase.ensures.ok.0
+    (subst (λ (q : List ℕ). Plans es c.plan_increase.new.members.entries (Scores c.in_ok-plan-in-Increase.plan) (increase c.in-Increase.flags m q c.in-Increase.given)) same
+    (subst (λ (z : ℤ). Plans es c.plan_increase.new.members.entries (Scores c.in_ok-plan-in-Increase.plan) (increase c.in-Increase.flags m c.as_slice-member.result.now z)) (to_z-of_z fits) c.in_ok-plan-in-Increase.ensures.ok))
+
+pub returns-in_ok-make_room_for_removal-in-Remove-clause-ok : goal.returns-in_ok-make_room_for_removal-in-Remove-clause-ok
+returns-in_ok-make_room_for_removal-in-Remove-clause-ok g c =
+    let es = c.args.members.now.entries in
+    let m = members_by current_score es in
+    plans c.args.words.now c.args.change.now _ es es es (Removal c.in_ok-plan-in-Remove.plan) c.in_ok-make_room_for_removal-in-Remove.field-0 m c.in-Remove.is refl c.in_ok-make_room_for_removal-in-Remove.ensures.ok
+    (subst (λ (names : List (List ℕ)). Prepares es es (Removal c.in_ok-plan-in-Remove.plan) (remove_all m names) (Integer (pos (map.len m - map.len (remove_all m names))))) c.split_at.ensures.back c.in_ok-plan-in-Remove.ensures.ok)
+
+pub returns-in_ok-make_room_for_removal-in-Remove-clause-moved : goal.returns-in_ok-make_room_for_removal-in-Remove-clause-moved
+returns-in_ok-make_room_for_removal-in-Remove-clause-moved g c =
+    let es = c.args.members.now.entries in
+    let m = members_by current_score es in
+    moves c.args.words.now c.args.change.now _ es es es (Removal c.in_ok-plan-in-Remove.plan) c.in_ok-make_room_for_removal-in-Remove.field-0 m c.in-Remove.is refl c.in_ok-make_room_for_removal-in-Remove.ensures.ok
+    (subst (λ (names : List (List ℕ)). MovesTo es es (Removal c.in_ok-plan-in-Remove.plan) names (remove_all m names)) c.split_at.ensures.back c.in_ok-plan-in-Remove.ensures.moved)

@@ -1,13 +1,28 @@
-use Rattle.std.proofs.Common.{◌∙◌, ◌+◌, ◌*◌, refl, sym, ap, rules, arith, ℤ, pos, drop, get_or, SFits, w64, to_z, of_z, to_z-of_z, true}
+use Rattle.std.proofs.Common.{◌≡◌, ◌≤◌, ◌∙◌, ◌+◌, ◌*◌, ◌++◌, [], append-nil, refl, sym, ap, rules, arith, ℕ, ℤ, List, Bool, pos, drop, length, get_or, zero, suc, ◌∷◌, SFits, w64, to_z, of_z, to_z-of_z, true}
 use Rattle.zset_core.specs.MeaningOfForm.{scored}
-use Rattle.zset_core.specs.NamesTouchedByPlan.{noted_places}
-use Rattle.zset_core.specs.Semantics.{counted, count_all}
+use Rattle.zset_core.specs.declared.command.pair_outcome.Flags.{Flags}
+use Rattle.zset_core.specs.NamesTouchedByPlan.{mentions, noted_places}
+use Rattle.zset_core.specs.Semantics.{counted, count_all, put_all}
+use Rattle.zset_core.specs.SortedSet.{Members}
 use Rattle.zset_core.specs.MembersWithStagedScores.{staged_score, members_by, names_at}
 use Rattle.zset_core.proofs.PairSteps.{pairs_step, put_step, count_step, counted_one}
 use Rattle.zset_core.proofs.Staging.{Grows-self, Grows-then}
 use Rattle.zset_core.proofs.Bags.{Notes-then, Notes-more}
 use Rattle.zset_core.proofs.Naming.{mentions_step}
 use Rattle.zset_core.proofs.set.draft.Draft.stage_all.Goals as goal
+
+none_left : (ss : List ℤ) (ws : List (List ℕ)) (i : ℕ) → length ss ≤ i → scored (drop i ss) ws ≡ []
+none_left [] ws zero h = refl
+none_left [] ws (suc i) h = refl
+none_left (s ∷ ss) ws zero h = absurd (omega (arith, h))
+none_left (s ∷ ss) ws (suc i) h = none_left ss ws i (omega (arith, h))
+
+count_ended : (flags : Flags) (changed : Bool) (m : Members) (ps : List (ℤ × List ℕ)) (n all : ℕ) → ps ≡ [] → n + count_all flags changed m ps ≡ all → n ≡ all
+count_ended flags changed m ps n all none is = omega (arith, ap (λ (rest : List (ℤ × List ℕ)). count_all flags changed m rest) none, is)
+
+names_ended : (flags : Flags) (m : Members) (ps : List (ℤ × List ℕ)) (names all : List (List ℕ)) → ps ≡ [] → names ++ mentions flags m ps ≡ all → names ≡ all
+names_ended flags m ps names all none is =
+    sym (append-nil names) ∙ ap (λ (rest : List (ℤ × List ℕ)). names ++ mentions flags m rest) (sym none) ∙ is
 
 pub loop-index-init : goal.loop-index-init
 loop-index-init g c = record {
@@ -61,3 +76,47 @@ returns-clause-edits g c =
     let old = members_by staged_score c.args.members.now.entries in
     let written = count_all c.args.flags true old (scored c.args.pairs.now.scores.now c.args.pairs.now.arguments.now) in
     Notes-more noted.0 written old (members_by staged_score c.loop-index.members.entries) c.args.self.now.edits c.loop-index.self.edits (omega (arith, noted.2)) noted.1
+
+pub returns-clause-count : goal.returns-clause-count
+returns-clause-count g c =
+    count_ended c.args.flags c.args.changed (members_by staged_score c.loop-index.members.entries) _ c.loop-index.count _
+    (none_left c.args.pairs.now.scores.now (drop (2 * c.loop-index.index) c.args.pairs.now.arguments.now) c.loop-index.index c.loop-index-test.false) c.loop-index.invariant.count
+
+pub returns-clause-staged : goal.returns-clause-staged
+returns-clause-staged g c =
+    let m = members_by staged_score c.loop-index.members.entries in
+    let none = none_left c.args.pairs.now.scores.now (drop (2 * c.loop-index.index) c.args.pairs.now.arguments.now) c.loop-index.index c.loop-index-test.false in
+    ap (λ (rest : List (ℤ × List ℕ)). put_all c.args.flags m rest) (sym none) ∙ c.loop-index.invariant.staged
+
+pub returns-clause-named : goal.returns-clause-named
+returns-clause-named g c =
+    names_ended c.args.flags (members_by staged_score c.loop-index.members.entries) _ (names_at c.loop-index.members.entries (noted_places c.loop-index.self)) _
+    (none_left c.args.pairs.now.scores.now (drop (2 * c.loop-index.index) c.args.pairs.now.arguments.now) c.loop-index.index c.loop-index-test.false) c.loop-index.invariant.named
+
+pub returns-clause-grows : goal.returns-clause-grows
+returns-clause-grows g c = c.loop-index.invariant.grows
+
+pub returns-clause-waiting : goal.returns-clause-waiting
+returns-clause-waiting g c = c.loop-index.invariant.waiting
+
+pub returns-clause-kept : goal.returns-clause-kept
+returns-clause-kept g c = c.loop-index.invariant.kept
+
+pub returns-clause-led : goal.returns-clause-led
+returns-clause-led g c = c.loop-index.invariant.led
+
+pub returns-in_err-what-clause-waiting : goal.returns-in_err-what-clause-waiting
+returns-in_err-what-clause-waiting g c = c.stage_one.ensures.waiting
+
+pub returns-in_err-what-clause-grows : goal.returns-in_err-what-clause-grows
+returns-in_err-what-clause-grows g c =
+    Grows-then c.args.members.now.entries c.loop-index.members.entries c.stage_one.new.members.entries c.loop-index.invariant.grows c.stage_one.ensures.grows
+
+pub returns-in_err-what-clause-kept : goal.returns-in_err-what-clause-kept
+returns-in_err-what-clause-kept g c = c.stage_one.ensures.kept ∙ c.loop-index.invariant.kept
+
+pub stage_one-requires-clause-waiting : goal.stage_one-requires-clause-waiting
+stage_one-requires-clause-waiting g c = c.loop-index.invariant.waiting
+
+pub stage_one-requires-clause-led : goal.stage_one-requires-clause-led
+stage_one-requires-clause-led g c = c.loop-index.invariant.led

@@ -1,4 +1,4 @@
-use Rattle.std.proofs.Common.{◌≡◌, ◌+◌, length, None, true, ◌∙◌, if◌then◌else◌, ◌∷◌, Some, Option, ◌++◌, [], refl, sym, ap, subst, rules, ℤ, ℕ, List, SFits, w64, to_z, of_z, to_z-of_z}
+use Rattle.std.proofs.Common.{◌≡◌, ◌+◌, length, None, true, ◌∙◌, if◌then◌else◌, ◌∷◌, Some, Option, ◌++◌, [], refl, sym, ap, subst, rules, arith, ℤ, ℕ, List, SFits, w64, to_z, of_z, to_z-of_z}
 use Rattle.zset_core.specs.RowEdits.{Notes}
 use Rattle.zset_core.specs.MembersWithStagedScores.{staged_score, members_by, name_at, names_at, IsWaiting}
 use Rattle.zset_core.specs.NamesTouchedByPlan.{IsLed, noted_places}
@@ -10,7 +10,7 @@ use Rattle.zset_core.proofs.Gathering.{name_here}
 use Rattle.zset_core.proofs.Gathered.{IsLed-noted, noted_more, noted_within}
 use Rattle.zset_core.proofs.Effects.{names_at-push}
 use Rattle.zset_core.proofs.Naming.{place_within, names_where, mention_new, mention_there}
-use Rattle.zset_core.proofs.Staging.{IsWaiting-more}
+use Rattle.zset_core.proofs.Staging.{Grows-self, IsWaiting-more}
 use Rattle.zset_core.proofs.set.draft.Draft.stage_one.Goals as goal
 
 pub returns-in_ok-note_new-in-None-clause-edits : goal.returns-in_ok-note_new-in-None-clause-edits
@@ -110,3 +110,117 @@ returns-in_ok-push-in-Some-clause-named g c =
 pub returns-in_ok-push-in-Some-clause-led : goal.returns-in_ok-push-in-Some-clause-led
 returns-in_ok-push-in-Some-clause-led g c =
     IsLed-noted c.args.self.now _ c.in-Some.place (length c.args.members.now.entries) (length c.args.members.now.entries) refl refl c.in_ok-push-in-Some.ensures.items refl c.requires.led
+
+pub returns-in_ok-note_new-in-None-clause-outcome : goal.returns-in_ok-note_new-in-None-clause-outcome
+returns-in_ok-note_new-in-None-clause-outcome g c = c.of-what.ensures ∙ ap (λ (o : Option ℤ). outcome_of c.args.flags o c.args.score) c.in-None.ensures.score
+
+pub returns-else-eq-clause-outcome : goal.returns-else-eq-clause-outcome
+returns-else-eq-clause-outcome g c = c.of-what.ensures ∙ ap (λ (o : Option ℤ). outcome_of c.args.flags o c.args.score) c.in-None.ensures.score
+
+pub returns-in_ok-note_new-in-None-clause-staged : goal.returns-in_ok-note_new-in-None-clause-staged
+returns-in_ok-note_new-in-None-clause-staged g c =
+    let old = members_by staged_score c.args.members.now.entries in
+    let f : SFits w64 c.args.score = search rules in
+    let here : writes (outcome_of c.args.flags None c.args.score) ≡ true = search rules in
+    let wrote : writes (outcome_of c.args.flags (map.get old c.args.member.now) c.args.score) ≡ true = ap (λ (o : Option ℤ). writes (outcome_of c.args.flags o c.args.score)) (sym c.in-None.ensures.score) ∙ here in
+    c.in_ok-name-in-None.ensures.staged ∙ ap (λ (z : ℤ). map.insert old c.args.member.now z) (to_z-of_z f) ∙ sym (ap (λ b. if b then map.insert old c.args.member.now c.args.score else old) wrote)
+
+pub returns-in_ok-note_new-in-None-clause-grows : goal.returns-in_ok-note_new-in-None-clause-grows
+returns-in_ok-note_new-in-None-clause-grows g c = c.put_new.ensures.grows
+
+pub returns-in_err-name-in-None-clause-grows : goal.returns-in_err-name-in-None-clause-grows
+returns-in_err-name-in-None-clause-grows g c = c.put_new.ensures.grows
+
+pub returns-in_err-add-in-None-clause-grows : goal.returns-in_err-add-in-None-clause-grows
+returns-in_err-add-in-None-clause-grows g c = c.put_new.ensures.grows
+
+pub returns-in_err-note_new-in-None-clause-grows : goal.returns-in_err-note_new-in-None-clause-grows
+returns-in_err-note_new-in-None-clause-grows g c = c.put_new.ensures.grows
+
+pub returns-in_err-name-in-None-clause-waiting : goal.returns-in_err-name-in-None-clause-waiting
+returns-in_err-name-in-None-clause-waiting g c = c.put_new.ensures.waiting c.args.self.now.touched.items c.requires.waiting
+
+pub returns-in_err-add-in-None-clause-waiting : goal.returns-in_err-add-in-None-clause-waiting
+returns-in_err-add-in-None-clause-waiting g c = c.put_new.ensures.waiting c.args.self.now.touched.items c.requires.waiting
+
+pub returns-in_ok-note_new-in-None-clause-waiting : goal.returns-in_ok-note_new-in-None-clause-waiting
+returns-in_ok-note_new-in-None-clause-waiting g c =
+    c.note_new.ensures.waiting c.put_new.new.members.entries (omega (arith, c.len-place.ensures.len, c.in_ok-name-in-None.ensures.longer)) (c.put_new.ensures.waiting c.args.self.now.touched.items c.requires.waiting)
+
+pub returns-in_ok-note_new-in-None-clause-kept : goal.returns-in_ok-note_new-in-None-clause-kept
+returns-in_ok-note_new-in-None-clause-kept g c = c.note_new.ensures.kept
+
+pub returns-in_err-note_new-in-None-clause-waiting : goal.returns-in_err-note_new-in-None-clause-waiting
+returns-in_err-note_new-in-None-clause-waiting g c =
+    c.note_new.ensures.waiting c.put_new.new.members.entries (omega (arith, c.len-place.ensures.len, c.in_ok-name-in-None.ensures.longer)) (c.put_new.ensures.waiting c.args.self.now.touched.items c.requires.waiting)
+
+pub returns-in_err-note_new-in-None-clause-kept : goal.returns-in_err-note_new-in-None-clause-kept
+returns-in_err-note_new-in-None-clause-kept g c = c.note_new.ensures.kept
+
+pub returns-in_ok-add-in-Some-clause-outcome : goal.returns-in_ok-add-in-Some-clause-outcome
+returns-in_ok-add-in-Some-clause-outcome g c =
+    let f : SFits w64 c.in-Some.slot.staged = search rules in
+    let fits : SFits w64 c.args.score = search rules in
+    c.of-what-in-Some.ensures ∙ ap (λ (z : ℤ). outcome_of c.args.flags (Some z) (to_z w64 (of_z w64 c.args.score))) (to_z-of_z f)
+    ∙ ap (λ (z : ℤ). outcome_of c.args.flags (Some c.in-Some.slot.staged) z) (to_z-of_z fits) ∙ ap (λ (o : Option ℤ). outcome_of c.args.flags o c.args.score) c.in-Some.ensures.score
+
+pub returns-in_ok-push-in-Some-clause-outcome : goal.returns-in_ok-push-in-Some-clause-outcome
+returns-in_ok-push-in-Some-clause-outcome g c =
+    let f : SFits w64 c.in-Some.slot.staged = search rules in
+    let fits : SFits w64 c.args.score = search rules in
+    c.of-what-in-Some.ensures ∙ ap (λ (z : ℤ). outcome_of c.args.flags (Some z) (to_z w64 (of_z w64 c.args.score))) (to_z-of_z f)
+    ∙ ap (λ (z : ℤ). outcome_of c.args.flags (Some c.in-Some.slot.staged) z) (to_z-of_z fits) ∙ ap (λ (o : Option ℤ). outcome_of c.args.flags o c.args.score) c.in-Some.ensures.score
+
+pub returns-in_ok-add-in-Some-clause-grows : goal.returns-in_ok-add-in-Some-clause-grows
+returns-in_ok-add-in-Some-clause-grows g c = c.put_staged.ensures.grows
+
+pub returns-in_ok-add-in-Some-clause-waiting : goal.returns-in_ok-add-in-Some-clause-waiting
+returns-in_ok-add-in-Some-clause-waiting g c = c.put_staged.ensures.waiting
+
+pub returns-in_err-put_staged-in-Some-clause-grows : goal.returns-in_err-put_staged-in-Some-clause-grows
+returns-in_err-put_staged-in-Some-clause-grows g c = c.put_staged.ensures.grows
+
+pub returns-in_err-put_staged-in-Some-clause-waiting : goal.returns-in_err-put_staged-in-Some-clause-waiting
+returns-in_err-put_staged-in-Some-clause-waiting g c = c.put_staged.ensures.waiting
+
+pub returns-in_err-take-in-Some-clause-grows : goal.returns-in_err-take-in-Some-clause-grows
+returns-in_err-take-in-Some-clause-grows g c = c.put_staged.ensures.grows
+
+pub returns-in_err-take-in-Some-clause-waiting : goal.returns-in_err-take-in-Some-clause-waiting
+returns-in_err-take-in-Some-clause-waiting g c = c.put_staged.ensures.waiting
+
+pub returns-in_err-add-in-Some-clause-grows : goal.returns-in_err-add-in-Some-clause-grows
+returns-in_err-add-in-Some-clause-grows g c = c.put_staged.ensures.grows
+
+pub returns-in_err-add-in-Some-clause-waiting : goal.returns-in_err-add-in-Some-clause-waiting
+returns-in_err-add-in-Some-clause-waiting g c = c.put_staged.ensures.waiting
+
+pub returns-in_err-before-in-Some-clause-grows : goal.returns-in_err-before-in-Some-clause-grows
+returns-in_err-before-in-Some-clause-grows g c = Grows-self c.args.members.now.entries
+
+pub returns-in_err-after-in-Some-clause-grows : goal.returns-in_err-after-in-Some-clause-grows
+returns-in_err-after-in-Some-clause-grows g c = Grows-self c.args.members.now.entries
+
+pub returns-in_ok-push-in-Some-clause-grows : goal.returns-in_ok-push-in-Some-clause-grows
+returns-in_ok-push-in-Some-clause-grows g c = Grows-self c.args.members.now.entries
+
+pub returns-else-eq-clause-grows : goal.returns-else-eq-clause-grows
+returns-else-eq-clause-grows g c = Grows-self c.args.members.now.entries
+
+pub returns-in_err-push-in-Some-clause-grows : goal.returns-in_err-push-in-Some-clause-grows
+returns-in_err-push-in-Some-clause-grows g c = Grows-self c.args.members.now.entries
+
+pub returns-in_err-before-in-Some-clause-waiting : goal.returns-in_err-before-in-Some-clause-waiting
+returns-in_err-before-in-Some-clause-waiting g c = c.requires.waiting
+
+pub returns-in_err-after-in-Some-clause-waiting : goal.returns-in_err-after-in-Some-clause-waiting
+returns-in_err-after-in-Some-clause-waiting g c = c.requires.waiting
+
+pub returns-else-eq-clause-waiting : goal.returns-else-eq-clause-waiting
+returns-else-eq-clause-waiting g c = c.requires.waiting
+
+pub returns-else-eq-clause-led : goal.returns-else-eq-clause-led
+returns-else-eq-clause-led g c = c.requires.led
+
+pub put_staged-requires-clause-waiting : goal.put_staged-requires-clause-waiting
+put_staged-requires-clause-waiting g c = c.requires.waiting
