@@ -1,13 +1,15 @@
 """A part of serve_test: many clients at once, well-behaved and not, and how a server stops accepting."""
 import resource
+import select
 import selectors
+import signal
 import socket
 import threading
 import time
 from contextlib import ExitStack, contextmanager
 
 from harness import SECONDS, read, same, test
-from tcp import Server, request, soon, totals, traced
+from tcp import Server, flat, request, soon, totals, traced
 
 PONG = b"+PONG\r\n"
 CLIENTS = 1_000
@@ -236,6 +238,31 @@ def those_that_only_connect_cost_nothing():
             server.connect().close()
         same([client.ask("PING") for client in idle], [PONG] * 40)
         same(server.connect().ask("PING"), PONG)
+
+
+def answered_before(server, quiet, busy, data, reply):
+    """How many busy clients, whose requests are there first, are sent replies before a quiet one has its own."""
+    server.process.send_signal(signal.SIGSTOP)
+    for client in busy:
+        client.send(data)
+    quiet.send(request("PING"))
+    server.process.send_signal(signal.SIGCONT)
+    same(quiet.reply(), PONG)
+    answered = len(select.select([client.socket for client in busy], [], [], 0)[0])
+    same([client.file.read(len(reply)) == reply for client in busy], [True] * len(busy))
+    return answered
+
+
+@test
+def a_quiet_client_does_not_wait_for_each_busy_one():
+    members = [b"m%d" % number for number in range(100, 200)]
+    listing = flat([b"$4\r\n%s\r\n" % member for member in members])
+    with Server("--workers", 1) as server, connected(server, 41) as clients:
+        quiet, *busy = clients
+        same(quiet.ask("ZADD", "k", *(word for member in members for word in (1, member))), b":100\r\n")
+        # the first time nobody is known to be busy
+        answered = [answered_before(server, quiet, busy, request("ZRANGEBYSCORE", "k", 1, 1) * 40, listing * 40) for _ in range(6)]
+        same(min(answered) < 10, True)
 
 
 @test

@@ -134,19 +134,21 @@ fn replace_by_draft<R: Files>(rt: &R, names: DraftPaths<'_>) -> Result<(), FileF
 }
 
 /// Writes the header and the records of the owner's sets into a draft, and syncs it, or takes it
-/// away.
+/// away. With the draft comes the number of the records.
 fn fill_draft<R: Files, H: BuildHasher + Clone + Drop, A: Allocator + Copy>(
     rt: &R,
     alloc: A,
     draft: &str,
+    file: R::File,
     owner: &OneOwner<H, A>,
-    sink: &mut FileSink<R::File>,
-) -> Result<u64, NewFileFault>
+) -> Result<(FileSink<R::File>, u64), NewFileFault>
     requires { owner.now.next ≡ None }
-    ensures { IfOk result (λ n. n ≡ min (length (dump owner.now.world)) (2 ^ 64 - 1)) }
+    ensures { IfOk result
+        (λ filled. filled.1 ≡ min (length (dump owner.now.world)) (2 ^ 64 - 1)) }
 {
-    match rewrite(alloc, owner, sink) {
-        Ok(records) => Ok(records),
+    let mut sink = FileSink::new(file);
+    match rewrite(alloc, owner, &mut sink) {
+        Ok(records) => Ok((sink, records)),
         Err(fault) => {
             let _gone = fs::remove_file(rt, draft);
             Err(NewFileFault::Rewrite(fault))
@@ -160,6 +162,16 @@ fn draft_of<A: Allocator>(alloc: A, path: &str) -> Result<String<A>, NewFileFaul
         Ok(draft) => Ok(draft),
         Err(_) => Err(NewFileFault::Rewrite(RewriteFault::NoMemory)),
     }
+}
+
+/// Makes a draft with the permissions of the file whose place it is to take.
+fn make_draft_like<R: Files>(rt: &R, draft: &str, old: &R::File) -> Result<R::File, FileFault>
+where
+    R::File: LockFile,
+{
+    let file = make_draft(rt, draft)?;
+    take_permissions(rt, &file, old, draft)?;
+    Ok(file)
 }
 
 /// Makes a new append file with the records of an owner's sets, and gives their number, which stays
@@ -185,12 +197,13 @@ where
     ensures { IfOk result (λ n. n ≡ min (length (dump owner.now.world)) (2 ^ 64 - 1)) }
 {
     let draft = draft_of(alloc, path)?;
+    let file = make_draft(rt, draft.as_str())?;
+    // The lock is held until the draft has its name.
+    let (_sink, records) = fill_draft(rt, alloc, draft.as_str(), file, owner)?;
     let names = DraftPaths {
         draft: draft.as_str(),
         path,
     };
-    let mut sink = FileSink::new(make_draft(rt, names.draft)?);
-    let records = fill_draft(rt, alloc, names.draft, owner, &mut sink)?;
     name_draft(rt, names)?;
     Ok(records)
 }
@@ -220,14 +233,12 @@ where
     requires { owner.now.next ≡ None }
 {
     let draft = draft_of(alloc, path)?;
+    let file = make_draft_like(rt, draft.as_str(), old)?;
+    let (sink, _records) = fill_draft(rt, alloc, draft.as_str(), file, owner)?;
     let names = DraftPaths {
         draft: draft.as_str(),
         path,
     };
-    let file = make_draft(rt, names.draft)?;
-    take_permissions(rt, &file, old, names.draft)?;
-    let mut sink = FileSink::new(file);
-    let _records = fill_draft(rt, alloc, names.draft, owner, &mut sink)?;
     replace_by_draft(rt, names)?;
     Ok(sink.into_file())
 }

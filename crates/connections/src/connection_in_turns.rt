@@ -137,6 +137,13 @@ impl<S: PolledSource, D: PolledDrain, A: Allocator + Copy> Visit<S, D, A> {
         moved
     }
 
+    /// How many requests were run since it began.
+    pub fn requests(&self) -> u64
+        ensures requests { result ≡ self.now.session.progress.requests }
+    {
+        self.session.progress.requests
+    }
+
     /// Sends what is held. None where the drain failed.
     fn send(&mut self) -> Option<bool>
         ensures same { (visit_state self.new.stage (S.told self.new.source)

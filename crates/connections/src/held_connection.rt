@@ -15,6 +15,9 @@ use std::alloc::Allocator;
 use std::marker::Model;
 use std::time::{Clock, Duration, Instant};
 
+/// A connection of which more requests were run in a turn is busy: quiet ones come before it.
+const QUIET_REQUESTS: u64 = 4;
+
 /// When connections have their turns.
 #[derive(Drop)]
 pub struct Moment<'c, C> {
@@ -35,6 +38,8 @@ pub struct Held<S: PolledSource, D: PolledDrain, A: Allocator> {
     moved: Option<Instant>,
     /// In its last turn no byte came or went.
     is_still: bool,
+    /// In its last turn more than [`QUIET_REQUESTS`] were run.
+    is_busy: bool,
 }
 
 /// Seen as its visit shows itself, with what its replies wait for and what left.
@@ -70,6 +75,7 @@ impl<S: PolledSource, D: PolledDrain, A: Allocator + Copy> Held<S, D, A> {
             silence,
             moved,
             is_still: true,
+            is_busy: false,
         }
     }
 
@@ -98,6 +104,11 @@ impl<S: PolledSource, D: PolledDrain, A: Allocator + Copy> Held<S, D, A> {
             (Some(silence), Some(moved)) if !self.is_queued => now.duration_since(moved) >= silence,
             _ => false,
         }
+    }
+
+    /// Whether many requests were run in its last turn.
+    pub fn is_busy(&self) -> bool {
+        self.is_busy
     }
 
     /// Whether no byte came or went in its last turn.
@@ -148,7 +159,9 @@ impl<S: PolledSource, D: PolledDrain, A: Allocator + Copy> Held<S, D, A> {
         ensures waits { result ≡ Settles → settled < self.new.awaited }
         ensures held { settled < self.old.awaited → self.new ≡ self.old }
     {
+        let before = self.visit.requests();
         let next = self.visit.turn(rt, moment.clock, buffers, exec, settled);
+        self.is_busy = self.visit.requests().wrapping_sub(before) > QUIET_REQUESTS;
         self.note_moved(moment.now);
         next
     }

@@ -32,9 +32,10 @@ pub struct Connections<S: PolledSource, D: PolledDrain, A: Allocator> {
     alloc: A,
     watch: Watch<A>,
     slots: Slots<Box<Held<S, D, A>, A>, A>,
-    /// The places of those that waited and have become ready, each once.
+    /// The places of quiet ones that waited and have become ready, each once.
     woken: Vec<usize, A>,
-    /// The places of those that can go on behind their last turn, each once.
+    /// The places of those that can go on behind their last turn, and of busy ones that waited and have become ready,
+    /// each once.
     ready: Vec<usize, A>,
     /// Those whose turn it is.
     round: Vec<usize, A>,
@@ -163,7 +164,8 @@ impl<S: PolledSource + Watched + Drop, D: PolledDrain + Drop, A: Allocator + Cop
             return;
         };
         held.note(is_closed);
-        let is_queued = queue(&mut self.woken, place, held.is_queued());
+        let (is_busy, is_queued) = (held.is_busy(), held.is_queued());
+        let is_queued = queue(&mut self.woken, &mut self.ready, place, is_busy, is_queued);
         held.set_queued(is_queued);
         self.slots.put_back(place, held);
     }
@@ -221,7 +223,7 @@ impl<S: PolledSource + Watched + Drop, D: PolledDrain + Drop, A: Allocator + Cop
         }
     }
 
-    /// A turn for each that waited and has become ready.
+    /// A turn for each quiet one that waited and has become ready.
     fn serve_woken<R, C: Clock, E: Exec<R, A>>(
         &mut self,
         rt: &R,
@@ -239,8 +241,8 @@ impl<S: PolledSource + Watched + Drop, D: PolledDrain + Drop, A: Allocator + Cop
         self.woken = woken;
     }
 
-    /// A turn for each that can go on. Before each of them those come that have become ready meanwhile, so that a
-    /// quiet client does not wait for all busy ones.
+    /// A turn for each that can go on, or is busy. Before each of them the quiet ones come that have become ready
+    /// meanwhile, so that a quiet client does not wait for all busy ones.
     fn serve_ready<R, C: Clock, E: Exec<R, A>>(
         &mut self,
         rt: &R,

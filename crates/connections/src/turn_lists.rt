@@ -25,9 +25,20 @@ pub fn begin<A: Allocator + Copy>(
     }
 }
 
-/// Puts a place behind those that have become ready, where it is not queued. Whether it is now.
-pub fn queue<A: Allocator>(woken: &mut Vec<usize, A>, place: usize, is_queued: bool) -> bool {
-    is_queued || woken.push(place).is_ok()
+/// Puts the place of a connection that has become ready behind those of the quiet or of the busy ones, where it is not
+/// queued. Whether it is now.
+pub fn queue<A: Allocator>(
+    quiet: &mut Vec<usize, A>,
+    busy: &mut Vec<usize, A>,
+    place: usize,
+    is_busy: bool,
+    is_queued: bool,
+) -> bool {
+    if is_queued {
+        return true;
+    }
+    let list = if is_busy { busy } else { quiet };
+    list.push(place).is_ok()
 }
 
 /// What becomes of a connection after its turn: whether it is among those that are ready again, or that wait for

@@ -64,6 +64,7 @@ impl<S: ByteSource> FuseSource<S> {
     /// Its call number `fails_at`, counted from 1, will fail; at 0 none.
     pub fn new(inner: S, fails_at: u64) -> Self
         ensures told { ⟦<FuseSource<S> as ByteSource>⟧.told result ≡ S.told inner }
+        ensures fuse { result.fuse ≡ record { fails_at = fails_at; count = record { calls = 0; failures = 0 } } }
         ensures calls { ⟦<FuseSource<S> as ByteSource>⟧.calls result ≡ 0 }
         ensures failures { ⟦<FuseSource<S> as ByteSource>⟧.failures result ≡ 0 }
     {
@@ -113,6 +114,7 @@ impl<D: ByteDrain> FuseDrain<D> {
     pub fn new(inner: D, fails_at: u64) -> Self
         ensures told { ⟦<FuseDrain<D> as ByteDrain>⟧.told result ≡ D.told inner }
         ensures flushed { ⟦<FuseDrain<D> as ByteDrain>⟧.flushed result ≡ D.flushed inner }
+        ensures fuse { result.fuse ≡ record { fails_at = fails_at; count = record { calls = 0; failures = 0 } } }
         ensures calls { ⟦<FuseDrain<D> as ByteDrain>⟧.calls result ≡ 0 }
         ensures failures { ⟦<FuseDrain<D> as ByteDrain>⟧.failures result ≡ 0 }
     {

@@ -6,4 +6,4 @@ mod inline;
 mod short_bytes;
 
 pub use inline::{IN_PLACE, Inline};
-pub use short_bytes::ShortBytes;
+pub use short_bytes::{BorrowedBytes, ShortBytes};

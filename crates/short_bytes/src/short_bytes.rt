@@ -1,11 +1,9 @@
 //! Byte strings.
 
-ghost use Rattle.std.specs.Prelude.{◌≡◌, ◌≤◌, [], length, nat_eq, IfOk, IsOk};
+ghost use Rattle.std.specs.Prelude.{◌≡◌, ◌≤◌, ℕ, List, [], ◌∷◌, length, nat_eq, IfOk, IsOk};
 ghost use Rattle.std.specs.Cmp.{partial_equiv_from_equiv};
-ghost use Rattle.std.specs.Cmp.Lexicographic.{pointwise, nat_list_eq_equiv};
-ghost use Rattle.std.specs.Cmp.Rules.{hashing};
-ghost use Rattle.std.specs.Hash as fed;
-ghost use Rattle.std.proofs.Common.{rules};
+ghost use Rattle.std.specs.Cmp.Lexicographic.{bytes_decides, pointwise, nat_list_eq_equiv};
+ghost use Rattle.std.proofs.Common.{ap};
 
 use crate::inline::{IN_PLACE, Inline};
 use indexmap::Equivalent;
@@ -125,25 +123,39 @@ impl<A: Allocator> Eq for ShortBytes<A> {
     ghost laws = { nat_list_eq_equiv };
 }
 
+/// A hasher is fed all bytes at once: element by element, as it is fed a slice, takes several times as long.
 impl<A: Allocator> Hash for ShortBytes<A> {
-    ghost hash_input = { fed.slice fed.u8 };
+    ghost hash_input = { λ b. b ∷ [] };
 
-    ghost respects_eq = { Prim.search (hashing, rules) };
+    ghost respects_eq = { λ x y h. ap (λ (bytes : List ℕ). bytes ∷ []) ((bytes_decides x y).0 h) };
 
     fn hash<H: Hasher>(&self, state: &mut H) {
-        self.as_slice().hash(state);
+        state.write(self.as_slice());
     }
 }
 
-/// A map by byte strings is asked by a slice.
-impl<A: Allocator> Equivalent<ShortBytes<A>> for &[u8] {
-    ghost equivalent = { λ q k. pointwise nat_eq q.now k };
+/// Bytes that stand elsewhere, by which a map by byte strings is asked: they are compared and hashed as a byte string is.
+#[derive(Clone, Copy, PartialEq, Eq)]
+pub struct BorrowedBytes<'a>(pub &'a [u8]);
 
-    ghost respects_hash = { λ q k. Prim.search (hashing, rules) };
+impl<'a> Hash for BorrowedBytes<'a> {
+    ghost hash_input = { λ b. b.0.now ∷ [] };
 
-    ghost respects_eq = { λ q x y. nat_list_eq_equiv.congr q.now x y };
+    ghost respects_eq = { λ x y h. ap (λ (bytes : List ℕ). bytes ∷ []) ((bytes_decides x.0.now y.0.now).0 h) };
+
+    fn hash<H: Hasher>(&self, state: &mut H) {
+        state.write(self.0);
+    }
+}
+
+impl<'a, A: Allocator> Equivalent<ShortBytes<A>> for BorrowedBytes<'a> {
+    ghost equivalent = { λ q k. pointwise nat_eq q.0.now k };
+
+    ghost respects_hash = { λ q k h. ap (λ (bytes : List ℕ). bytes ∷ []) ((bytes_decides q.0.now k).0 h) };
+
+    ghost respects_eq = { λ q x y. nat_list_eq_equiv.congr q.0.now x y };
 
     fn equivalent(&self, key: &ShortBytes<A>) -> bool {
-        *self == key.as_slice()
+        self.0 == key.as_slice()
     }
 }

@@ -39,6 +39,7 @@ use crate::set::plan::{Plan, make_plan};
 use indexmap::IndexMap;
 use resp_wire::Reply;
 use ripple_column::Column;
+use short_bytes::BorrowedBytes;
 use std::alloc::{AllocError, Allocator};
 use std::hash::BuildHasher;
 use std::marker::Model;
@@ -263,7 +264,7 @@ fn score_before<H: BuildHasher, A: Allocator + Copy>(
 ) -> Option<i64>
     ensures { result ≡ option_map current_score (slot_at (take kept members.now.entries) member.now) }
 {
-    match members.get_full(member) {
+    match members.get_full(BorrowedBytes(member)) {
         None => None,
         Some((place, _, slot)) => {
             if place < kept {

@@ -10,7 +10,7 @@ ghost use Rattle.zset_core.specs.Semantics.{remove_all};
 
 use crack_kernel::Row;
 use indexmap::IndexMap;
-use short_bytes::ShortBytes;
+use short_bytes::{BorrowedBytes, ShortBytes};
 use std::alloc::{AllocError, Allocator};
 use std::hash::BuildHasher;
 
@@ -37,7 +37,7 @@ pub fn find_slot<H: BuildHasher, A: Allocator + Copy>(
     ensures unique { IsUnique same_bytes members.now }
 {
     let _count = members.len();
-    match members.get_full(member) {
+    match members.get_full(BorrowedBytes(member)) {
         None => None,
         Some((place, _, slot)) => Some((place, *slot)),
     }
@@ -73,7 +73,7 @@ pub fn score_of<H: BuildHasher, A: Allocator + Copy>(
 ) -> Option<i64>
     ensures { result ≡ map.get (members_by current_score members.now.entries) member.now }
 {
-    match members.get(member) {
+    match members.get(BorrowedBytes(member)) {
         None => None,
         Some(slot) => Some(slot.current),
     }
@@ -126,6 +126,6 @@ pub fn take_out_rows<H: BuildHasher, A: Allocator + Copy>(
     ensures settled { ScoresAreSettled members.new.entries }
 {
     for row in rows {
-        members.swap_remove(row.member());
+        members.swap_remove(BorrowedBytes(row.member()));
     }
 }
