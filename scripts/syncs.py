@@ -45,12 +45,25 @@ def trace():
     return read("trace").decode(errors="replace").splitlines()
 
 
+def whole_calls():
+    """The lines of the trace in the order in which their calls ended: of a call that another thread's line parts in two,
+    what stands before and behind that."""
+    begun = {}
+    for line in trace():
+        thread, _, call = line.partition(" ")
+        if call.endswith("<unfinished ...>"):
+            begun[thread] = line.removesuffix("<unfinished ...>")
+            continue
+        end = re.match(r" *<\.\.\. \w+ resumed>(.*)", call)
+        yield begun.pop(thread) + end[1] if end else line
+
+
 def calls():
     """The calls on the append file and those that send replies, by what they are, in the order in which they ended."""
     found = []
-    for line in trace():
-        call = re.match(r"\d+ +(?:<\.\.\. )?(\w+)", line)
-        if not call or "unfinished" in line:
+    for line in whole_calls():
+        call = re.match(r"\d+ +(\w+)", line)
+        if not call:
             continue
         if call[1] in ("fdatasync", "fsync") and "/kept>" in line:
             found.append("sync" if line.endswith("= 0") else "failed sync")
