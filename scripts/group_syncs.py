@@ -10,7 +10,7 @@ import subprocess
 import threading
 
 from harness import SECONDS, read, run, same, test, write
-from syncs import RECORDS, REPLIES, WRITES, calls, can_trace, trace, traced
+from syncs import RECORDS, REPLIES, WRITES, calls, can_trace, trace, traced, whole_calls
 from tcp import HEADER, Server, flat, read_reply, request, totals
 
 GROUP = ("--file", "kept", "--sync", "group")
@@ -50,11 +50,8 @@ def changes_of_a_client_share_a_sync():
 class Call:
     """A call of the trace: what it is, when it began and ended as numbers of lines, its descriptor, bytes and result."""
 
-    def __init__(self, begun, text):
-        self.begun, self.ended, self.text = begun, begun, text
-
-    def finish(self, ended, text):
-        self.ended, self.text = ended, self.text + text
+    def __init__(self, begun, ended, text):
+        self.begun, self.ended, self.text = begun, ended, text
 
     def peer(self):
         """The port of the peer whose socket it is, None for another file."""
@@ -66,22 +63,6 @@ class Call:
         quoted = "".join(re.findall(r'"((?:[^"\\]|\\.)*)"', self.text))
         taken = int(self.text.rsplit("= ", 1)[1].split()[0])
         return quoted.encode().decode("unicode_escape").encode("latin-1")[: max(taken, 0)]
-
-
-def calls_in_order():
-    """The calls of the trace, in the order in which they ended."""
-    open_calls, found = {}, []
-    for number, line in enumerate(trace()):
-        thread, text = re.match(r"(\d+) +(.*)", line).groups()
-        resumed = re.match(r"<\.\.\. \w+ resumed>(.*)", text)
-        if resumed:
-            open_calls[thread].finish(number, resumed[1])
-            found.append(open_calls.pop(thread))
-        elif text.endswith("<unfinished ...>"):
-            open_calls[thread] = Call(number, text.removesuffix("<unfinished ...>"))
-        elif re.match(r"\w+\(", text):
-            found.append(Call(number, text))
-    return found
 
 
 def is_on_file(call, *names):
@@ -157,7 +138,7 @@ def no_reply_leaves_before_what_it_tells_of_is_synced(workers, keys):
             clients.start(clients.read, random.Random(chance.random()))
         clients.finish()
         same(server.ends()[0], 0)
-    found = calls_in_order()
+    found = [Call(*it) for it in whole_calls()]
     syncs = [call for call in found if is_on_file(call, "fdatasync", "fsync") and call.text.endswith("= 0")]
     written, sent = records_at(found), sent_at(found)
     told = 0

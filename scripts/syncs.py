@@ -46,30 +46,31 @@ def trace():
 
 
 def whole_calls():
-    """The lines of the trace in the order in which their calls ended: of a call that another thread's line parts in two,
-    what stands before and behind that."""
+    """Each call of the trace, in the order in which they ended: the numbers of the lines where it began and ended, and its
+    text. One that another thread's line parts in two is joined."""
     begun = {}
-    for line in trace():
-        thread, _, call = line.partition(" ")
-        if call.endswith("<unfinished ...>"):
-            begun[thread] = line.removesuffix("<unfinished ...>")
-            continue
-        end = re.match(r" *<\.\.\. \w+ resumed>(.*)", call)
-        yield begun.pop(thread) + end[1] if end else line
+    for number, line in enumerate(trace()):
+        thread, text = re.match(r"(\d+) +(.*)", line).groups()
+        resumed = re.match(r"<\.\.\. \w+ resumed>(.*)", text)
+        if resumed:
+            first, part = begun.pop(thread)
+            yield first, number, part + resumed[1]
+        elif text.endswith("<unfinished ...>"):
+            begun[thread] = number, text.removesuffix("<unfinished ...>")
+        elif re.match(r"\w+\(", text):
+            yield number, number, text
 
 
 def calls():
     """The calls on the append file and those that send replies, by what they are, in the order in which they ended."""
     found = []
-    for line in whole_calls():
-        call = re.match(r"\d+ +(\w+)", line)
-        if not call:
-            continue
-        if call[1] in ("fdatasync", "fsync") and "/kept>" in line:
-            found.append("sync" if line.endswith("= 0") else "failed sync")
-        elif call[1] == "write" and "/kept>" in line:
-            found.append("record" if re.search(r"= \d+$", line) else "failed write")
-        elif call[1] in ("write", "sendto", "writev", "sendmsg") and re.search(r'":[01]\\r\\n', line):
+    for _, _, text in whole_calls():
+        name = text.split("(", 1)[0]
+        if name in ("fdatasync", "fsync") and "/kept>" in text:
+            found.append("sync" if text.endswith("= 0") else "failed sync")
+        elif name == "write" and "/kept>" in text:
+            found.append("record" if re.search(r"= \d+$", text) else "failed write")
+        elif name in ("write", "sendto", "writev", "sendmsg") and re.search(r'":[01]\\r\\n', text):
             found.append("reply")
     return found
 
