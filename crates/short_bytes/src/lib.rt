@@ -2,8 +2,10 @@
 //! member once.
 #![tactic(auto)]
 
+mod comparison;
 mod inline;
 mod short_bytes;
 
+pub use comparison::are_same;
 pub use inline::{IN_PLACE, Inline};
 pub use short_bytes::{BorrowedBytes, ShortBytes};

@@ -5,6 +5,7 @@ ghost use Rattle.std.specs.Cmp.{partial_equiv_from_equiv};
 ghost use Rattle.std.specs.Cmp.Lexicographic.{bytes_decides, pointwise, nat_list_eq_equiv};
 ghost use Rattle.std.proofs.Common.{ap};
 
+use crate::comparison::are_same;
 use crate::inline::{IN_PLACE, Inline};
 use indexmap::Equivalent;
 use std::alloc::{AllocError, Allocator};
@@ -115,7 +116,7 @@ impl<A: Allocator> PartialEq for ShortBytes<A> {
     ghost laws = { partial_equiv_from_equiv nat_list_eq_equiv };
 
     fn eq(&self, other: &Self) -> bool {
-        self.as_slice() == other.as_slice()
+        are_same(self.as_slice(), other.as_slice())
     }
 }
 
@@ -156,6 +157,6 @@ impl<'a, A: Allocator> Equivalent<ShortBytes<A>> for BorrowedBytes<'a> {
     ghost respects_eq = { λ q x y. nat_list_eq_equiv.congr q.0.now x y };
 
     fn equivalent(&self, key: &ShortBytes<A>) -> bool {
-        self.0 == key.as_slice()
+        are_same(self.0, key.as_slice())
     }
 }

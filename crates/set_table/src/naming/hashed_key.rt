@@ -3,6 +3,7 @@
 ghost use Rattle.std.specs.Prelude.{◌≡◌, ◌↔◌, ◌<◌, ◌^◌, List, ℕ, IfOk, IsTrue};
 ghost use Rattle.set_table.specs.Naming.{hash_from};
 
+use short_bytes::are_same;
 use std::alloc::{AllocError, Global};
 use std::marker::Model;
 
@@ -41,7 +42,7 @@ impl Name {
     pub(crate) fn is(&self, key: &[u8]) -> bool
         ensures { IsTrue result ↔ (self.now ≡ key.now) }
     {
-        self.bytes.as_slice() == key
+        are_same(self.bytes.as_slice(), key)
     }
 
     /// Its hash as a key.

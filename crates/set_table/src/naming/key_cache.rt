@@ -99,14 +99,26 @@ impl KeyCache {
     }
 }
 
-/// A hash of a key that differs in most bits where keys differ in one byte: FNV-1a, with its bits
-/// mixed at the end.
+/// A hash of a key that differs in most bits where keys differ in one byte. It takes four bytes at a step, since each step
+/// waits for the one before.
 pub(crate) fn mixed_hash(key: &[u8]) -> u32 {
     let mut hash: u32 = 0x811c_9dc5;
-    for byte in key {
-        hash = (hash ^ u32::from(*byte)).wrapping_mul(0x0100_0193);
+    let mut rest = key;
+    while let [a, b, c, d, behind @ ..] = rest {
+        hash = stirred(hash, u32::from_le_bytes([*a, *b, *c, *d]));
+        rest = behind;
+    }
+    for byte in rest {
+        hash = stirred(hash, u32::from(*byte));
     }
     hash = (hash ^ (hash >> 15)).wrapping_mul(0x2c1b_3c6d);
     hash = (hash ^ (hash >> 12)).wrapping_mul(0x297a_2d39);
     hash ^ (hash >> 15)
+}
+
+/// A hash with a few bytes more: as FNV-1a takes them, with the upper bits mixed into the lower ones, which a product
+/// does not do.
+fn stirred(hash: u32, bytes: u32) -> u32 {
+    let product = (hash ^ bytes).wrapping_mul(0x0100_0193);
+    product ^ (product >> 15)
 }

@@ -68,9 +68,22 @@ impl CommandName {
     }
 }
 
-/// Whether an argument is this name, letters in either case.
+/// Whether an argument is this name, letters in either case. Most clients write a name as it is here, so each letter is
+/// compared as it stands first.
 pub fn is_named(name: &[u8], word: &[u8]) -> bool
     ensures { result ≡ is_named name.now word.now }
 {
-    word.eq_ignore_ascii_case(name)
+    if word.len() != name.len() {
+        return word.eq_ignore_ascii_case(name);
+    }
+    let mut letters = name;
+    let mut rest = word;
+    while let ([letter, letters_behind @ ..], [byte, rest_behind @ ..]) = (letters, rest) {
+        if *byte != *letter && !byte.eq_ignore_ascii_case(letter) {
+            return false;
+        }
+        letters = letters_behind;
+        rest = rest_behind;
+    }
+    letters.is_empty() && rest.is_empty()
 }
