@@ -13,10 +13,8 @@ PLACES = 2
 # Connections that are tried in all, since one that finds no memory is dropped and does not count.
 MOST_TRIES = 9
 
-# How a server that wants memory once may end: it went on, or one of these is told.
-ENDS = {
-    (0, b""), (1, b"zcrackd: accept fault\n"), (4, b"zcrackd: out of memory\n"), (4, b"zcrackd: cannot start workers\n"),
-}
+# How a server that wants memory once may end: it went on and served its connections, or it began with none.
+ENDS = {(0, b""), (4, b"zcrackd: out of memory\n"), (4, b"zcrackd: cannot start workers\n")}
 
 # Both keys have a place then, the second by a claim of the running server's, and a third one finds none.
 ASKED = [
@@ -83,16 +81,14 @@ def serve_refused(env, words):
 
 
 def judge_end(worlds, talk, status, out, lines):
-    """Which sets may stand, by how the server ended: where it ended regularly all was answered, but listings where the last
+    """Which sets may stand, by how the server ended: where it served all was answered, but listings where the last
     connection ended too early, and its totals are those of what was answered."""
     same(((status, lines) in ENDS, status, lines), (True, status, lines))
-    if status == 0:
-        same([it for it in talk.left if it not in LISTINGS], [])
     if status == 4:
         same(out, b"")
         return worlds
-    counts = [CONNECTIONS] if status == 0 else range(CONNECTIONS + 1)
-    left = [it for it in worlds if out in [totals(count, *it.numbers()) for count in counts]]
+    same([it for it in talk.left if it not in LISTINGS], [])
+    left = [it for it in worlds if out == totals(CONNECTIONS, *it.numbers())]
     same((out, [it.numbers() for it in worlds] if not left else []), (out, []))
     return left
 

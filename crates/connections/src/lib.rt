@@ -17,12 +17,14 @@ mod many;
 mod replies;
 mod settle_records;
 mod slots;
+mod turn_limits;
 mod turn_lists;
 mod watch;
 
 pub use buffers::Buffers;
-pub use connection_in_turns::{MOST_HELD, MOST_MILLIS, MOST_REQUESTS, Next, Stage, Visit};
+pub use connection_in_turns::{Next, Stage, Visit};
 pub use keep_alive_and_descriptors::{descriptor_limit, keep_alive};
 pub use many::Connections;
 pub use settle_records::{AtOnce, Settle};
+pub use turn_limits::{MOST_HELD, MOST_MILLIS, MOST_REQUESTS};
 pub use watch::{Ringer, Watched};

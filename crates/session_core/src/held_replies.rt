@@ -1,8 +1,8 @@
 //! Replies that are held back until they are let go.
 
-ghost use Rattle.std.specs.Prelude.{◌≡◌, ◌≤◌, ◌⊎◌, [], length, take, OnOk, MatchResult};
+ghost use Rattle.std.specs.Prelude.{◌≡◌, ◌≤◌, ◌<◌, ◌⊎◌, [], length, take, IfOk, OnOk, MatchResult};
 ghost use Rattle.std.specs.Io.KnownBytes.{append_known};
-ghost use Rattle.resp_wire.specs.Device.{Rose};
+ghost use Rattle.resp_wire.specs.Device.{Rose, moved, saturating_succ, failures_after, flushed_after};
 ghost use Rattle.append_log.specs.LogViewAndSteps.{Settles};
 ghost use Rattle.session_core.specs.ExchangesBetweenSyncs.{IsSynced};
 
@@ -141,7 +141,18 @@ impl<D: ByteDrain, A: Allocator> ByteDrain for HeldReplies<D, A> {
     ghost failures = { λ h. h.count.failures };
 
     /// Holds all of the piece. It fails where no memory is left for it, and holds nothing more then.
-    fn write(&mut self, piece: &[u8]) -> Result<usize, Failed> {
+    fn write(&mut self, piece: &[u8]) -> Result<usize, Failed>
+        ensures count { IfOk result (λ n. n ≡ length piece.now) }
+        ensures some { IfOk result (λ n. 0 < length piece.now → 0 < n) }
+        ensures told { ⟦<HeldReplies<D, A> as ByteDrain>⟧.told self.new
+            ≡ append_known (⟦<HeldReplies<D, A> as ByteDrain>⟧.told self.old) (moved result piece.now) }
+        ensures flushed { ⟦<HeldReplies<D, A> as ByteDrain>⟧.flushed self.new
+            ≡ ⟦<HeldReplies<D, A> as ByteDrain>⟧.flushed self.old }
+        ensures calls { self.new.count.calls ≡ saturating_succ self.old.count.calls }
+        ensures failures { self.new.count.failures ≡ failures_after self.old.count.failures result }
+        // Nothing leaves.
+        ensures inner { self.new.inner ≡ self.old.inner }
+    {
         self.count.called();
         match self.held.extend_from_slice(piece) {
             Ok(()) => Ok(piece.len()),
@@ -150,7 +161,18 @@ impl<D: ByteDrain, A: Allocator> ByteDrain for HeldReplies<D, A> {
     }
 
     /// What is held goes on being held.
-    fn flush(&mut self) -> Result<(), Failed> {
+    fn flush(&mut self) -> Result<(), Failed>
+        ensures told { ⟦<HeldReplies<D, A> as ByteDrain>⟧.told self.new
+            ≡ ⟦<HeldReplies<D, A> as ByteDrain>⟧.told self.old }
+        ensures flushed { ⟦<HeldReplies<D, A> as ByteDrain>⟧.flushed self.new
+            ≡ flushed_after (⟦<HeldReplies<D, A> as ByteDrain>⟧.flushed self.old)
+            (⟦<HeldReplies<D, A> as ByteDrain>⟧.told self.old) result }
+        ensures calls { self.new.count.calls ≡ saturating_succ self.old.count.calls }
+        ensures failures { self.new.count.failures ≡ failures_after self.old.count.failures result }
+        // Nothing leaves.
+        ensures inner { self.new.inner ≡ self.old.inner }
+        ensures held { self.new.held ≡ self.old.held }
+    {
         self.count.called();
         self.flushed = self.held.len();
         Ok(())

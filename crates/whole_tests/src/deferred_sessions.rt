@@ -127,7 +127,7 @@ enum Left {
 /// The replies to the changes.
 const REPLIES: &[u8] = b":1\r\n:1\r\n:1\r\n:3\r\n";
 
-const CASES: [(Given, Wanted); 8] = [
+const CASES: [(Given, Wanted); 9] = [
     // records that came at once share a sync; those that come one by one have one each
     (
         (CHANGES, 4096, 0),
@@ -170,6 +170,15 @@ const CASES: [(Given, Wanted); 8] = [
             "the drain failed after 8 bytes",
             Left::Whole(b":1\r\n"),
             [4, 1, 4],
+        ),
+    ),
+    // the reply of 30 bytes that tells a fault is kept back too
+    (
+        (CHANGES_AND_A_FAULT, 4096, 4),
+        (
+            "the drain failed after 46 bytes",
+            Left::Whole(b""),
+            [46, 0, 4],
         ),
     ),
     // a log that could not write a record is not synced: what waits then never leaves

@@ -102,7 +102,7 @@ enum Refusal {
     Broken,
 }
 
-/// For how many milliseconds nobody is accepted once the system had no descriptor or no memory for a socket.
+/// For how many milliseconds nobody is accepted once there was no descriptor or no memory for a socket.
 const PAUSE_MILLIS: u64 = 100;
 
 /// Linux's numbers for want of descriptors (for the system, for this process), of buffers and of
@@ -171,6 +171,11 @@ impl Entrance {
         Ok(Some((Reading::new(source), Writing::new(drain))))
     }
 
+    /// Waits a while, in which a descriptor or memory may become free.
+    fn pause(&self) {
+        thread::sleep(&self.rt, Duration::from_millis(PAUSE_MILLIS));
+    }
+
     /// The next socket. None where the listener is broken or closed.
     fn accept(&mut self) -> Option<TcpStream> {
         for _ in 0..u64::MAX {
@@ -180,7 +185,7 @@ impl Entrance {
                 Err(error) => match refusal_of(&error) {
                     Refusal::NobodyWaits => self.doorway.wait(),
                     Refusal::OneIsGone => {}
-                    Refusal::Want => thread::sleep(&self.rt, Duration::from_millis(PAUSE_MILLIS)),
+                    Refusal::Want => self.pause(),
                     Refusal::Broken => return None,
                 },
             }
@@ -188,13 +193,14 @@ impl Entrance {
         None
     }
 
-    /// The next socket that can be used. None where accepting fails, or there is no memory for it.
+    /// The next socket that can be used; one for which there is no memory is closed. None where accepting fails.
     fn next_connection(&mut self) -> Option<TcpConnection> {
         for _ in 0..u64::MAX {
             let stream = self.accept()?;
             match self.connection(stream) {
+                Ok(Some(connection)) => return Some(connection),
                 Ok(None) => {}
-                made => return made.ok().flatten(),
+                Err(_) => self.pause(),
             }
         }
         None
