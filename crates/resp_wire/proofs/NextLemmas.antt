@@ -11,10 +11,12 @@ use Rattle.resp_wire.specs.declared.decoder_steps.Step.{Step}
 use Rattle.resp_wire.specs.RequestEncoding.{request, line, argument, IsRequest, Item, Ask, SkipZero, SkipMinus, IsSkip, IsItem, encoding_of}
 use Rattle.resp_wire.specs.Parser.{item_at}
 use Rattle.resp_wire.specs.Stream.{requests_among, items, requests, rest, fault, fault_of}
+use Rattle.resp_wire.specs.DecoderFields.{IsSound, wire_of}
+use Rattle.resp_wire.specs.declared.decoder.Decoder.TheInside.{Inside}
 use Rattle.resp_wire.specs.DecoderView.{DecoderView, begun, Gave, Waits, Stops, Nexts}
 use Rattle.resp_wire.specs.DecoderSteps.{Skips, Stepped, Steps, StepEnd}
 use Rattle.resp_wire.specs.declared.decoder_steps.End.{End}
-use Rattle.std.specs.Prelude.{IfNone}
+use Rattle.std.specs.Prelude.{IfNone, IfSome}
 use Rattle.resp_wire.proofs.Items.{item_again}
 use Rattle.resp_wire.proofs.Streams.{split, split_prefix, split_item, split_stop, requests_among_append}
 
@@ -77,6 +79,7 @@ pub record Numbers (start begun_len taken : ℕ) (bytes : List ℕ) (step : Step
   pub within : start + step.used ≤ length bytes
   pub begun_is : (begun_len + step.used) - step.skipped ≡ length (begun step.count after)
   pub room : (taken + step.skipped) + (((begun_len + step.used) - step.skipped) + (length bytes - (start + step.used))) < 2 ^ 64
+  pub order : step.skipped ≤ step.used
 
 pub numbers_after : (start begun_len taken count : ℕ) (before : List (List ℕ)) (bytes : List ℕ) (step : Step) (after : List (List ℕ)) → start ≤ length bytes → begun_len ≡ length (begun count before) → taken + (begun_len + (length bytes - start)) < 2 ^ 64
     → Stepped count before (drop start bytes) step after → Numbers start begun_len taken bytes step after
@@ -89,7 +92,7 @@ numbers_after start begun_len taken count before bytes step after le is room st 
     sym (length-append (begun count before) (drop start bytes)) ∙ ap length st.text.text ∙ length-append prefix (begun step.count after ++ drop step.used (drop start bytes)) ∙ ap (λ (k : ℕ). length prefix + k) (length-append (begun step.count after) (drop step.used (drop start bytes))) in
     let used : step.used ≤ length (drop start bytes) = st.used.1 in
     let order : step.skipped ≤ step.used = st.used.0 in
-    record { within = omega arith; begun_is = omega arith; room = omega arith }
+    record { within = omega arith; begun_is = omega arith; room = omega arith; order = order }
 
 pub skips_at : (x a bytes : List ℕ) (start used k : ℕ) → Skips x (a ++ drop used (drop start bytes)) k → Skips x (a ++ drop (start + used) bytes) k
 skips_at x a bytes start used k s = subst (λ (t : List ℕ). Skips x (a ++ t) k) (drop-drop used start bytes) s
@@ -122,6 +125,39 @@ stepped count before unread bytes same step after end is some h = go end some (s
     go ends.Whole some h = h
     go ends.Memory some h = absurd (some refl)
     go (ends.Stopped stop) some h = h
+
+-- the same of a decoder's fields, after a step over what it had not read
+pub numbers_of : {A : Type 0} (d : Inside A) (unread : List ℕ) → unread ≡ drop d.start d.bytes.items → (step : Step) (after : List (List ℕ)) (end : End) → step.end ≡ end → (end ≡ ends.Memory → ⊥) → Steps d.count d.arguments.items unread step after
+    → IsSound d → Numbers d.start d.begun d.taken d.bytes.items step after
+numbers_of d unread same step after end is some h sound =
+    numbers_after d.start d.begun d.taken d.count d.arguments.items d.bytes.items step after sound.start sound.begun_is sound.room (stepped d.count d.arguments.items unread (drop d.start d.bytes.items) same step after end is some h)
+
+-- what is held and what was taken come to as much after a step as before
+pub whole_count : {A : Type 0} (d : Inside A) (step : Step) (after : List (List ℕ)) (old : DecoderView) → IsSound d → Numbers d.start d.begun d.taken d.bytes.items step after → old ≡ wire_of d
+    → (d.taken + (d.begun + step.used)) + length (drop (d.start + step.used) d.bytes.items) ≡ old.taken + length old.held
+whole_count d step after old sound n o =
+    let before = begun d.count d.arguments.items in
+    let held : length old.held ≡ length before + length (drop d.start d.bytes.items) = ap (λ (w : DecoderView). length w.held) o ∙ length-append before (drop d.start d.bytes.items) in
+    let same : old.taken ≡ d.taken = ap (λ (w : DecoderView). w.taken) o in
+    let left = length-drop d.start d.bytes.items in
+    let last = length-drop (d.start + step.used) d.bytes.items in
+    omega (arith, n.within, sound.begun_is, sound.start)
+
+pub stopped_count : {A : Type 0} (d : Inside A) (step : Step) (after : List (List ℕ)) (old : DecoderView) → IsSound d → Numbers d.start d.begun d.taken d.bytes.items step after → old ≡ wire_of d
+    → (d.taken + step.skipped) + length (begun step.count after ++ drop (d.start + step.used) d.bytes.items) ≡ old.taken + length old.held
+stopped_count d step after old sound n o =
+    let before = begun d.count d.arguments.items in
+    let held : length old.held ≡ length before + length (drop d.start d.bytes.items) = ap (λ (w : DecoderView). length w.held) o ∙ length-append before (drop d.start d.bytes.items) in
+    let same : old.taken ≡ d.taken = ap (λ (w : DecoderView). w.taken) o in
+    let kept = length-append (begun step.count after) (drop (d.start + step.used) d.bytes.items) in
+    let left = length-drop d.start d.bytes.items in
+    let last = length-drop (d.start + step.used) d.bytes.items in
+    omega (arith, n.within, n.begun_is, n.order, sound.begun_is, sound.start)
+
+-- of no fault everything is so
+pub some_at : (P : ProtocolFault → Type 0) (f : Option ProtocolFault) → f ≡ None → IfSome f P
+some_at P None e = tt
+some_at P (Some f) e = absurd cc
 
 pub none_is : {P : Type 0} (f : Option ProtocolFault) → P → IfNone f P
 none_is None p = p

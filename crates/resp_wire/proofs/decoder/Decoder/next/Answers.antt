@@ -1,8 +1,8 @@
-use Rattle.std.proofs.Common.{◌≡◌, ◌+◌, ◌++◌, drop, refl, sym, ap, ◌∙◌, Some}
+use Rattle.std.proofs.Common.{◌≡◌, ◌+◌, ◌++◌, drop, refl, sym, ap, ◌∙◌, Some, arith}
 use Rattle.resp_wire.specs.declared.decoder_steps.End.TheVariants as ends
 use Rattle.resp_wire.specs.declared.fault.Stop.TheVariants as stops
 use Rattle.resp_wire.specs.DecoderView.{DecoderView, begun}
-use Rattle.resp_wire.proofs.NextLemmas.{stepped, none_is, numbers_after, whole_gave, stopped_text, stopped_item, waits_short, stops_wrong}
+use Rattle.resp_wire.proofs.NextLemmas.{stepped, none_is, some_at, numbers_of, whole_count, stopped_count, numbers_after, whole_gave, stopped_text, stopped_item, waits_short, stops_wrong}
 use Rattle.resp_wire.proofs.decoder.Decoder.next.Goals as goal
 
 pub invariant_of-self-in-Short : goal.invariant_of-self-in-Short
@@ -66,3 +66,59 @@ returns-in-Whole-clause-next g c =
     let gave = whole_gave d.start d.count d.arguments.items d.bytes.items step after old new st c.in-Whole.is held refl in
     let same : c.of.result ≡ after = cc (c.of.ensures, c.new-in-Whole.ensures, c.replace-arguments.ensures.value) in
     none_is c.args.self.now.fault (rw same gave, c.in_default.is)
+
+pub overflow_add-self : goal.overflow_add-self
+overflow_add-self g c =
+    let n = numbers_of c.self.inside c.behind-unread.result.now (c.behind-unread.ensures ∙ ap (drop c.self.inside.start) c.deref.ensures.value) c.advance-step.result c.advance-step.new.arguments.items ends.Whole c.in-Whole.is (λ e. absurd cc) c.advance-step.ensures c.self.invariant in
+    omega (arith, n.room, n.order)
+
+pub overflow_add-self-in-Whole : goal.overflow_add-self-in-Whole
+overflow_add-self-in-Whole g c =
+    let n = numbers_of c.self.inside c.behind-unread.result.now (c.behind-unread.ensures ∙ ap (drop c.self.inside.start) c.deref.ensures.value) c.advance-step.result c.advance-step.new.arguments.items ends.Whole c.in-Whole.is (λ e. absurd cc) c.advance-step.ensures c.self.invariant in
+    omega (arith, n.room, n.order)
+
+pub overflow_add-self-in-Stopped : goal.overflow_add-self-in-Stopped
+overflow_add-self-in-Stopped g c =
+    let n = numbers_of c.self.inside c.behind-unread.result.now (c.behind-unread.ensures ∙ ap (drop c.self.inside.start) c.deref.ensures.value) c.advance-step.result c.advance-step.new.arguments.items (ends.Stopped c.in-Stopped.stop) c.in-Stopped.is (λ e. absurd cc) c.advance-step.ensures c.self.invariant in
+    omega (arith, n.room, n.order)
+
+pub overflow_add-self-in-Stopped-2 : goal.overflow_add-self-in-Stopped-2
+overflow_add-self-in-Stopped-2 g c =
+    let n = numbers_of c.self.inside c.behind-unread.result.now (c.behind-unread.ensures ∙ ap (drop c.self.inside.start) c.deref.ensures.value) c.advance-step.result c.advance-step.new.arguments.items (ends.Stopped c.in-Stopped.stop) c.in-Stopped.is (λ e. absurd cc) c.advance-step.ensures c.self.invariant in
+    omega (arith, n.room, n.order)
+
+pub overflow_sub-self : goal.overflow_sub-self
+overflow_sub-self g c =
+    let n = numbers_of c.self.inside c.behind-unread.result.now (c.behind-unread.ensures ∙ ap (drop c.self.inside.start) c.deref.ensures.value) c.advance-step.result c.advance-step.new.arguments.items (ends.Stopped c.in-Stopped.stop) c.in-Stopped.is (λ e. absurd cc) c.advance-step.ensures c.self.invariant in
+    omega (arith, n.order)
+
+pub returns-in-Whole-clause-taken : goal.returns-in-Whole-clause-taken
+returns-in-Whole-clause-taken g c =
+    let n = numbers_of c.self.inside c.behind-unread.result.now (c.behind-unread.ensures ∙ ap (drop c.self.inside.start) c.deref.ensures.value) c.advance-step.result c.advance-step.new.arguments.items ends.Whole c.in-Whole.is (λ e. absurd cc) c.advance-step.ensures c.self.invariant in
+    whole_count c.self.inside c.advance-step.result c.advance-step.new.arguments.items c.args.self.now c.self.invariant n (sym c.self.view_is)
+
+pub returns-in-Short-clause-taken : goal.returns-in-Short-clause-taken
+returns-in-Short-clause-taken g c =
+    let n = numbers_of c.self.inside c.behind-unread.result.now (c.behind-unread.ensures ∙ ap (drop c.self.inside.start) c.deref.ensures.value) c.advance-step.result c.advance-step.new.arguments.items (ends.Stopped c.in-Stopped.stop) c.in-Stopped.is (λ e. absurd cc) c.advance-step.ensures c.self.invariant in
+    stopped_count c.self.inside c.advance-step.result c.advance-step.new.arguments.items c.args.self.now c.self.invariant n (sym c.self.view_is)
+
+pub returns-in-Wrong-clause-taken : goal.returns-in-Wrong-clause-taken
+returns-in-Wrong-clause-taken g c =
+    let n = numbers_of c.self.inside c.behind-unread.result.now (c.behind-unread.ensures ∙ ap (drop c.self.inside.start) c.deref.ensures.value) c.advance-step.result c.advance-step.new.arguments.items (ends.Stopped c.in-Stopped.stop) c.in-Stopped.is (λ e. absurd cc) c.advance-step.ensures c.self.invariant in
+    stopped_count c.self.inside c.advance-step.result c.advance-step.new.arguments.items c.args.self.now c.self.invariant n (sym c.self.view_is)
+
+pub returns-in-Whole-clause-failed : goal.returns-in-Whole-clause-failed
+returns-in-Whole-clause-failed g c =
+    some_at _ c.args.self.now.fault (ap (λ (w : DecoderView). w.fault) (sym c.self.view_is) ∙ c.in_default.is)
+
+pub returns-in-Short-clause-failed : goal.returns-in-Short-clause-failed
+returns-in-Short-clause-failed g c =
+    some_at _ c.args.self.now.fault (ap (λ (w : DecoderView). w.fault) (sym c.self.view_is) ∙ c.in_default.is)
+
+pub returns-in-Wrong-clause-failed : goal.returns-in-Wrong-clause-failed
+returns-in-Wrong-clause-failed g c =
+    some_at _ c.args.self.now.fault (ap (λ (w : DecoderView). w.fault) (sym c.self.view_is) ∙ c.in_default.is)
+
+pub returns-in-Memory-clause-failed : goal.returns-in-Memory-clause-failed
+returns-in-Memory-clause-failed g c =
+    some_at _ c.args.self.now.fault (ap (λ (w : DecoderView). w.fault) (sym c.self.view_is) ∙ c.in_default.is)
