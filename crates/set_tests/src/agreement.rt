@@ -4,18 +4,16 @@ ghost use Rattle.std.specs.Prelude.{◌≡◌, None};
 
 use crate::big_sets::{agree_on_windows, expect_limits, expect_narrowed, many};
 use crate::columns::{Set, expect_run, run};
-use crate::examples::{command, text_of};
+use crate::examples::{command, expect_that, text_of};
 use crate::questions::{Question, listing_text, plain_reply, plain_rows, random_question};
 use crate::random_changes::{Extent, Plain, next, random_change};
-use crate::trials::{SetTrial, expect_of_set};
+use crate::trials::{SetTrial, expect_of_sets};
 use resp_wire::Reply;
 use std::alloc::Global;
-use std::process::Abort;
-use std::test::*;
+use std::test::Fail;
 use zset_core::Command;
 
 // How a set and a plain one are changed and asked.
-#[derive(Clone, Copy)]
 pub enum Course {
     // Windows of twenty members.
     CutOut,
@@ -29,21 +27,20 @@ pub enum Course {
     Narrowed,
 }
 
-pub fn expect_course<R: Abort>(
-    rt: &R,
+pub fn expect_course(
     alloc: Global,
     set: &mut Set,
     plain: &mut Plain,
-    course: Course,
+    course: &Course,
 ) -> Result<(), Fail>
     requires { set.old.next ≡ None }
 {
     match course {
-        Course::CutOut => expect_cut_out(rt, alloc, set, plain),
-        Course::Random => agree(rt, alloc, set, plain),
-        Course::Big(scores) => agree_on_windows(rt, alloc, set, plain, &many(scores)),
-        Course::OneScore => expect_limits(rt, alloc, set, plain),
-        Course::Narrowed => expect_narrowed(rt, alloc, set, plain),
+        Course::CutOut => expect_cut_out(alloc, set, plain),
+        Course::Random => agree(alloc, set, plain),
+        Course::Big(scores) => agree_on_windows(alloc, set, plain, &many(*scores)),
+        Course::OneScore => expect_limits(alloc, set, plain),
+        Course::Narrowed => expect_narrowed(alloc, set, plain),
     }
 }
 
@@ -69,38 +66,18 @@ fn ready_text(alloc: Global, set: &Set, text: &str) -> Result<String, Fail>
     text_of(alloc, &told)
 }
 
-// Asks a set as it stands: the reply is as wanted.
-fn expect_ready<R: Abort>(
-    rt: &R,
-    alloc: Global,
-    set: &Set,
-    text: &str,
-    want: &str,
-) -> Result<(), Fail>
-    requires { set.now.next ≡ None }
-{
-    assert_eq!(rt; ready_text(alloc, set, text)?.as_str(), want, "{text}");
-    Ok(())
-}
-
 // Asks a set, and asks it again as it stands then: both replies are as wanted.
-fn expect_twice<R: Abort>(
-    rt: &R,
-    alloc: Global,
-    set: &mut Set,
-    text: &str,
-    want: &str,
-) -> Result<(), Fail>
+fn expect_twice(alloc: Global, set: &mut Set, text: &str, want: &str) -> Result<(), Fail>
     requires { set.old.next ≡ None }
     ensures { set.new.next ≡ None }
 {
-    expect_run(rt, alloc, set, text, want)?;
-    expect_ready(rt, alloc, set, text, want)
+    expect_run(alloc, set, text, want)?;
+    let reply = ready_text(alloc, set, text)?;
+    expect_that(reply.as_str() == want, text)
 }
 
 // Both replies are those of the plain set.
-pub fn expect_listing<R: Abort>(
-    rt: &R,
+pub fn expect_listing(
     alloc: Global,
     set: &mut Set,
     plain: &Plain,
@@ -111,7 +88,7 @@ pub fn expect_listing<R: Abort>(
 {
     let want = plain_reply(alloc, plain, asked)?;
     let text = listing_text(alloc, asked)?;
-    expect_twice(rt, alloc, set, text.as_str(), want.as_str())
+    expect_twice(alloc, set, text.as_str(), want.as_str())
 }
 
 // Adds a member to a set and to a plain one.
@@ -143,13 +120,7 @@ fn add_twenty(alloc: Global, set: &mut Set, plain: &mut Plain) -> Result<(), Fai
 }
 
 // Asks for the windows from an offset on, of each count from -2 to 22.
-fn expect_windows_from<R: Abort>(
-    rt: &R,
-    alloc: Global,
-    set: &mut Set,
-    plain: &Plain,
-    offset: i64,
-) -> Result<(), Fail>
+fn expect_windows_from(alloc: Global, set: &mut Set, plain: &Plain, offset: i64) -> Result<(), Fail>
     requires { set.old.next ≡ None }
     ensures { set.new.next ≡ None }
 {
@@ -160,18 +131,18 @@ fn expect_windows_from<R: Abort>(
             with_scores: false,
             limit: Some((offset, count)),
         };
-        expect_listing(rt, alloc, set, plain, &asked)?;
+        expect_listing(alloc, set, plain, &asked)?;
     }
     Ok(())
 }
 
 // Asks for the windows of each offset from -2 to 22.
-fn expect_windows<R: Abort>(rt: &R, alloc: Global, set: &mut Set, plain: &Plain) -> Result<(), Fail>
+fn expect_windows(alloc: Global, set: &mut Set, plain: &Plain) -> Result<(), Fail>
     requires { set.old.next ≡ None }
     ensures { set.new.next ≡ None }
 {
     for offset in -2..23 {
-        expect_windows_from(rt, alloc, set, plain, offset)?;
+        expect_windows_from(alloc, set, plain, offset)?;
     }
     Ok(())
 }
@@ -180,25 +151,15 @@ fn expect_windows<R: Abort>(rt: &R, alloc: Global, set: &mut Set, plain: &Plain)
 const CRACKS: [&str; 3] = ["ZCARD k", "ZCOUNT k 2 4", "ZCOUNT k (6 8"];
 
 // Adds twenty members, and asks for the windows however the set is cracked.
-fn expect_cut_out<R: Abort>(
-    rt: &R,
-    alloc: Global,
-    set: &mut Set,
-    plain: &mut Plain,
-) -> Result<(), Fail>
+fn expect_cut_out(alloc: Global, set: &mut Set, plain: &mut Plain) -> Result<(), Fail>
     requires { set.old.next ≡ None }
 {
     add_twenty(alloc, set, plain)?;
     for crack in CRACKS {
         run(alloc, set, crack)?;
-        expect_windows(rt, alloc, set, plain)?;
+        expect_windows(alloc, set, plain)?;
     }
     Ok(())
-}
-
-#[test]
-fn windows_are_cut_out_of_the_listing(rt: HostRuntime) -> Result<(), Fail> {
-    expect_of_set(&rt, SetTrial::Beside(Course::CutOut))
 }
 
 // The reply of a plain set to a count.
@@ -208,19 +169,13 @@ fn plain_count(alloc: Global, plain: &Plain, asked: &Question) -> Result<String,
 }
 
 // Counts a range of a set, as the plain set has it.
-fn expect_count<R: Abort>(
-    rt: &R,
-    alloc: Global,
-    set: &mut Set,
-    plain: &Plain,
-    asked: &Question,
-) -> Result<(), Fail>
+fn expect_count(alloc: Global, set: &mut Set, plain: &Plain, asked: &Question) -> Result<(), Fail>
     requires { set.old.next ≡ None }
     ensures { set.new.next ≡ None }
 {
     let want = plain_count(alloc, plain, asked)?;
     let text = format!(in alloc; "ZCOUNT k ({} {}", asked.low, asked.high)?;
-    expect_run(rt, alloc, set, text.as_str(), want.as_str())
+    expect_run(alloc, set, text.as_str(), want.as_str())
 }
 
 // Twelve members with twenty scores.
@@ -246,37 +201,36 @@ pub fn change(
 }
 
 // A random change of a set, a listing and a count, by the numbers behind this one; and the last of these.
-fn change_and_ask<R: Abort>(
-    rt: &R,
-    alloc: Global,
-    set: &mut Set,
-    plain: &mut Plain,
-    number: u64,
-) -> Result<u64, Fail>
+fn change_and_ask(alloc: Global, set: &mut Set, plain: &mut Plain, number: u64) -> Result<u64, Fail>
     requires { set.old.next ≡ None }
     ensures { set.new.next ≡ None }
 {
     let first = next(number);
     change(alloc, set, plain, first, &FEW)?;
     let second = next(first);
-    expect_listing(rt, alloc, set, plain, &random_question(second))?;
+    expect_listing(alloc, set, plain, &random_question(second))?;
     let third = next(second);
-    expect_count(rt, alloc, set, plain, &random_question(third))?;
+    expect_count(alloc, set, plain, &random_question(third))?;
     Ok(third)
 }
 
 // Three thousand of these.
-fn agree<R: Abort>(rt: &R, alloc: Global, set: &mut Set, plain: &mut Plain) -> Result<(), Fail>
+fn agree(alloc: Global, set: &mut Set, plain: &mut Plain) -> Result<(), Fail>
     requires { set.old.next ≡ None }
 {
     let mut number = 1;
     for _ in 0..3000u32 {
-        number = change_and_ask(rt, alloc, set, plain, number)?;
+        number = change_and_ask(alloc, set, plain, number)?;
     }
     Ok(())
 }
 
+const BESIDE_PLAIN: &[SetTrial] = &[
+    SetTrial::Beside(Course::CutOut),
+    SetTrial::Beside(Course::Random),
+];
+
 #[test]
-fn random_commands_agree_with_a_plain_set(rt: HostRuntime) -> Result<(), Fail> {
-    expect_of_set(&rt, SetTrial::Beside(Course::Random))
+fn sets_agree_with_plain_ones(rt: HostRuntime) -> Result<(), Fail> {
+    expect_of_sets(&rt, BESIDE_PLAIN)
 }

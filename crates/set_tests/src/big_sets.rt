@@ -4,13 +4,12 @@ ghost use Rattle.std.specs.Prelude.{◌≡◌, None};
 
 use crate::agreement::{Course, add, change, expect_listing};
 use crate::columns::{Set, run};
-use crate::examples::command;
+use crate::examples::{command, expect_that};
 use crate::questions::Question;
 use crate::random_changes::{Extent, Plain, next};
-use crate::trials::{SetTrial, expect_of_set};
+use crate::trials::{SetTrial, expect_of_sets};
 use std::alloc::Global;
-use std::process::Abort;
-use std::test::*;
+use std::test::Fail;
 
 // Adds the members from 0 on to both.
 fn add_many(alloc: Global, set: &mut Set, plain: &mut Plain, extent: &Extent) -> Result<(), Fail>
@@ -39,8 +38,7 @@ fn big_window(number: u64, extent: &Extent) -> Question {
 }
 
 // A big set is changed, and a window of it asked for after each change.
-pub fn agree_on_windows<R: Abort>(
-    rt: &R,
+pub fn agree_on_windows(
     alloc: Global,
     set: &mut Set,
     plain: &mut Plain,
@@ -54,7 +52,7 @@ pub fn agree_on_windows<R: Abort>(
         number = next(number);
         change(alloc, set, plain, number, extent)?;
         number = next(number);
-        expect_listing(rt, alloc, set, plain, &big_window(number, extent))?;
+        expect_listing(alloc, set, plain, &big_window(number, extent))?;
     }
     Ok(())
 }
@@ -65,14 +63,6 @@ pub fn many(scores: u64) -> Extent {
         members: 12_000,
         scores,
     }
-}
-
-#[test]
-fn windows_of_big_sets_agree_with_plain_sets(rt: HostRuntime) -> Result<(), Fail> {
-    for scores in [3, 1_000_000] {
-        expect_of_set(&rt, SetTrial::Beside(Course::Big(scores)))?;
-    }
-    Ok(())
 }
 
 // Offsets and counts of LIMIT, near pivots of a set of 1,000 members and between them.
@@ -94,12 +84,7 @@ const OF_ONE_SCORE: Extent = Extent {
 };
 
 // Asks for the windows of a set of one score.
-pub fn expect_limits<R: Abort>(
-    rt: &R,
-    alloc: Global,
-    set: &mut Set,
-    plain: &mut Plain,
-) -> Result<(), Fail>
+pub fn expect_limits(alloc: Global, set: &mut Set, plain: &mut Plain) -> Result<(), Fail>
     requires { set.old.next ≡ None }
 {
     add_many(alloc, set, plain, &OF_ONE_SCORE)?;
@@ -110,14 +95,9 @@ pub fn expect_limits<R: Abort>(
             with_scores: true,
             limit: Some(limit),
         };
-        expect_listing(rt, alloc, set, plain, &asked)?;
+        expect_listing(alloc, set, plain, &asked)?;
     }
     Ok(())
-}
-
-#[test]
-fn windows_of_one_score_are_listed(rt: HostRuntime) -> Result<(), Fail> {
-    expect_of_set(&rt, SetTrial::Beside(Course::OneScore))
 }
 
 // Whether a listing of the ten lowest would read many rows of a set that is ready for it.
@@ -132,19 +112,12 @@ fn is_wide(alloc: Global, set: &Set) -> Result<bool, Fail>
 }
 
 // Runs a command: a listing of the ten lowest is wide then, or is not.
-fn expect_wide<R: Abort>(
-    rt: &R,
-    alloc: Global,
-    set: &mut Set,
-    text: &str,
-    wide: bool,
-) -> Result<(), Fail>
+fn expect_wide(alloc: Global, set: &mut Set, text: &str, wide: bool) -> Result<(), Fail>
     requires { set.old.next ≡ None }
     ensures { set.new.next ≡ None }
 {
     run(alloc, set, text)?;
-    assert_eq!(rt; is_wide(alloc, set)?, wide, "{text}");
-    Ok(())
+    expect_that(is_wide(alloc, set)? == wide, text)
 }
 
 // Three thousand members of many scores.
@@ -160,22 +133,24 @@ const NARROWED: [(&str, bool); 3] = [
     ("ZRANGEBYSCORE k -inf +inf LIMIT 0 10", false),
 ];
 
-pub fn expect_narrowed<R: Abort>(
-    rt: &R,
-    alloc: Global,
-    set: &mut Set,
-    plain: &mut Plain,
-) -> Result<(), Fail>
+pub fn expect_narrowed(alloc: Global, set: &mut Set, plain: &mut Plain) -> Result<(), Fail>
     requires { set.old.next ≡ None }
 {
     add_many(alloc, set, plain, &LONG)?;
     for (text, wide) in NARROWED {
-        expect_wide(rt, alloc, set, text, wide)?;
+        expect_wide(alloc, set, text, wide)?;
     }
     Ok(())
 }
 
+const WINDOWS: &[SetTrial] = &[
+    SetTrial::Beside(Course::Big(3)),
+    SetTrial::Beside(Course::Big(1_000_000)),
+    SetTrial::Beside(Course::OneScore),
+    SetTrial::Beside(Course::Narrowed),
+];
+
 #[test]
-fn a_window_of_a_long_piece_is_narrowed_once(rt: HostRuntime) -> Result<(), Fail> {
-    expect_of_set(&rt, SetTrial::Beside(Course::Narrowed))
+fn windows_of_big_sets_agree_with_plain_sets(rt: HostRuntime) -> Result<(), Fail> {
+    expect_of_sets(&rt, WINDOWS)
 }

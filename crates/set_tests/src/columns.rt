@@ -1,24 +1,15 @@
 ghost use Rattle.std.specs.Prelude.{◌≡◌, None, false, IfOk, IsTrue};
 ghost use Rattle.zset_core.specs.AbstractCommand.{is_writing};
 
-use crate::examples::{command, text_of};
-use crate::trials::{SetTrial, expect_of_set};
+use crate::examples::{command, expect_that, text_of};
+use crate::trials::{SetTrial, expect_of_sets};
 use resp_wire::Reply;
 use std::alloc::Global;
 use std::hash::RandomState;
-use std::process::Abort;
-use std::random::RandomSource;
-use std::test::*;
+use std::test::Fail;
 use zset_core::{Command, ZSet};
 
 pub type Set = ZSet<RandomState, Global>;
-
-/// A set without members.
-pub fn new_set<R: AllocGlobal + RandomSource>(rt: &R) -> Result<Set, Fail>
-    ensures { IfOk result (λ set. set.next ≡ None) }
-{
-    Ok(ZSet::with_hasher(rt.alloc(), RandomState::new(rt)?))
-}
 
 /// The reply to a command that changes nothing.
 fn ask(set: &mut Set, command: &Command<Global>) -> Result<Reply<Global>, Fail>
@@ -67,18 +58,12 @@ fn reply_of(alloc: Global, set: &mut Set, text: &str) -> Result<String, Fail>
 }
 
 /// Runs a command on a set: the reply is as wanted.
-pub fn expect_run<R: Abort>(
-    rt: &R,
-    alloc: Global,
-    set: &mut Set,
-    text: &str,
-    want: &str,
-) -> Result<(), Fail>
+pub fn expect_run(alloc: Global, set: &mut Set, text: &str, want: &str) -> Result<(), Fail>
     requires { set.old.next ≡ None }
     ensures { set.new.next ≡ None }
 {
-    assert_eq!(rt; reply_of(alloc, set, text)?.as_str(), want, "{text}");
-    Ok(())
+    let reply = reply_of(alloc, set, text)?;
+    expect_that(reply.as_str() == want, text)
 }
 
 // How many rows the column of a set has, how many wait to come in and to go out, and its pivots.
@@ -98,144 +83,127 @@ fn note_pivots(alloc: Global, pivots: &[(i64, usize)], out: &mut String) -> Resu
     Ok(())
 }
 
-// Commands in turn on one set, with their replies and with the column that they leave.
-pub fn expect<R: Abort>(
-    rt: &R,
-    alloc: Global,
-    set: &mut Set,
-    rows: &[(&str, &str, &str)],
-) -> Result<(), Fail>
+// The column of a set is in this state.
+fn expect_state(alloc: Global, set: &Set, want: &str) -> Result<(), Fail> {
+    let state = state_of(alloc, set)?;
+    expect_that(state.as_str() == want, state.as_str())
+}
+
+/// Commands in turn on one set, with their replies and with the column that they leave.
+pub fn expect(alloc: Global, set: &mut Set, rows: &[(&str, &str, &str)]) -> Result<(), Fail>
     requires { set.old.next ≡ None }
-    ensures { set.new.next ≡ None }
 {
     for (text, reply, state) in rows {
-        expect_run(rt, alloc, set, text, reply)?;
-        assert_eq!(rt; state_of(alloc, set)?.as_str(), *state, "{text}");
+        expect_run(alloc, set, text, reply)?;
+        expect_state(alloc, set, state)?;
     }
     Ok(())
 }
 
 /// Commands with the column that each leaves: what waits in a range is merged, and its cuts become pivots.
-const MERGED_AND_CRACKED: [(&str, &str, &str); 6] = [
+const MERGED_AND_CRACKED: &[(&str, &str, &str)] = &[
     (
-        "ZADD k 1 m1 2 m2 3 m3 4 m4 5 m5 6 m6 7 m7 8 m8 9 m9 10 m10",
+        "ZADD cracked 1 m1 2 m2 3 m3 4 m4 5 m5 6 m6 7 m7 8 m8 9 m9 10 m10",
         ":10~",
         "0 rows +10 -0",
     ),
-    ("ZCOUNT k -inf +inf", ":10~", "10 rows +0 -0"),
-    ("ZCOUNT k 3 6", ":4~", "10 rows +0 -0 (3, 2) (7, 6)"),
-    ("ZADD k 1 x 5 y 9 z", ":3~", "10 rows +3 -0 (3, 2) (7, 6)"),
-    ("ZREM k y", ":1~", "10 rows +2 -0 (3, 2) (7, 6)"),
+    ("ZCOUNT cracked -inf +inf", ":10~", "10 rows +0 -0"),
+    ("ZCOUNT cracked 3 6", ":4~", "10 rows +0 -0 (3, 2) (7, 6)"),
     (
-        "ZRANGEBYSCORE k 0 10",
+        "ZADD cracked 1 x 5 y 9 z",
+        ":3~",
+        "10 rows +3 -0 (3, 2) (7, 6)",
+    ),
+    ("ZREM cracked y", ":1~", "10 rows +2 -0 (3, 2) (7, 6)"),
+    (
+        "ZRANGEBYSCORE cracked 0 10",
         "*12~$2~m1~$1~x~$2~m2~$2~m3~$2~m4~$2~m5~$2~m6~$2~m7~$2~m8~$2~m9~$1~z~$3~m10~",
         "12 rows +0 -0 (0, 0) (3, 3) (7, 7) (11, 12)",
     ),
 ];
 
-#[test]
-fn a_range_merges_and_cracks(rt: HostRuntime) -> Result<(), Fail> {
-    expect_of_set(&rt, SetTrial::Rows(&MERGED_AND_CRACKED))
-}
-
 const LEFT: &str = "8 rows +0 -0 (0, 0) (3, 3) (4, 4) (7, 4) (8, 4) (11, 8)";
 
 const NONE_LEFT: &str = "0 rows +0 -0 (0, 0) (3, 0) (4, 0) (7, 0) (8, 0) (11, 0)";
 
-/// Commands with the column that each leaves, where twelve members stand between pivots and ranges of them go.
-const CLOSED_UP: [(&str, &str, &str); 9] = [
+/// Commands with the column that each leaves, where twelve members stand between pivots and ranges of them go: those
+/// behind them and the pivots close up, and no pivot goes.
+const CLOSED_UP: &[(&str, &str, &str)] = &[
     (
-        "ZADD k 1 m1 2 m2 3 m3 4 m4 5 m5 6 m6",
+        "ZADD closed 1 m1 2 m2 3 m3 4 m4 5 m5 6 m6",
         ":6~",
         "0 rows +6 -0",
     ),
     (
-        "ZADD k 7 m7 8 m8 9 m9 10 m10 1 x 9 z",
+        "ZADD closed 7 m7 8 m8 9 m9 10 m10 1 x 9 z",
         ":6~",
         "0 rows +12 -0",
     ),
-    ("ZCOUNT k 3 6", ":4~", "4 rows +8 -0 (3, 0) (7, 4)"),
+    ("ZCOUNT closed 3 6", ":4~", "4 rows +8 -0 (3, 0) (7, 4)"),
     (
-        "ZCOUNT k 0 10",
+        "ZCOUNT closed 0 10",
         ":12~",
         "12 rows +0 -0 (0, 0) (3, 3) (7, 7) (11, 12)",
     ),
-    ("ZREMRANGEBYSCORE k (3 7", ":4~", LEFT),
-    ("ZCOUNT k 0 10", ":8~", LEFT),
-    ("ZREMRANGEBYSCORE k 9 1", ":0~", LEFT),
-    ("ZREMRANGEBYSCORE k -inf +inf", ":8~", NONE_LEFT),
-    ("ZCARD k", ":0~", NONE_LEFT),
+    ("ZREMRANGEBYSCORE closed (3 7", ":4~", LEFT),
+    ("ZCOUNT closed 0 10", ":8~", LEFT),
+    ("ZREMRANGEBYSCORE closed 9 1", ":0~", LEFT),
+    ("ZREMRANGEBYSCORE closed -inf +inf", ":8~", NONE_LEFT),
+    ("ZCARD closed", ":0~", NONE_LEFT),
 ];
 
-// Rows leave with their range: those behind them and the pivots close up, and no pivot goes.
-#[test]
-fn a_removed_range_closes_up(rt: HostRuntime) -> Result<(), Fail> {
-    expect_of_set(&rt, SetTrial::Rows(&CLOSED_UP))
-}
-
-/// Commands with the column that each leaves, where rows wait in a range that is removed, and outside it.
-const MERGED_AND_REMOVED: [(&str, &str, &str); 7] = [
-    ("ZADD k 1 a 5 b 9 c", ":3~", "0 rows +3 -0"),
-    ("ZCOUNT k -inf +inf", ":3~", "3 rows +0 -0"),
-    ("ZADD k 5 d 8 e", ":2~", "3 rows +2 -0"),
-    ("ZREM k c", ":1~", "3 rows +2 -1"),
+/// Commands with the column that each leaves, where rows wait in a range that is removed, and outside it: those in it are
+/// merged first and leave with it, and those outside stay.
+const MERGED_AND_REMOVED: &[(&str, &str, &str)] = &[
+    ("ZADD waits 1 a 5 b 9 c", ":3~", "0 rows +3 -0"),
+    ("ZCOUNT waits -inf +inf", ":3~", "3 rows +0 -0"),
+    ("ZADD waits 5 d 8 e", ":2~", "3 rows +2 -0"),
+    ("ZREM waits c", ":1~", "3 rows +2 -1"),
     (
-        "ZREMRANGEBYSCORE k 4 6",
+        "ZREMRANGEBYSCORE waits 4 6",
         ":2~",
         "2 rows +1 -1 (4, 1) (7, 1)",
     ),
     (
-        "ZREMRANGEBYSCORE k 4 6",
+        "ZREMRANGEBYSCORE waits 4 6",
         ":0~",
         "2 rows +1 -1 (4, 1) (7, 1)",
     ),
     (
-        "ZRANGEBYSCORE k -inf +inf",
+        "ZRANGEBYSCORE waits -inf +inf",
         "*2~$1~a~$1~e~",
         "2 rows +0 -0 (4, 1) (7, 1)",
     ),
 ];
 
-// What waits in a removed range is merged first and leaves with it; what waits outside stays.
-#[test]
-fn what_waits_leaves_with_its_range(rt: HostRuntime) -> Result<(), Fail> {
-    expect_of_set(&rt, SetTrial::Rows(&MERGED_AND_REMOVED))
-}
-
 /// Commands with the column that each leaves, where a member's scores lie in other pieces.
-const MOVED: [(&str, &str, &str); 10] = [
-    ("ZADD k 1 a 5 b 9 c", ":3~", "0 rows +3 -0"),
-    ("ZCOUNT k -inf +inf", ":3~", "3 rows +0 -0"),
-    ("ZCOUNT k 4 6", ":1~", "3 rows +0 -0 (4, 1) (7, 2)"),
-    ("ZADD k CH 8 a", ":1~", "3 rows +1 -1 (4, 1) (7, 2)"),
-    ("ZCOUNT k -inf (4", ":0~", "2 rows +1 -0 (4, 0) (7, 1)"),
-    ("ZCOUNT k 4 6", ":1~", "2 rows +1 -0 (4, 0) (7, 1)"),
-    ("ZCOUNT k 7 +inf", ":2~", "3 rows +0 -0 (4, 0) (7, 1)"),
-    ("ZADD k CH 2 a", ":1~", "3 rows +1 -1 (4, 0) (7, 1)"),
-    ("ZCOUNT k -inf (4", ":1~", "4 rows +0 -1 (4, 1) (7, 2)"),
-    ("ZCOUNT k 7 +inf", ":1~", "3 rows +0 -0 (4, 1) (7, 2)"),
+const MOVED: &[(&str, &str, &str)] = &[
+    ("ZADD moved 1 a 5 b 9 c", ":3~", "0 rows +3 -0"),
+    ("ZCOUNT moved -inf +inf", ":3~", "3 rows +0 -0"),
+    ("ZCOUNT moved 4 6", ":1~", "3 rows +0 -0 (4, 1) (7, 2)"),
+    ("ZADD moved CH 8 a", ":1~", "3 rows +1 -1 (4, 1) (7, 2)"),
+    ("ZCOUNT moved -inf (4", ":0~", "2 rows +1 -0 (4, 0) (7, 1)"),
+    ("ZCOUNT moved 4 6", ":1~", "2 rows +1 -0 (4, 0) (7, 1)"),
+    ("ZCOUNT moved 7 +inf", ":2~", "3 rows +0 -0 (4, 0) (7, 1)"),
+    ("ZADD moved CH 2 a", ":1~", "3 rows +1 -1 (4, 0) (7, 1)"),
+    ("ZCOUNT moved -inf (4", ":1~", "4 rows +0 -1 (4, 1) (7, 2)"),
+    ("ZCOUNT moved 7 +inf", ":1~", "3 rows +0 -0 (4, 1) (7, 2)"),
 ];
-
-#[test]
-fn a_member_moves_between_pieces(rt: HostRuntime) -> Result<(), Fail> {
-    expect_of_set(&rt, SetTrial::Rows(&MOVED))
-}
 
 /// Commands with the column that each leaves, where the last member goes and another comes.
-const EMPTIED: [(&str, &str, &str); 7] = [
-    ("ZADD k 1 a", ":1~", "0 rows +1 -0"),
-    ("ZCOUNT k 0 2", ":1~", "1 rows +0 -0 (0, 0) (3, 1)"),
-    ("ZREM k a", ":1~", "1 rows +0 -1 (0, 0) (3, 1)"),
-    ("ZRANGEBYSCORE k 0 2", "*0~", "0 rows +0 -0 (0, 0) (3, 0)"),
-    ("ZCARD k", ":0~", "0 rows +0 -0 (0, 0) (3, 0)"),
-    ("ZADD k 1 b", ":1~", "0 rows +1 -0 (0, 0) (3, 0)"),
-    ("ZCOUNT k 0 2", ":1~", "1 rows +0 -0 (0, 0) (3, 1)"),
+const EMPTIED: &[(&str, &str, &str)] = &[
+    ("ZADD emptied 1 a", ":1~", "0 rows +1 -0"),
+    ("ZCOUNT emptied 0 2", ":1~", "1 rows +0 -0 (0, 0) (3, 1)"),
+    ("ZREM emptied a", ":1~", "1 rows +0 -1 (0, 0) (3, 1)"),
+    (
+        "ZRANGEBYSCORE emptied 0 2",
+        "*0~",
+        "0 rows +0 -0 (0, 0) (3, 0)",
+    ),
+    ("ZCARD emptied", ":0~", "0 rows +0 -0 (0, 0) (3, 0)"),
+    ("ZADD emptied 1 b", ":1~", "0 rows +1 -0 (0, 0) (3, 0)"),
+    ("ZCOUNT emptied 0 2", ":1~", "1 rows +0 -0 (0, 0) (3, 1)"),
 ];
-
-#[test]
-fn the_last_member_leaves_its_pivots(rt: HostRuntime) -> Result<(), Fail> {
-    expect_of_set(&rt, SetTrial::Rows(&EMPTIED))
-}
 
 // Counts the scores from `low` on, in a range of its own.
 fn count_from(alloc: Global, set: &mut Set, low: u32) -> Result<(), Fail>
@@ -258,19 +226,27 @@ fn count_all(alloc: Global, set: &mut Set) -> Result<(), Fail>
     Ok(())
 }
 
-// As many pivots as there may be, and one range more.
-pub fn expect_few_pivots<R: Abort>(rt: &R, alloc: Global, set: &mut Set) -> Result<(), Fail>
+/// As many pivots as there may be, and one range more.
+pub fn expect_few_pivots(alloc: Global, set: &mut Set) -> Result<(), Fail>
     requires { set.old.next ≡ None }
 {
-    run(alloc, set, "ZADD k 5 a")?;
+    expect_run(alloc, set, "ZADD k 5 a", ":1~")?;
     count_all(alloc, set)?;
-    assert_eq!(rt; set.column().pivot_list().len(), 4096);
+    expect_that(set.column().pivot_list().len() == 4096, "all pivots")?;
     count_from(alloc, set, 50001)?;
-    assert_eq!(rt; set.column().pivot_list().len(), 2);
-    Ok(())
+    expect_that(set.column().pivot_list().len() == 2, "two pivots")
 }
 
+const TRIALS: &[SetTrial] = &[
+    SetTrial::Rows(MERGED_AND_CRACKED),
+    SetTrial::Rows(CLOSED_UP),
+    SetTrial::Rows(MERGED_AND_REMOVED),
+    SetTrial::Rows(MOVED),
+    SetTrial::Rows(EMPTIED),
+    SetTrial::FewPivots,
+];
+
 #[test]
-fn pivots_past_the_limit_go(rt: HostRuntime) -> Result<(), Fail> {
-    expect_of_set(&rt, SetTrial::FewPivots)
+fn ranges_merge_crack_and_close_up(rt: HostRuntime) -> Result<(), Fail> {
+    expect_of_sets(&rt, TRIALS)
 }

@@ -20,13 +20,6 @@ fn places_of(alloc: Global, scores: &[i64]) -> Result<(usize, (usize, usize)), A
     Ok((place, crack_three(&mut rows, 3, 6)))
 }
 
-#[test]
-fn rows_are_cracked(rt: HostRuntime) -> Result<(), AllocError> {
-    assert_eq!(rt; places_of(rt.alloc(), &[5, 1, 5, 9, 3])?, (2, (1, 4)));
-    assert_eq!(rt; places_of(rt.alloc(), &[])?, (0, (0, 0)));
-    Ok(())
-}
-
 // 4,096 scores from 0 on, in no order.
 fn mixed_scores(alloc: Global) -> Result<Vec<i64>, AllocError> {
     let mut scores = Vec::new(alloc);
@@ -59,30 +52,35 @@ fn kept_places(scores: &[i64], rows: &[Row<Global>], place: usize, v: i64) -> (u
     (stood, kept)
 }
 
-// The first ranges of a long set are cracked with few moves: rows on the wrong side change places, and the others
+// Whether the first range of a long set is cracked with few moves: rows on the wrong side change places, and the others
 // stay, but for a block or two.
-#[test]
-fn rows_on_their_side_stay(rt: HostRuntime) -> Result<(), AllocError> {
-    let alloc = rt.alloc();
+fn stay_on_their_side(alloc: Global) -> Result<bool, AllocError> {
     let scores = mixed_scores(alloc)?;
     let mut rows = rows_of(alloc, &scores)?;
     let place = crack_two(&mut rows, 2048);
     let (stood, kept) = kept_places(&scores, &rows, place, 2048);
-    assert!(rt;
-        stood > 1000 && kept.saturating_mul(8) > stood.saturating_mul(7),
-        "{kept} of {stood}"
-    );
+    Ok(stood > 1000 && kept.saturating_mul(8) > stood.saturating_mul(7))
+}
+
+#[test]
+fn rows_are_cracked(rt: HostRuntime) -> Result<(), AllocError> {
+    assert!(rt; places_of(rt.alloc(), &[5, 1, 5, 9, 3])? == (2, (1, 4)));
+    assert!(rt; places_of(rt.alloc(), &[])? == (0, (0, 0)));
+    assert!(rt; stay_on_their_side(rt.alloc())?);
     Ok(())
 }
 
 // Each score stands in this piece among ten rows.
 const PIECES: [(i64, (usize, usize)); 4] = [(1, (0, 2)), (3, (2, 6)), (5, (2, 6)), (7, (6, 10))];
 
-// Pieces are found by the scores in them.
-fn expect_pieces<R: Abort>(rt: &R, pivots: &Pivots<Global>) {
-    for (value, piece) in PIECES {
-        assert_eq!(rt; pivots.piece_of(value, 10), piece, "at {value}");
+// Whether pieces are found by the scores in them.
+fn has_pieces(pivots: &Pivots<Global>) -> bool {
+    for (value, piece) in &PIECES {
+        if pivots.piece_of(*value, 10) != *piece {
+            return false;
+        }
     }
+    true
 }
 
 // Two pivots are found by their values.
@@ -94,13 +92,13 @@ fn has_two(pivots: &Pivots<Global>) -> bool {
 // The places of two pivots are moved, and close up.
 fn expect_moved<R: Abort>(rt: &R, pivots: &mut Pivots<Global>) {
     shift_some(rt, pivots, 1, true);
-    assert_eq!(rt; pivots.list(), [(3, 2), (7, 7)].as_slice());
+    assert!(rt; pivots.list() == [(3, 2), (7, 7)].as_slice());
     shift_some(rt, pivots, 0, false);
-    assert_eq!(rt; pivots.list(), [(3, 1), (7, 6)].as_slice());
+    assert!(rt; pivots.list() == [(3, 1), (7, 6)].as_slice());
     pivots.close_up(2, 4);
-    assert_eq!(rt; pivots.list(), [(3, 1), (7, 4)].as_slice());
+    assert!(rt; pivots.list() == [(3, 1), (7, 4)].as_slice());
     pivots.close_up(0, 3);
-    assert_eq!(rt; pivots.list(), [(3, 0), (7, 1)].as_slice());
+    assert!(rt; pivots.list() == [(3, 0), (7, 1)].as_slice());
 }
 
 #[test]
@@ -112,10 +110,10 @@ fn pivots_are_kept(rt: HostRuntime) -> Result<(), AllocError> {
     assert!(rt; pivots.find(7).is_none() && pivots.len() == 1);
     pivots.add(7, 6);
     assert!(rt; has_two(&pivots));
-    expect_pieces(&rt, &pivots);
+    assert!(rt; has_pieces(&pivots));
     expect_moved(&rt, &mut pivots);
     pivots.clear();
-    assert_eq!(rt; pivots.len(), 0);
+    assert!(rt; pivots.is_empty() && pivots.len() == 0);
     Ok(())
 }
 

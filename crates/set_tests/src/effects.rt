@@ -2,12 +2,10 @@
 
 ghost use Rattle.std.specs.Prelude.{◌≡◌, None};
 
-use crate::examples::{Owner, command};
-use crate::trials::{Trial, expect_of_owner};
+use crate::examples::{Owner, command, expect_that};
 use std::alloc::Global;
 use std::hash::RandomState;
-use std::process::Abort;
-use std::test::*;
+use std::test::Fail;
 use zset_core::{Command, ZSet};
 
 type Set = ZSet<RandomState, Global>;
@@ -63,8 +61,8 @@ fn effect_of(alloc: Global, owner: &mut Owner, text: &str) -> Result<String, Fai
     }
 }
 
-// Commands in turn, with the members that they move. Each key begins an example of its own.
-const EFFECTS: [(&str, &str); 28] = [
+/// Commands in turn, with the members that they move. Each key begins an example of its own.
+pub const EFFECTS: &[(&str, &str)] = &[
     // a member that is named again is told once, with its last score
     ("ZADD plain CH 1 a 2 a", " a 2"),
     ("ZADD plain INCR 5 a", " a 7"),
@@ -100,25 +98,23 @@ const EFFECTS: [(&str, &str); 28] = [
     ("ZADD none XX 1 a", ""),
 ];
 
-// Commands in turn on one owner's sets, with the members that they move.
-pub fn expect_effects<R: Abort>(
-    rt: &R,
-    alloc: Global,
-    owner: &mut Owner,
-    rows: &[(&str, &str)],
-) -> Result<(), Fail>
+// A command moves these members.
+fn expect_effect(alloc: Global, owner: &mut Owner, text: &str, want: &str) -> Result<(), Fail>
     requires { owner.old.next ≡ None }
     ensures { owner.new.next ≡ None }
 {
-    for (text, want) in rows {
-        assert_eq!(rt; effect_of(alloc, owner, text)?.as_str(), *want, "{text}");
-    }
-    Ok(())
+    let effect = effect_of(alloc, owner, text)?;
+    expect_that(effect.as_str() == want, text)
 }
 
-#[test]
-fn effects_are_told_in_the_order_of_the_command(rt: HostRuntime) -> Result<(), Fail> {
-    expect_of_owner(&rt, Trial::Effects(&EFFECTS))
+/// Commands in turn on one owner's sets, with the members that they move.
+pub fn expect_effects(alloc: Global, owner: &mut Owner, rows: &[(&str, &str)]) -> Result<(), Fail>
+    requires { owner.old.next ≡ None }
+{
+    for (text, want) in rows {
+        expect_effect(alloc, owner, text, want)?;
+    }
+    Ok(())
 }
 
 // Appends the most pairs of one ZADD: each member's score is its number and some more. They are given as
@@ -133,28 +129,20 @@ fn note_pairs(alloc: Global, more: u32, given: &mut String, told: &mut String) -
 }
 
 // A ZADD of so many pairs moves each of their members.
-fn expect_pairs<R: Abort>(rt: &R, alloc: Global, owner: &mut Owner, more: u32) -> Result<(), Fail>
+fn expect_pairs(alloc: Global, owner: &mut Owner, more: u32) -> Result<(), Fail>
     requires { owner.old.next ≡ None }
     ensures { owner.new.next ≡ None }
 {
     let mut given = "ZADD many".to_string(alloc)?;
     let mut told = String::new(alloc);
     note_pairs(alloc, more, &mut given, &mut told)?;
-    expect_effects(rt, alloc, owner, &[(given.as_str(), told.as_str())])
+    expect_effect(alloc, owner, given.as_str(), told.as_str())
 }
 
-// As many members are added, and then each gets another score.
-pub fn expect_many<R: Abort>(rt: &R, alloc: Global, owner: &mut Owner) -> Result<(), Fail>
+/// As many members are added, and then each gets another score.
+pub fn expect_many(alloc: Global, owner: &mut Owner) -> Result<(), Fail>
     requires { owner.old.next ≡ None }
-    ensures { owner.new.next ≡ None }
 {
-    for more in [0, 1] {
-        expect_pairs(rt, alloc, owner, more)?;
-    }
-    Ok(())
-}
-
-#[test]
-fn the_longest_effects_are_told(rt: HostRuntime) -> Result<(), Fail> {
-    expect_of_owner(&rt, Trial::ManyEffects)
+    expect_pairs(alloc, owner, 0)?;
+    expect_pairs(alloc, owner, 1)
 }

@@ -1,14 +1,13 @@
 ghost use Rattle.std.specs.Prelude.{◌≡◌, None, IfOk, IsSome, OnOk, OnErr, option_map};
 ghost use Rattle.zset_core.specs.AbstractCommand.{key_of};
 
-use crate::trials::{Trial, expect_of_owner};
+use crate::effects::EFFECTS;
+use crate::trials::{Trial, expect_of_owners};
 use crack_kernel::Row;
 use resp_wire::{Bytes, BytesList, Reply, Request, write_reply};
 use std::alloc::Global;
 use std::hash::RandomState;
-use std::process::Abort;
-use std::random::RandomSource;
-use std::test::*;
+use std::test::Fail;
 use zset_core::{Command, OneOwner, Outline};
 
 pub type Owner = OneOwner<RandomState, Global>;
@@ -30,11 +29,9 @@ pub fn command(alloc: Global, text: &str) -> Result<Command<Global>, Fail> {
     }
 }
 
-/// An owner without sets.
-pub fn new_owner<R: AllocGlobal + RandomSource>(rt: &R) -> Result<Owner, Fail>
-    ensures { IfOk result (λ owner. owner.next ≡ None) }
-{
-    Ok(OneOwner::new(rt.alloc(), RandomState::new(rt)?))
+/// Fails with a text where something is not so.
+pub fn expect_that(is_so: bool, text: &str) -> Result<(), Fail> {
+    if is_so { Ok(()) } else { Err(Fail::new(text)) }
 }
 
 /// The bytes of a reply, an end of line as `~`.
@@ -61,7 +58,7 @@ pub fn reply_to(alloc: Global, owner: &mut Owner, text: &str) -> Result<String, 
 }
 
 // Commands in turn, with their replies. Each key begins an example of its own.
-const EXAMPLES: [(&str, &str); 67] = [
+const EXAMPLES: &[(&str, &str)] = &[
     ("PING", "+PONG~"),
     ("PING hi", "$2~hi~"),
     ("ZADD one 5 a", ":1~"),
@@ -144,29 +141,28 @@ const EXAMPLES: [(&str, &str); 67] = [
     ),
 ];
 
-// Commands in turn on one owner's sets, with their replies.
-pub fn expect_replies<R: Abort>(
-    rt: &R,
-    alloc: Global,
-    owner: &mut Owner,
-    rows: &[(&str, &str)],
-) -> Result<(), Fail>
+/// A command on an owner's sets has this reply.
+pub fn expect_reply(alloc: Global, owner: &mut Owner, text: &str, want: &str) -> Result<(), Fail>
+    requires { owner.old.next ≡ None }
+    ensures { owner.new.next ≡ None }
+{
+    let reply = reply_to(alloc, owner, text)?;
+    expect_that(reply.as_str() == want, text)
+}
+
+/// Commands in turn on one owner's sets, with their replies.
+pub fn expect_replies(alloc: Global, owner: &mut Owner, rows: &[(&str, &str)]) -> Result<(), Fail>
     requires { owner.old.next ≡ None }
     ensures { owner.new.next ≡ None }
 {
     for (text, want) in rows {
-        assert_eq!(rt; reply_to(alloc, owner, text)?.as_str(), *want, "{text}");
+        expect_reply(alloc, owner, text, want)?;
     }
     Ok(())
 }
 
-#[test]
-fn examples_are_answered(rt: HostRuntime) -> Result<(), Fail> {
-    expect_of_owner(&rt, Trial::Replies(&EXAMPLES))
-}
-
-// What a command that changes sets is prepared to do in its set.
-fn outline_of(alloc: Global, owner: &mut Owner, text: &str) -> Result<Outline, Fail>
+// How many members a command that changes sets is prepared to add and to take out, and whether it changes its set.
+fn outline_of(alloc: Global, owner: &mut Owner, text: &str) -> Result<(usize, usize, bool), Fail>
     requires { owner.old.next ≡ None }
     ensures { owner.new.next ≡ None }
 {
@@ -178,7 +174,12 @@ fn outline_of(alloc: Global, owner: &mut Owner, text: &str) -> Result<Outline, F
         Err(_) => Err("refused")?,
         Ok(outline) => {
             owner.drop_prepared(&command);
-            Ok(outline)
+            let Outline {
+                added,
+                removed,
+                changed,
+            } = outline;
+            Ok((added, removed, changed))
         }
     }
 }
@@ -198,40 +199,27 @@ const OUTLINES: [(&str, (usize, usize, bool)); 9] = [
 ];
 
 // A command's outline is as wanted.
-fn expect_outline<R: Abort>(
-    rt: &R,
+fn expect_outline(
     alloc: Global,
     owner: &mut Owner,
     text: &str,
-    counts: (usize, usize, bool),
+    want: (usize, usize, bool),
 ) -> Result<(), Fail>
     requires { owner.old.next ≡ None }
     ensures { owner.new.next ≡ None }
 {
-    let (added, removed, changed) = counts;
-    let want = Outline {
-        added,
-        removed,
-        changed,
-    };
-    assert_eq!(rt; outline_of(alloc, owner, text)?, want, "{text}");
-    Ok(())
+    expect_that(outline_of(alloc, owner, text)? == want, text)
 }
 
-// They are those of a set with two members, which stays.
-pub fn expect_outlines<R: Abort>(rt: &R, alloc: Global, owner: &mut Owner) -> Result<(), Fail>
+/// The outlines are those of a set with two members, which stays.
+pub fn expect_outlines(alloc: Global, owner: &mut Owner) -> Result<(), Fail>
     requires { owner.old.next ≡ None }
 {
-    expect_replies(rt, alloc, owner, &[("ZADD k 1 a 2 b", ":2~")])?;
-    for (text, counts) in OUTLINES {
-        expect_outline(rt, alloc, owner, text, counts)?;
+    expect_reply(alloc, owner, "ZADD k 1 a 2 b", ":2~")?;
+    for (text, counts) in &OUTLINES {
+        expect_outline(alloc, owner, text, *counts)?;
     }
-    expect_replies(rt, alloc, owner, &[("ZCARD k", ":2~")])
-}
-
-#[test]
-fn outlines_tell_the_change(rt: HostRuntime) -> Result<(), Fail> {
-    expect_of_owner(&rt, Trial::Outlines)
+    expect_reply(alloc, owner, "ZCARD k", ":2~")
 }
 
 // Sets at two keys, and one that is gone again.
@@ -242,44 +230,61 @@ const TWO_KEYS: [(&str, &str); 4] = [
     ("ZREM empty a", ":1~"),
 ];
 
-// The keys are listed in the order of their bytes.
-fn expect_keys<R: Abort>(rt: &R, owner: &Owner)
+// Whether there is a key, which is this.
+fn is_key(key: Option<&[u8]>, want: &[u8]) -> bool {
+    match key {
+        None => false,
+        Some(bytes) => bytes == want,
+    }
+}
+
+// Whether the keys are listed in the order of their bytes.
+fn has_two_keys(owner: &Owner) -> bool
     requires { owner.now.next ≡ None }
 {
-    let first = Some(b"j".as_slice());
-    let keys = [
-        owner.key_at(0),
-        owner.key_at(1),
-        owner.key_at(2),
-        owner.key_after(None),
-    ];
-    assert!(rt; keys == [first, Some(b"k".as_slice()), None, first]);
-    assert!(rt; owner.key_count() == 2 && owner.set(b"empty".as_slice()).is_none());
+    is_key(owner.key_at(0), b"j")
+        && is_key(owner.key_at(1), b"k")
+        && owner.key_at(2).is_none()
+        && is_key(owner.key_after(None), b"j")
+        && owner.key_count() == 2
+        && owner.set(b"empty").is_none()
 }
 
-// Whether rows are these members, each with the score 1.
-fn are_rows(rows: &[Row<Global>], members: &[&[u8]]) -> bool {
-    for (row, member) in rows.iter().zip(members) {
-        if row.score() != 1 || row.member() != *member {
-            return false;
+// Whether a row has this member and the score 1.
+fn is_row(row: &Row<Global>, member: &[u8]) -> bool {
+    row.score() == 1 && row.member() == member
+}
+
+// Whether rows are just those at `k`.
+fn are_rows_of_k(rows: &[Row<Global>]) -> bool {
+    match rows {
+        [first, second, third] => {
+            is_row(first, b"B") && is_row(second, b"a") && is_row(third, b"b")
         }
+        _ => false,
     }
-    rows.len() == members.len()
 }
 
-pub fn expect_listed<R: Abort>(rt: &R, alloc: Global, owner: &mut Owner) -> Result<(), Fail>
+/// The keys of sets and the pairs of one are listed in order.
+pub fn expect_listed(alloc: Global, owner: &mut Owner) -> Result<(), Fail>
     requires { owner.old.next ≡ None }
 {
-    expect_replies(rt, alloc, owner, &TWO_KEYS)?;
-    expect_keys(rt, owner);
+    expect_replies(alloc, owner, &TWO_KEYS)?;
+    expect_that(has_two_keys(owner), "two keys")?;
     let rows = owner.pairs(b"k".as_slice())?;
-    assert!(rt; are_rows(&rows, &MEMBERS));
-    Ok(())
+    expect_that(are_rows_of_k(&rows), "the pairs of a key")
 }
 
-const MEMBERS: [&[u8]; 3] = [b"B", b"a", b"b"];
+const ANSWERED: &[Trial] = &[Trial::Replies(EXAMPLES), Trial::Listed];
 
 #[test]
-fn keys_and_pairs_are_listed(rt: HostRuntime) -> Result<(), Fail> {
-    expect_of_owner(&rt, Trial::Listed)
+fn examples_are_answered(rt: HostRuntime) -> Result<(), Fail> {
+    expect_of_owners(&rt, ANSWERED)
+}
+
+const TOLD: &[Trial] = &[Trial::Outlines, Trial::Effects(EFFECTS), Trial::ManyEffects];
+
+#[test]
+fn changes_are_told_before_they_are_made(rt: HostRuntime) -> Result<(), Fail> {
+    expect_of_owners(&rt, TOLD)
 }

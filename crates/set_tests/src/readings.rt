@@ -1,11 +1,10 @@
-use crate::examples::{command, request};
+use crate::examples::{command, expect_that, request};
 use std::alloc::Global;
-use std::process::Abort;
-use std::test::*;
+use std::test::Fail;
 use zset_core::{Command, Refusal};
 
 // Requests that are refused, and the refusals.
-const REFUSED: [(&str, Refusal); 45] = [
+const REFUSED: [(&str, Refusal); 60] = [
     ("FOO", Refusal::UnknownCommand),
     ("", Refusal::UnknownCommand),
     ("ZREMRANGEBYRANK k 1 2", Refusal::UnknownCommand),
@@ -57,10 +56,7 @@ const REFUSED: [(&str, Refusal); 45] = [
         "ZRANGEBYSCORE k 1 2 LIMIT y 0 LIMIT 3 1",
         Refusal::BadInteger,
     ),
-];
-
-// Requests of ZADD that are refused for their options, or for what is asked before and behind these.
-const REFUSED_OPTIONS: [(&str, Refusal); 15] = [
+    // options of ZADD, or what is asked before and behind these
     ("ZADD k GT LT", Refusal::Syntax),
     ("ZADD k NX GT 1 a 2", Refusal::Syntax),
     ("ZADD k GTX 1 a", Refusal::Syntax),
@@ -86,22 +82,27 @@ fn refusal_of(alloc: Global, text: &str) -> Result<Option<Refusal>, Fail> {
     }
 }
 
-#[test]
-fn refused_requests(rt: HostRuntime) -> Result<(), Fail> {
-    for (text, refusal) in REFUSED.iter().chain(&REFUSED_OPTIONS) {
-        assert_eq!(rt; refusal_of(rt.alloc(), text)?, Some(*refusal), "at {text}");
-    }
-    Ok(())
+// A request is refused, by a refusal that is shown by its text.
+fn expect_refused(alloc: Global, text: &str, refusal: Refusal) -> Result<(), Fail> {
+    expect_that(refusal_of(alloc, text)? == Some(refusal), text)?;
+    let shown = refusal.to_string(alloc)?;
+    expect_that(shown.as_str() == refusal.text(), text)
 }
 
 // No command has a name as long as an argument may be.
+fn expect_long_name_refused(alloc: Global) -> Result<(), Fail> {
+    let name = "P".repeat(alloc, 65_536)?;
+    expect_refused(alloc, &name, Refusal::UnknownCommand)
+}
+
 #[test]
-fn the_longest_name_is_unknown(rt: HostRuntime) -> Result<(), Fail> {
-    let name = "P".repeat(rt.alloc(), 65_536)?;
-    assert_eq!(rt;
-        refusal_of(rt.alloc(), &name)?,
-        Some(Refusal::UnknownCommand)
-    );
+fn requests_are_refused(rt: HostRuntime) -> Result<(), Fail> {
+    for (text, refusal) in &REFUSED {
+        expect_refused(rt.alloc(), text, *refusal)?;
+    }
+    expect_long_name_refused(rt.alloc())?;
+    assert!(rt; Refusal::OutOfStep.number() == 17);
+    assert!(rt; Refusal::NoMemory.text() == "ERR 1 out of memory");
     Ok(())
 }
 
@@ -138,41 +139,25 @@ const READ: [(&str, Option<&str>, bool, bool); 19] = [
     ),
 ];
 
-// Reads a request: whether it has this key, whether it writes and creates, and whether its words are kept.
-fn reading_of(
+// A request is read: with this key or none, writing and creating as wanted, and with its words kept.
+fn expect_read(
     alloc: Global,
     text: &str,
     key: Option<&str>,
-) -> Result<(bool, bool, bool, bool), Fail> {
+    writes_and_creates: (bool, bool),
+) -> Result<(), Fail> {
     let command = command(alloc, text)?;
     let words = request(alloc, text)?;
     let has_key = command.key() == key.map(|k| k.as_bytes());
     let has_words = command.request().words() == words.words();
-    Ok((has_key, command.writes(), command.creates(), has_words))
+    let does_as_wanted = (command.writes(), command.creates()) == writes_and_creates;
+    expect_that(has_key && has_words && does_as_wanted, text)
 }
 
 #[test]
-fn read_requests(rt: HostRuntime) -> Result<(), Fail> {
+fn requests_are_read(rt: HostRuntime) -> Result<(), Fail> {
     for (text, key, writes, creates) in &READ {
-        let reading = reading_of(rt.alloc(), text, *key)?;
-        assert_eq!(rt; reading, (true, *writes, *creates, true), "at {text}");
+        expect_read(rt.alloc(), text, *key, (*writes, *creates))?;
     }
-    Ok(())
-}
-
-// A refusal is shown by its text.
-fn expect_shown<R: Abort>(rt: &R, alloc: Global, refusal: Refusal) -> Result<(), Fail> {
-    let shown = refusal.to_string(alloc)?;
-    assert_eq!(rt; shown.as_str(), refusal.text());
-    Ok(())
-}
-
-#[test]
-fn refusal_texts(rt: HostRuntime) -> Result<(), Fail> {
-    for (_, refusal) in &REFUSED {
-        expect_shown(&rt, rt.alloc(), *refusal)?;
-    }
-    assert_eq!(rt; Refusal::OutOfStep.number(), 17);
-    assert_eq!(rt; Refusal::NoMemory.text(), "ERR 1 out of memory");
     Ok(())
 }

@@ -1,5 +1,7 @@
+use crate::examples::expect_that;
 use score_bounds::{Bound, Cut, Range, read_integer, read_score, write_score};
-use std::test::*;
+use std::alloc::Global;
+use std::test::Fail;
 
 // Texts of scores and the numbers that they spell, `None` where they spell none.
 const SCORES: [(&[u8], Option<i64>); 24] = [
@@ -29,13 +31,6 @@ const SCORES: [(&[u8], Option<i64>); 24] = [
     (b"\xff", None),
 ];
 
-#[test]
-fn score_texts(rt: HostRuntime) {
-    for (text, score) in &SCORES {
-        assert_eq!(rt; read_score(text), *score);
-    }
-}
-
 // Texts of integers and the numbers that they spell.
 const INTEGERS: [(&[u8], Option<i64>); 4] = [
     (b"-12", Some(-12)),
@@ -44,32 +39,46 @@ const INTEGERS: [(&[u8], Option<i64>); 4] = [
     (b"", None),
 ];
 
-#[test]
-fn integer_texts(rt: HostRuntime) {
-    for (text, integer) in &INTEGERS {
-        assert_eq!(rt; read_integer(text), *integer);
+// A text, or words in its place where its bytes are no text.
+fn name_of(text: &[u8]) -> &str {
+    match std::str::from_utf8(text) {
+        Ok(name) => name,
+        Err(_) => "bytes that are no text",
     }
 }
 
-#[test]
-fn long_texts(rt: HostRuntime) -> Result<(), Fail> {
-    let mut text = vec![in rt.alloc(); b'0'; 1000]?;
+// A long text of zeros with `7` behind it spells 7, with a point behind that nothing, and with `0` behind the point 7
+// again.
+fn expect_long_texts(alloc: Global) -> Result<(), Fail> {
+    let mut text = vec![in alloc; b'0'; 1000]?;
     for (next, score) in [(b'7', Some(7)), (b'.', None), (b'0', Some(7))] {
         text.push(next)?;
-        assert_eq!(rt; read_score(&text), score);
+        expect_that(read_score(&text) == score, "a long text")?;
     }
     Ok(())
 }
 
 #[test]
-fn printed_texts(rt: HostRuntime) -> Result<(), Fail> {
+fn texts_of_scores_are_read(rt: HostRuntime) -> Result<(), Fail> {
+    for (text, score) in &SCORES {
+        expect_that(read_score(text) == *score, name_of(text))?;
+    }
+    for (text, integer) in &INTEGERS {
+        expect_that(read_integer(text) == *integer, name_of(text))?;
+    }
+    expect_long_texts(rt.alloc())
+}
+
+const PRINTED: &[u8] = b"-3 0 42 -9223372036854775808 9223372036854775807 ";
+
+#[test]
+fn scores_are_printed(rt: HostRuntime) -> Result<(), Fail> {
     let mut out = Vec::new(rt.alloc());
     for score in [-3, 0, 42, i64::MIN, i64::MAX] {
         write_score(score, &mut out)?;
         out.push(b' ')?;
     }
-    let expected: &[u8] = b"-3 0 42 -9223372036854775808 9223372036854775807 ";
-    assert_eq!(rt; out.as_slice(), expected);
+    assert!(rt; out.as_slice() == PRINTED);
     Ok(())
 }
 
@@ -94,17 +103,12 @@ const BOUNDS: [(&[u8], Option<Bound>); 17] = [
     (b"infinity", None),
 ];
 
-#[test]
-fn bound_texts(rt: HostRuntime) {
-    for (text, bound) in &BOUNDS {
-        let both = bound.map(|end| Range { min: end, max: end });
-        let reads = (
-            Range::read(b"1", text).is_some(),
-            Range::read(text, b"2").is_some(),
-        );
-        let wanted = (both, (bound.is_some(), bound.is_some()));
-        assert_eq!(rt; (Range::read(text, text), reads), wanted);
-    }
+// Whether a text is read as this bound, at both ends of a range and at each.
+fn is_read_as(text: &[u8], bound: Option<Bound>) -> bool {
+    let both = bound.map(|end| Range { min: end, max: end });
+    let as_max = Range::read(b"1", text).is_some();
+    let as_min = Range::read(text, b"2").is_some();
+    Range::read(text, text) == both && as_max == bound.is_some() && as_min == bound.is_some()
 }
 
 // Two bounds, a score, whether it is in their range, and the cuts.
@@ -160,17 +164,23 @@ const RANGES: [(&[u8], &[u8], i64, bool, (Cut, Cut)); 13] = [
     (b"-inf", b"-inf", 5, false, (Cut::Start, Cut::Start)),
 ];
 
-#[test]
-fn ranges(rt: HostRuntime) -> Result<(), Fail> {
-    for (min, max, score, is_in, cuts) in &RANGES {
-        let range = Range::read(min, max).ok_or("no range")?;
-        assert_eq!(rt; (range.contains(*score), range.cuts()), (*is_in, *cuts));
+// Whether two bounds are read as a range with these cuts, which has the score or not, as wanted.
+fn is_range(min: &[u8], max: &[u8], score: i64, is_in: bool, cuts: (Cut, Cut)) -> bool {
+    match Range::read(min, max) {
+        None => false,
+        Some(range) => range.contains(score) == is_in && range.cuts() == cuts,
     }
-    Ok(())
 }
 
 #[test]
-fn cuts_in_order(rt: HostRuntime) {
+fn bounds_are_read_and_ranges_are_cut(rt: HostRuntime) -> Result<(), Fail> {
+    for (text, bound) in &BOUNDS {
+        expect_that(is_read_as(text, *bound), name_of(text))?;
+    }
+    for (min, max, score, is_in, cuts) in &RANGES {
+        expect_that(is_range(min, max, *score, *is_in, *cuts), name_of(min))?;
+    }
     let are_ends_outside = Cut::Start < Cut::At(i64::MIN) && Cut::At(i64::MAX) < Cut::End;
     assert!(rt; are_ends_outside && Cut::At(-1) < Cut::At(0));
+    Ok(())
 }

@@ -2,11 +2,10 @@
 
 ghost use Rattle.std.specs.Prelude.{◌≡◌, None};
 
-use crate::examples::{Owner, reply_to};
-use crate::trials::{Trial, expect_of_owner};
+use crate::examples::{Owner, expect_replies, expect_reply, expect_that};
+use crate::trials::{Trial, expect_of_owners};
 use ripple_column::Column;
 use std::alloc::Global;
-use std::process::Abort;
 use std::test::Fail;
 
 /// The most pairs of one ZADD.
@@ -37,62 +36,25 @@ fn removal(alloc: Global, count: u32) -> Result<String, Fail> {
     Ok(text)
 }
 
-/// `ZREM missing` with as many members as there may be, each of which is `x`.
-fn removal_of_one_name(alloc: Global) -> Result<String, Fail> {
-    let names = " x".repeat(alloc, NAMES as usize)?;
-    Ok(format!(in alloc; "ZREM missing{names}")?)
-}
-
-/// Commands in turn, with their replies.
-fn expect(alloc: Global, owner: &mut Owner, talk: &[(&str, &str)]) -> Result<(), Fail>
-    requires { owner.old.next ≡ None }
-    ensures { owner.new.next ≡ None }
-{
-    for (text, wanted) in talk {
-        expect_one(alloc, owner, text, wanted)?;
-    }
-    Ok(())
-}
-
-/// 500 members are added, from a number on.
-fn add_more(alloc: Global, owner: &mut Owner, from: u32) -> Result<(), Fail>
-    requires { owner.old.next ≡ None }
-    ensures { owner.new.next ≡ None }
-{
-    let text = addition(alloc, from, 500)?;
-    expect_one(alloc, owner, text.as_str(), ":500~")
-}
-
 /// A set of so many times 500 members.
 fn fill(alloc: Global, owner: &mut Owner, times: u32) -> Result<(), Fail>
     requires { owner.old.next ≡ None }
     ensures { owner.new.next ≡ None }
 {
     for turn in 0..times {
-        add_more(alloc, owner, turn.saturating_mul(500))?;
+        expect_added(alloc, owner, turn.saturating_mul(500), 500)?;
     }
     Ok(())
 }
 
-/// A command is answered with this reply.
-fn expect_one(alloc: Global, owner: &mut Owner, text: &str, wanted: &str) -> Result<(), Fail>
-    requires { owner.old.next ≡ None }
-    ensures { owner.new.next ≡ None }
-{
-    if reply_to(alloc, owner, text)?.as_str() != wanted {
-        return Err("another reply")?;
-    }
-    Ok(())
-}
-
-/// So many members are added from `m0` on, all of which are new.
-fn expect_added(alloc: Global, owner: &mut Owner, pairs: u32) -> Result<(), Fail>
+/// So many members are added, from a number on, all of which are new.
+fn expect_added(alloc: Global, owner: &mut Owner, from: u32, pairs: u32) -> Result<(), Fail>
     requires { owner.old.next ≡ None }
     ensures { owner.new.next ≡ None }
 {
     let wanted = format!(in alloc; ":{pairs}~")?;
-    let text = addition(alloc, 0, pairs)?;
-    expect_one(alloc, owner, text.as_str(), wanted.as_str())
+    let text = addition(alloc, from, pairs)?;
+    expect_reply(alloc, owner, text.as_str(), wanted.as_str())
 }
 
 /// A removal of so many names takes so many members out.
@@ -102,16 +64,17 @@ fn expect_removed(alloc: Global, owner: &mut Owner, names: u32, members: u32) ->
 {
     let wanted = format!(in alloc; ":{members}~")?;
     let text = removal(alloc, names)?;
-    expect_one(alloc, owner, text.as_str(), wanted.as_str())
+    expect_reply(alloc, owner, text.as_str(), wanted.as_str())
 }
 
-/// As many names as there may be, each of a missing member.
+/// As many names as there may be, each of a missing member, `x`.
 fn expect_none_removed(alloc: Global, owner: &mut Owner) -> Result<(), Fail>
     requires { owner.old.next ≡ None }
     ensures { owner.new.next ≡ None }
 {
-    let text = removal_of_one_name(alloc)?;
-    expect_one(alloc, owner, text.as_str(), ":0~")
+    let names = " x".repeat(alloc, NAMES as usize)?;
+    let text = format!(in alloc; "ZREM missing{names}")?;
+    expect_reply(alloc, owner, text.as_str(), ":0~")
 }
 
 /// Words that name a missing member, that add members, and that take them and more out again.
@@ -119,15 +82,10 @@ pub fn expect_longest(alloc: Global, owner: &mut Owner) -> Result<(), Fail>
     requires { owner.old.next ≡ None }
 {
     expect_none_removed(alloc, owner)?;
-    expect_added(alloc, owner, PAIRS)?;
-    expect_one(alloc, owner, "ZCOUNT k 100 199", ":100~")?;
+    expect_added(alloc, owner, 0, PAIRS)?;
+    expect_reply(alloc, owner, "ZCOUNT k 100 199", ":100~")?;
     expect_removed(alloc, owner, NAMES, PAIRS)?;
-    expect_one(alloc, owner, "ZCARD k", ":0~")
-}
-
-#[test]
-fn the_longest_commands_are_answered(rt: HostRuntime) -> Result<(), Fail> {
-    expect_of_owner(&rt, Trial::Longest)
+    expect_reply(alloc, owner, "ZCARD k", ":0~")
 }
 
 /// Commands with their replies, in which `_` stands for a long member.
@@ -150,9 +108,10 @@ fn expect_of_member(
 {
     let text = row.0.replace(alloc, "_", member)?;
     let wanted = row.1.replace(alloc, "_", member)?;
-    expect_one(alloc, owner, text.as_str(), wanted.as_str())
+    expect_reply(alloc, owner, text.as_str(), wanted.as_str())
 }
 
+/// The longest member is kept.
 pub fn expect_kept(alloc: Global, owner: &mut Owner) -> Result<(), Fail>
     requires { owner.old.next ≡ None }
 {
@@ -163,11 +122,6 @@ pub fn expect_kept(alloc: Global, owner: &mut Owner) -> Result<(), Fail>
     Ok(())
 }
 
-#[test]
-fn the_longest_member_is_kept(rt: HostRuntime) -> Result<(), Fail> {
-    expect_of_owner(&rt, Trial::LongMember)
-}
-
 /// A member of so many bytes is added.
 fn expect_length(alloc: Global, owner: &mut Owner, bytes: usize) -> Result<(), Fail>
     requires { owner.old.next ≡ None }
@@ -175,7 +129,7 @@ fn expect_length(alloc: Global, owner: &mut Owner, bytes: usize) -> Result<(), F
 {
     let member = "m".repeat(alloc, bytes)?;
     let text = format!(in alloc; "ZADD k {bytes} {member}")?;
-    expect_one(alloc, owner, text.as_str(), ":1~")
+    expect_reply(alloc, owner, text.as_str(), ":1~")
 }
 
 /// Members of each length up to 299 bytes are kept.
@@ -185,17 +139,8 @@ pub fn expect_each_length(alloc: Global, owner: &mut Owner) -> Result<(), Fail>
     for bytes in 0..300usize {
         expect_length(alloc, owner, bytes)?;
     }
-    expect_one(alloc, owner, "ZCARD k", ":300~")
+    expect_reply(alloc, owner, "ZCARD k", ":300~")
 }
-
-// There is memory, so none is refused.
-#[test]
-fn members_of_each_length_are_kept(rt: HostRuntime) -> Result<(), Fail> {
-    expect_of_owner(&rt, Trial::EachLength)
-}
-
-/// From which number of names on, and before which, a removal of each is asked for: few ones, and the most.
-const NUMBERS_OF_NAMES: [(u32, u32); 2] = [(1, 100), (1_005, 1_026)];
 
 /// As many members are added as a removal of so many names takes out again.
 fn expect_number(alloc: Global, owner: &mut Owner, names: u32) -> Result<(), Fail>
@@ -203,7 +148,7 @@ fn expect_number(alloc: Global, owner: &mut Owner, names: u32) -> Result<(), Fai
     ensures { owner.new.next ≡ None }
 {
     let pairs = names.min(PAIRS);
-    expect_added(alloc, owner, pairs)?;
+    expect_added(alloc, owner, 0, pairs)?;
     expect_removed(alloc, owner, names, pairs)
 }
 
@@ -218,22 +163,17 @@ fn expect_numbers(alloc: Global, owner: &mut Owner, from: u32, to: u32) -> Resul
     Ok(())
 }
 
+/// Removals of few names are answered, and of the most.
 pub fn expect_each_number(alloc: Global, owner: &mut Owner) -> Result<(), Fail>
     requires { owner.old.next ≡ None }
 {
-    for (from, to) in NUMBERS_OF_NAMES {
-        expect_numbers(alloc, owner, from, to)?;
-    }
-    expect_one(alloc, owner, "ZCARD k", ":0~")
-}
-
-#[test]
-fn commands_of_each_length_are_answered(rt: HostRuntime) -> Result<(), Fail> {
-    expect_of_owner(&rt, Trial::EachNumber)
+    expect_numbers(alloc, owner, 1, 100)?;
+    expect_numbers(alloc, owner, 1_005, 1_026)?;
+    expect_reply(alloc, owner, "ZCARD k", ":0~")
 }
 
 /// Commands on 120,000 members, with their replies.
-const OF_A_LARGE_SET: [(&str, &str); 9] = [
+const OF_A_LARGE_SET: &[(&str, &str)] = &[
     ("ZCARD k", ":120000~"),
     ("ZCOUNT k 1000 (2000", ":1000~"),
     ("ZADD k 1500 x", ":1~"),
@@ -259,12 +199,7 @@ pub fn expect_of_members(
     ensures { owner.new.next ≡ None }
 {
     fill(alloc, owner, times)?;
-    expect(alloc, owner, talk)
-}
-
-#[test]
-fn a_large_set_is_answered(rt: HostRuntime) -> Result<(), Fail> {
-    expect_of_owner(&rt, Trial::OfMembers(240, &OF_A_LARGE_SET))
+    expect_replies(alloc, owner, talk)
 }
 
 /// How many rows stand between the pivots around a place.
@@ -288,25 +223,19 @@ fn rows_of_k(owner: &Owner, place: usize) -> usize {
     }
 }
 
-// A window of a long set leaves short pieces, so that the next one reads few rows.
-pub fn expect_short_pieces<R: Abort>(rt: &R, alloc: Global, owner: &mut Owner) -> Result<(), Fail>
+/// A window of a long set leaves short pieces, so that the next one reads few rows.
+pub fn expect_short_pieces(alloc: Global, owner: &mut Owner) -> Result<(), Fail>
     requires { owner.old.next ≡ None }
 {
     expect_of_members(alloc, owner, 9, &[("ZCOUNT k -inf +inf", ":4500~")])?;
-    assert_eq!(rt; rows_of_k(owner, 2000), 4500);
+    expect_that(rows_of_k(owner, 2000) == 4500, "one long piece")?;
     let window = "ZRANGEBYSCORE k -inf +inf LIMIT 2000 2";
-    expect_one(alloc, owner, window, "*2~$5~m2000~$5~m2001~")?;
-    assert!(rt; rows_of_k(owner, 2000) <= 1024);
-    Ok(())
-}
-
-#[test]
-fn a_window_leaves_short_pieces(rt: HostRuntime) -> Result<(), Fail> {
-    expect_of_owner(&rt, Trial::ShortPieces)
+    expect_reply(alloc, owner, window, "*2~$5~m2000~$5~m2001~")?;
+    expect_that(rows_of_k(owner, 2000) <= 1024, "a short piece")
 }
 
 /// Commands on 120,000 members, with their replies.
-const GREAT_RANGES: [(&str, &str); 8] = [
+const GREAT_RANGES: &[(&str, &str)] = &[
     ("ZREMRANGEBYSCORE k 1000 (101000", ":100000~"),
     ("ZCARD k", ":20000~"),
     ("ZSCORE k m1000", "$-1~"),
@@ -317,7 +246,29 @@ const GREAT_RANGES: [(&str, &str); 8] = [
     ("ZCOUNT k -inf +inf", ":0~"),
 ];
 
+const LARGEST: &[Trial] = &[
+    Trial::Longest,
+    Trial::LongMember,
+    Trial::EachLength,
+    Trial::EachNumber,
+];
+
+// There is memory, so none is refused.
+#[test]
+fn commands_and_members_as_large_as_may_be_are_answered(rt: HostRuntime) -> Result<(), Fail> {
+    expect_of_owners(&rt, LARGEST)
+}
+
+const LARGE_SETS: &[Trial] = &[Trial::ShortPieces, Trial::OfMembers(240, OF_A_LARGE_SET)];
+
+#[test]
+fn large_sets_are_answered(rt: HostRuntime) -> Result<(), Fail> {
+    expect_of_owners(&rt, LARGE_SETS)
+}
+
+const REMOVED: &[Trial] = &[Trial::OfMembers(240, GREAT_RANGES)];
+
 #[test]
 fn a_great_range_is_removed(rt: HostRuntime) -> Result<(), Fail> {
-    expect_of_owner(&rt, Trial::OfMembers(240, &GREAT_RANGES))
+    expect_of_owners(&rt, REMOVED)
 }

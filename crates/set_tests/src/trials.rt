@@ -1,23 +1,23 @@
-//! What tests ask of a new owner of sets, and of a new set. One function makes each, since it takes long to prove.
+//! What tests ask of new owners of sets, and of new sets. One function makes each, since it takes long to prove.
 
 ghost use Rattle.std.specs.Prelude.{◌≡◌, None};
 
 use crate::agreement::{Course, expect_course};
-use crate::columns::{Set, expect, expect_few_pivots, new_set};
+use crate::columns::{Set, expect, expect_few_pivots};
 use crate::effects::{expect_effects, expect_many};
-use crate::examples::{Owner, expect_listed, expect_outlines, expect_replies, new_owner};
+use crate::examples::{Owner, expect_listed, expect_outlines, expect_replies};
 use crate::sizes::{
     expect_each_length, expect_each_number, expect_kept, expect_longest, expect_of_members,
     expect_short_pieces,
 };
 use std::alloc::Global;
 use std::collections::BTreeMap;
-use std::process::Abort;
+use std::hash::RandomState;
 use std::random::RandomSource;
-use std::test::*;
+use std::test::Fail;
+use zset_core::{OneOwner, ZSet};
 
 /// What is asked of an owner.
-#[derive(Clone, Copy)]
 pub enum Trial {
     /// Commands in turn, with their replies.
     Replies(&'static [(&'static str, &'static str)]),
@@ -35,40 +35,41 @@ pub enum Trial {
     ShortPieces,
 }
 
-fn expect_trial<R: Abort>(
-    rt: &R,
-    alloc: Global,
-    owner: &mut Owner,
-    trial: Trial,
-) -> Result<(), Fail>
+fn expect_trial(alloc: Global, owner: &mut Owner, trial: &Trial) -> Result<(), Fail>
     requires { owner.old.next ≡ None }
 {
     match trial {
-        Trial::Replies(rows) => expect_replies(rt, alloc, owner, rows),
-        Trial::OfMembers(times, rows) => expect_of_members(alloc, owner, times, rows),
-        Trial::Effects(rows) => expect_effects(rt, alloc, owner, rows),
-        Trial::ManyEffects => expect_many(rt, alloc, owner),
-        Trial::Outlines => expect_outlines(rt, alloc, owner),
-        Trial::Listed => expect_listed(rt, alloc, owner),
+        Trial::Replies(rows) => expect_replies(alloc, owner, rows),
+        Trial::OfMembers(times, rows) => expect_of_members(alloc, owner, *times, rows),
+        Trial::Effects(rows) => expect_effects(alloc, owner, rows),
+        Trial::ManyEffects => expect_many(alloc, owner),
+        Trial::Outlines => expect_outlines(alloc, owner),
+        Trial::Listed => expect_listed(alloc, owner),
         Trial::Longest => expect_longest(alloc, owner),
         Trial::LongMember => expect_kept(alloc, owner),
         Trial::EachLength => expect_each_length(alloc, owner),
         Trial::EachNumber => expect_each_number(alloc, owner),
-        Trial::ShortPieces => expect_short_pieces(rt, alloc, owner),
+        Trial::ShortPieces => expect_short_pieces(alloc, owner),
     }
 }
 
-/// A new owner is as a trial asks.
-pub fn expect_of_owner<R: Abort + AllocGlobal + RandomSource>(
+fn expect_of_owner(alloc: Global, hasher: RandomState, trial: &Trial) -> Result<(), Fail> {
+    let mut owner = OneOwner::new(alloc, hasher);
+    expect_trial(alloc, &mut owner, trial)
+}
+
+/// For each trial a new owner is as it asks.
+pub fn expect_of_owners<R: AllocGlobal + RandomSource>(
     rt: &R,
-    trial: Trial,
+    trials: &[Trial],
 ) -> Result<(), Fail> {
-    let mut owner = new_owner(rt)?;
-    expect_trial(rt, rt.alloc(), &mut owner, trial)
+    for trial in trials {
+        expect_of_owner(rt.alloc(), RandomState::new(rt)?, trial)?;
+    }
+    Ok(())
 }
 
 /// What is asked of a set.
-#[derive(Clone, Copy)]
 pub enum SetTrial {
     /// Commands in turn, with their replies and with the column that they leave.
     Rows(&'static [(&'static str, &'static str, &'static str)]),
@@ -78,33 +79,35 @@ pub enum SetTrial {
 }
 
 /// A set is as a plain one beside it.
-fn expect_beside<R: Abort>(rt: &R, alloc: Global, set: &mut Set, course: Course) -> Result<(), Fail>
+fn expect_beside(alloc: Global, set: &mut Set, course: &Course) -> Result<(), Fail>
     requires { set.old.next ≡ None }
 {
     let mut plain = BTreeMap::new(alloc);
-    expect_course(rt, alloc, set, &mut plain, course)
+    expect_course(alloc, set, &mut plain, course)
 }
 
-fn expect_set_trial<R: Abort>(
-    rt: &R,
-    alloc: Global,
-    set: &mut Set,
-    trial: SetTrial,
-) -> Result<(), Fail>
+fn expect_set_trial(alloc: Global, set: &mut Set, trial: &SetTrial) -> Result<(), Fail>
     requires { set.old.next ≡ None }
 {
     match trial {
-        SetTrial::Rows(rows) => expect(rt, alloc, set, rows),
-        SetTrial::FewPivots => expect_few_pivots(rt, alloc, set),
-        SetTrial::Beside(course) => expect_beside(rt, alloc, set, course),
+        SetTrial::Rows(rows) => expect(alloc, set, rows),
+        SetTrial::FewPivots => expect_few_pivots(alloc, set),
+        SetTrial::Beside(course) => expect_beside(alloc, set, course),
     }
 }
 
-/// A new set is as a trial asks.
-pub fn expect_of_set<R: Abort + AllocGlobal + RandomSource>(
+fn expect_of_set(alloc: Global, hasher: RandomState, trial: &SetTrial) -> Result<(), Fail> {
+    let mut set = ZSet::with_hasher(alloc, hasher);
+    expect_set_trial(alloc, &mut set, trial)
+}
+
+/// For each trial a new set is as it asks.
+pub fn expect_of_sets<R: AllocGlobal + RandomSource>(
     rt: &R,
-    trial: SetTrial,
+    trials: &[SetTrial],
 ) -> Result<(), Fail> {
-    let mut set = new_set(rt)?;
-    expect_set_trial(rt, rt.alloc(), &mut set, trial)
+    for trial in trials {
+        expect_of_set(rt.alloc(), RandomState::new(rt)?, trial)?;
+    }
+    Ok(())
 }

@@ -2,4 +2,4 @@ use Rattle.std.proofs.Common.{◌≡◌, None}
 use Rattle.set_tests.proofs.agreement.agree.Given as goal
 
 abbrev pub invariant-loop : goal.invariant-loop
-invariant-loop g l = l.set.next ≡ None
+invariant-loop l = l.set.next ≡ None
