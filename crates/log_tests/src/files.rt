@@ -3,17 +3,19 @@
 ghost use Rattle.std.specs.Prelude.{◌≡◌, None};
 
 use crate::failing::{Fails, OF_ANOTHER};
-use crate::records::{LISTING, Logged, Owner, replies_to};
+use crate::owners::{Owner, owner_of, replies_to};
+use crate::records::LISTING;
+use crate::renewals;
 use crate::steps::{
-    EFFECT, HEADER, Opened, RECORD, Step, TORN, TORN_EFFECT, Tale, owner_of_record, taken,
-    taken_beside_a_reader, taken_beside_an_appender,
+    EFFECT, HEADER, Held, Opened, RECORD, Step, TORN, TORN_EFFECT, Tale, TaleOfTwo, taken,
+    taken_beside,
 };
 use append_log::{
     FileFault, FileSink, Loaded, Log, LoggedOwner, NewFileFault, OpenFault, ReloadFault,
     RewriteFault,
 };
 use std::alloc::Global;
-use std::fs::{self, File, OpenOptions};
+use std::fs::{File, OpenOptions};
 use std::marker::Brand;
 use std::sync::ledger::{Blank, Ledger};
 use std::test::Fail;
@@ -212,19 +214,14 @@ const TALES: [Tale; 13] = [
 
 #[test]
 fn files_go_as_told(rt: HostRuntime) -> Result<(), Fail> {
-    for (name, steps) in TALES.iter() {
-        let taken = taken(&rt, *steps)?;
-        assert!(rt; taken == steps.len(), "{name}: step {taken}");
+    for tales in [TALES.as_slice(), renewals::TALES.as_slice()] {
+        for (name, steps) in tales {
+            let taken = taken(&rt, *steps)?;
+            assert!(rt; taken == steps.len(), "{name}: step {taken}");
+        }
     }
     Ok(())
 }
-
-/// Beside a reader another one reads, and nobody appends.
-const BESIDE_A_READER: [Step; 3] = [
-    Step::Read("shared.append", Fails::Nothing, ONE_RECORD),
-    Step::Append("shared.append", Fails::Nothing, IN_USE),
-    Step::Remove("shared.append"),
-];
 
 /// The file of one record of version 1 is read.
 const ONE_RECORD: Opened = Ok(Loaded {
@@ -236,26 +233,39 @@ const ONE_RECORD: Opened = Ok(Loaded {
 
 const IN_USE: Opened = Err(OpenFault::File(FileFault::Locked));
 
-#[test]
-fn readers_share_a_file(rt: HostRuntime) -> Result<(), Fail> {
-    fs::write(&rt, "shared.append", RECORD)?;
-    let taken = taken_beside_a_reader(&rt, "shared.append", &BESIDE_A_READER)?;
-    assert_eq!(rt; taken, BESIDE_A_READER.len());
-    Ok(())
-}
-
-/// Beside a draft that another one writes, the file is not written anew.
-const BESIDE_A_DRAFT: [Step; 4] = [
-    Step::Rewrite("used.append", Fails::Nothing, DRAFT_IN_USE),
-    Step::IsMissing("used.append"),
-    Step::Has("used.append.new", HEADER),
-    Step::Remove("used.append.new"),
+const TALES_OF_TWO: [TaleOfTwo; 2] = [
+    (
+        "beside a reader another one reads, and nobody appends",
+        &[Step::Write("shared.append", RECORD)],
+        Held::ToRead("shared.append"),
+        &[
+            Step::Read("shared.append", Fails::Nothing, ONE_RECORD),
+            Step::Append("shared.append", Fails::Nothing, IN_USE),
+            Step::Remove("shared.append"),
+        ],
+    ),
+    (
+        "a draft in use is left alone",
+        &[],
+        Held::ToAppend("used.append.new"),
+        &[
+            Step::Rewrite("used.append", Fails::Nothing, DRAFT_IN_USE),
+            Step::IsMissing("used.append"),
+            Step::Has("used.append.new", HEADER),
+            Step::Remove("used.append.new"),
+        ],
+    ),
 ];
 
 #[test]
-fn a_draft_in_use_is_left_alone(rt: HostRuntime) -> Result<(), Fail> {
-    let taken = taken_beside_an_appender(&rt, "used.append.new", &BESIDE_A_DRAFT)?;
-    assert_eq!(rt; taken, BESIDE_A_DRAFT.len());
+fn files_in_use_go_as_told(rt: HostRuntime) -> Result<(), Fail> {
+    for tales in [TALES_OF_TWO.as_slice(), renewals::TALES_OF_TWO.as_slice()] {
+        for tale in tales {
+            let taken = taken_beside(&rt, tale)?;
+            let is_whole = taken == tale.1.len().saturating_add(tale.3.len());
+            assert!(rt; is_whole, "{}: step {taken}", tale.0);
+        }
+    }
     Ok(())
 }
 
@@ -269,19 +279,9 @@ const ON_A_FULL_DEVICE: [&str; 5] = [
 ];
 
 /// The replies to these of an owner whose changes go to a file, and whether the log is broken then.
-fn told_over<L: Ledger>(
-    alloc: Global,
-    mut owner: Logged<FileSink<File>, L>,
-) -> Result<(String, bool), Fail> {
-    let replies = replies_to(alloc, &mut owner, &ON_A_FULL_DEVICE)?;
-    let (_, log) = owner.into_parts();
-    Ok((replies, log.is_broken()))
-}
-
-/// The same of the owner of the record's set.
 fn played_over<L: Ledger>(
     alloc: Global,
-    owner: Owner,
+    owner: Owner<Global>,
     blank: Blank,
     file: File,
 ) -> Result<(String, bool), Fail>
@@ -291,15 +291,24 @@ fn played_over<L: Ledger>(
     requires idle { owner.next ≡ None }
 {
     let log = Log::<_, L>::new(blank, FileSink::new(file), 10);
-    told_over(alloc, LoggedOwner::new(alloc, owner, log))
+    let mut owner = LoggedOwner::new(alloc, owner, log);
+    let replies = replies_to(alloc, &mut owner, &ON_A_FULL_DEVICE);
+    let (sets, log) = owner.into_parts();
+    drop(sets);
+    let is_broken = log.is_broken();
+    drop(log);
+    Ok((replies?, is_broken))
 }
 
 #[test]
 fn a_full_device_breaks_the_log(rt: HostRuntime) -> Result<(), Fail> {
-    let owner = owner_of_record(&rt)?;
     let full = OpenOptions::new().write(true).open(&rt, "/dev/full")?;
+    let owner = owner_of(&rt, RECORD)?;
     let (replies, is_broken) = played_over::<Brand>(rt.alloc(), owner, Blank::new(2), full)?;
-    assert_eq!(rt; replies.as_str(), "r16 :1~ r14 :0~ *2~$1~a~$1~1~ ");
+    assert_eq!(rt;
+        replies.as_str(),
+        "-ERR 16 append file failed~ :1~ -ERR 14 append file failed earlier~ :0~ *2~$1~a~$1~1~ "
+    );
     assert!(rt; is_broken);
     Ok(())
 }

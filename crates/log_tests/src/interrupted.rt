@@ -3,7 +3,8 @@
 
 ghost use Rattle.std.specs.Prelude.{◌≡◌};
 
-use crate::records::{LISTING, Logged, THREE_RECORDS, answer, replies_to};
+use crate::owners::{Logged, answers, replies_to};
+use crate::records::{LISTING, THREE_RECORDS};
 use append_log::{FileSink, Loaded, Log, LogSink, LoggedOwner, ReloadFault, reload};
 use resp_wire::{ByteDrain, ByteSource, Reading, Writing};
 use std::alloc::Global;
@@ -109,7 +110,7 @@ impl OpenFile for Device<'_> {
 }
 
 /// A call of a reader, of a writer, or of a file that is a sink.
-#[derive(Clone, Copy, Debug)]
+#[derive(Clone, Copy)]
 enum Call {
     Read,
     Write,
@@ -118,12 +119,12 @@ enum Call {
     Sync,
 }
 
-const CALLS: [Call; 5] = [
-    Call::Read,
-    Call::Write,
-    Call::Flush,
-    Call::Append,
-    Call::Sync,
+const CALLS: [(&str, Call); 5] = [
+    ("read", Call::Read),
+    ("write", Call::Write),
+    ("flush", Call::Flush),
+    ("append", Call::Append),
+    ("sync", Call::Sync),
 ];
 
 /// Makes a call on a device; whether it is answered as it should be.
@@ -160,9 +161,9 @@ const ANSWERS: [(u32, (bool, u32, u32)); 5] = [
 
 #[test]
 fn an_interrupted_call_is_made_again(rt: HostRuntime) {
-    for call in CALLS {
+    for (name, call) in CALLS {
         for (times, wanted) in ANSWERS {
-            assert!(rt; interrupted(call, times) == wanted, "{call:?} {times}");
+            assert!(rt; interrupted(call, times) == wanted, "{name} {times}");
         }
     }
 }
@@ -183,15 +184,18 @@ fn is_reloaded(
     });
     let mut owner = OneOwner::new(rt.alloc(), RandomState::new(rt)?);
     let found = reload(rt.alloc(), &mut source, &mut owner, 35, 1000);
-    Ok(found == wanted && answer(rt.alloc(), &mut owner, LISTING)?.as_str() == listed)
+    let listed_then = answers(rt.alloc(), &mut owner, &[LISTING]);
+    drop(owner);
+    let listed_then = listed_then?;
+    Ok(found == wanted && listed_then.as_str() == listed)
 }
 
 /// How often each read of a reload is interrupted, what the reload gives, and the listing of k after it.
 const RELOADS: [(u32, Result<Loaded, ReloadFault>, &str); 4] = [
-    (1, WHOLE, "*2~$1~b~$1~2~"),
-    (2, WHOLE, "*2~$1~b~$1~2~"),
-    (99, WHOLE, "*2~$1~b~$1~2~"),
-    (100, Err(ReloadFault::ReadFault), "*0~"),
+    (1, WHOLE, "*2~$1~b~$1~2~ "),
+    (2, WHOLE, "*2~$1~b~$1~2~ "),
+    (99, WHOLE, "*2~$1~b~$1~2~ "),
+    (100, Err(ReloadFault::ReadFault), "*0~ "),
 ];
 
 /// All three records are reloaded.
@@ -210,22 +214,6 @@ fn an_interrupted_reload_reads_on(rt: HostRuntime) -> Result<(), Fail> {
     Ok(())
 }
 
-/// The owner of no sets, whose changes go to such a device as a file.
-fn owner_over<'a, L: Ledger>(
-    rt: &HostRuntime,
-    blank: Blank,
-    device: Device<'a>,
-) -> Result<Logged<FileSink<Device<'a>>, L>, Fail>
-    requires name { blank.name ≡ L.name }
-    requires parts { blank.parts ≡ L.parts }
-    requires two { blank.parts ≡ 2 }
-{
-    let alloc = rt.alloc();
-    let owner = OneOwner::new(alloc, RandomState::new(rt)?);
-    let log = Log::<_, L>::new(blank, FileSink::new(device), 100);
-    Ok(LoggedOwner::new(alloc, owner, log))
-}
-
 /// Changes, each of which makes a record of 35 bytes, and how many bytes are synced when it is answered.
 const CHANGES: [(&str, usize); 12] = [
     ("ZADD k 1 a", 35),
@@ -242,32 +230,22 @@ const CHANGES: [(&str, usize); 12] = [
     ("ZADD k 6 b", 420),
 ];
 
-/// How many bytes were synced when a change was answered.
-fn synced_behind<'a, L: Ledger>(
-    alloc: Global,
-    owner: &mut Logged<FileSink<Device<'a>>, L>,
-    tally: &Tally,
-    change: &str,
-) -> Result<usize, Fail> {
-    let _reply = replies_to(alloc, owner, &[change])?;
-    Ok(tally.synced.get())
-}
-
 /// Whether each change is synced before it is answered.
 fn are_synced<'a, L: Ledger>(
     alloc: Global,
-    owner: &mut Logged<FileSink<Device<'a>>, L>,
+    owner: &mut Logged<FileSink<Device<'a>>, L, Global>,
     tally: &Tally,
 ) -> Result<bool, Fail> {
     for (change, bytes) in CHANGES {
-        if synced_behind(alloc, owner, tally, change)? != bytes {
+        drop(replies_to(alloc, owner, &[change])?);
+        if tally.synced.get() != bytes {
             return Ok(false);
         }
     }
     Ok(true)
 }
 
-/// The same over a device each of whose calls is interrupted so many times.
+/// The same of an owner whose changes go to a device as a file, each of whose calls is interrupted so many times.
 fn are_synced_over<L: Ledger>(
     rt: &HostRuntime,
     blank: Blank,
@@ -277,14 +255,18 @@ fn are_synced_over<L: Ledger>(
     requires parts { blank.parts ≡ L.parts }
     requires two { blank.parts ≡ 2 }
 {
+    let hasher = RandomState::new(rt)?;
     let tally = Tally::new();
     let device = Device {
         interruptions,
         given: &[],
         tally: &tally,
     };
-    let mut owner = owner_over::<L>(rt, blank, device)?;
-    are_synced(rt.alloc(), &mut owner, &tally)
+    let log = Log::<_, L>::new(blank, FileSink::new(device), 100);
+    let mut owner = LoggedOwner::new(rt.alloc(), OneOwner::new(rt.alloc(), hasher), log);
+    let are_synced = are_synced(rt.alloc(), &mut owner, &tally);
+    drop(owner);
+    are_synced
 }
 
 #[test]

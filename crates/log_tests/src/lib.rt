@@ -13,6 +13,8 @@ mod files;
 #[cfg(test)]
 mod interrupted;
 #[cfg(test)]
+mod owners;
+#[cfg(test)]
 mod records;
 #[cfg(test)]
 mod removals;

@@ -1,12 +1,8 @@
 //! Files of version 1, which opening renews: a file of version 2 takes their place.
 
 use crate::failing::{Fails, OF_ANOTHER};
-use crate::steps::{
-    EFFECT, HEADER, Opened, RECORD, Step, TORN, Tale, taken, taken_beside_an_appender,
-};
+use crate::steps::{EFFECT, HEADER, Held, Opened, RECORD, Step, TORN, Tale, TaleOfTwo};
 use append_log::{FileFault, Loaded, NewFileFault, OpenFault, RewriteFault};
-use std::fs;
-use std::test::Fail;
 
 /// Commands with options, a removal of more than one, what stands for no request, and a torn end: 310 bytes.
 const OLD: &[u8] =
@@ -100,7 +96,7 @@ const DRAFT_IN_USE: Opened = Err(OpenFault::Renew(NewFileFault::File(FileFault::
 /// The file is renewed, and its folder not synced.
 const FOLDER_NOT_SYNCED: Opened = Err(OpenFault::Renew(NewFileFault::File(FileFault::Folder)));
 
-const TALES: [Tale; 11] = [
+pub const TALES: [Tale; 11] = [
     (
         "a file of commands is renewed",
         &[
@@ -255,43 +251,27 @@ const TALES: [Tale; 11] = [
     ),
 ];
 
-#[test]
-fn renewals_go_as_told(rt: HostRuntime) -> Result<(), Fail> {
-    for (name, steps) in TALES.iter() {
-        let taken = taken(&rt, *steps)?;
-        assert!(rt; taken == steps.len(), "{name}: step {taken}");
-    }
-    Ok(())
-}
-
-/// Beside a draft that another one writes, the file stays as it is.
-const BESIDE_A_DRAFT: [Step; 5] = [
-    Step::Append("busy.append", Fails::Nothing, DRAFT_IN_USE),
-    Step::Has("busy.append", RECORD),
-    Step::Has("busy.append.new", HEADER),
-    Step::Remove("busy.append"),
-    Step::Remove("busy.append.new"),
+pub const TALES_OF_TWO: [TaleOfTwo; 2] = [
+    (
+        "a draft in use keeps a file as it is",
+        &[Step::Write("busy.append", RECORD)],
+        Held::ToAppend("busy.append.new"),
+        &[
+            Step::Append("busy.append", Fails::Nothing, DRAFT_IN_USE),
+            Step::Has("busy.append", RECORD),
+            Step::Has("busy.append.new", HEADER),
+            Step::Remove("busy.append"),
+            Step::Remove("busy.append.new"),
+        ],
+    ),
+    (
+        "a renewed file is locked under its name",
+        &[Step::Write("locked.append", RECORD)],
+        Held::ToAppend("locked.append"),
+        &[
+            Step::Append("locked.append", Fails::Nothing, IN_USE),
+            Step::Read("locked.append", Fails::Nothing, IN_USE),
+            Step::Remove("locked.append"),
+        ],
+    ),
 ];
-
-#[test]
-fn a_draft_in_use_keeps_a_file_as_it_is(rt: HostRuntime) -> Result<(), Fail> {
-    fs::write(&rt, "busy.append", RECORD)?;
-    let taken = taken_beside_an_appender(&rt, "busy.append.new", &BESIDE_A_DRAFT)?;
-    assert_eq!(rt; taken, BESIDE_A_DRAFT.len());
-    Ok(())
-}
-
-/// Beside one who renewed a file and appends to it, nobody opens it.
-const BESIDE_AN_APPENDER: [Step; 3] = [
-    Step::Append("locked.append", Fails::Nothing, IN_USE),
-    Step::Read("locked.append", Fails::Nothing, IN_USE),
-    Step::Remove("locked.append"),
-];
-
-#[test]
-fn a_renewed_file_is_locked_under_its_name(rt: HostRuntime) -> Result<(), Fail> {
-    fs::write(&rt, "locked.append", RECORD)?;
-    let taken = taken_beside_an_appender(&rt, "locked.append", &BESIDE_AN_APPENDER)?;
-    assert_eq!(rt; taken, BESIDE_AN_APPENDER.len());
-    Ok(())
-}

@@ -3,18 +3,16 @@
 
 ghost use Rattle.std.specs.Prelude.{◌≡◌};
 
-use crate::want_of_memory::{command, number};
+use crate::owners::{Logged, command};
 use append_log::{Log, LoggedOwner, NoSink};
 use linked_list_allocator::LocalHeap;
+use resp_wire::Reply;
 use std::alloc::Global;
 use std::hash::RandomState;
 use std::marker::Brand;
 use std::sync::ledger::{Blank, Ledger};
 use std::test::*;
 use zset_core::{Command, OneOwner};
-
-/// An owner in such a heap whose changes go to a log that keeps nothing.
-type Logged<'h, L> = LoggedOwner<RandomState, NoSink, L, &'h LocalHeap>;
 
 /// The bytes of the heap.
 const HEAP: usize = 1 << 20;
@@ -54,15 +52,25 @@ fn take_room(heap: &LocalHeap) -> Result<Vec<u8, &LocalHeap>, Fail> {
     Ok(Vec::with_capacity(heap, room)?)
 }
 
-/// The number that an owner answers.
-fn answer<'h, L: Ledger>(owner: &mut Logged<'h, L>, command: &Command<&'h LocalHeap>) -> i64 {
-    number(&owner.run(command))
+/// The number that an owner answers, or that of its refusal below zero.
+fn answer<'h, L: Ledger>(
+    owner: &mut Logged<NoSink, L, &'h LocalHeap>,
+    command: &Command<&'h LocalHeap>,
+) -> i64 {
+    let answer = owner.run(command);
+    let number = match &answer {
+        Ok(Reply::Int(number)) => *number,
+        Ok(_) => 100,
+        Err(refusal) => -i64::from(refusal.number()),
+    };
+    drop(answer);
+    number
 }
 
 /// What an owner answers. Room is taken behind the first command, and before the last one.
 fn answers_of<'h, L: Ledger>(
     heap: &'h LocalHeap,
-    owner: &mut Logged<'h, L>,
+    owner: &mut Logged<NoSink, L, &'h LocalHeap>,
     commands: &[Command<&'h LocalHeap>],
 ) -> Result<[i64; 5], Fail> {
     let [first, moved, long_addition, long_removal, count] = commands else {
@@ -91,7 +99,9 @@ fn answers_over<'h, L: Ledger>(
 {
     let log = Log::<_, L>::new(blank, NoSink::new(), 10);
     let mut owner = LoggedOwner::new(heap, OneOwner::new(heap, hasher), log);
-    answers_of(heap, &mut owner, commands)
+    let answers = answers_of(heap, &mut owner, commands);
+    drop(owner);
+    answers
 }
 
 #[test]
@@ -99,7 +109,8 @@ fn removals_have_room_where_additions_have_none(rt: HostRuntime) -> Result<(), F
     let heap = LocalHeap::new(rt.alloc(), HEAP)?;
     let commands = read_commands(rt.alloc(), &heap)?;
     let hasher = RandomState::new(&rt)?;
-    let answers = answers_over::<Brand>(&heap, hasher, Blank::new(2), &commands)?;
-    assert_eq!(rt; answers, ANSWERS);
+    let answers = answers_over::<Brand>(&heap, hasher, Blank::new(2), &commands);
+    drop(commands);
+    assert_eq!(rt; answers?, ANSWERS);
     Ok(())
 }

@@ -1,13 +1,8 @@
 //! What is done with files, step by step, and what each step has to come to.
 
-ghost use Rattle.std.specs.Prelude.{◌≡◌, None, IfOk};
-
 use crate::failing::{Failing, Fails};
-use crate::records::Owner;
-use append_log::{
-    Loaded, NewFileFault, OpenFault, open_to_append, open_to_read, reload, write_anew,
-};
-use resp_wire::MemorySource;
+use crate::owners::owner_of;
+use append_log::{Loaded, NewFileFault, OpenFault, open_to_append, open_to_read, write_anew};
 use std::fs::{self, Permissions};
 use std::hash::RandomState;
 use std::os::unix::fs::{PermissionsExt, symlink};
@@ -64,36 +59,34 @@ pub enum Step {
 /// A name for steps that are taken in turn.
 pub type Tale = (&'static str, &'static [Step]);
 
-fn failing(rt: &HostRuntime, fails: Fails) -> Failing<'_> {
-    Failing { rt, fails }
-}
-
 /// Whether a file is opened so, for appending.
 fn appends(rt: &HostRuntime, path: &str, fails: Fails, wanted: Opened) -> Result<bool, Fail> {
     let mut owner = OneOwner::new(rt.alloc(), RandomState::new(rt)?);
-    match open_to_append(&failing(rt, fails), rt.alloc(), path, &mut owner) {
-        Ok((_, loaded)) => Ok(Ok(loaded) == wanted),
-        Err(fault) => Ok(Err(fault) == wanted),
-    }
+    let opened = open_to_append(&Failing { rt, fails }, rt.alloc(), path, &mut owner);
+    drop(owner);
+    let found = match opened {
+        Ok((file, loaded)) => {
+            drop(file);
+            Ok(loaded)
+        }
+        Err(fault) => Err(fault),
+    };
+    Ok(found == wanted)
 }
 
 /// Whether a file is opened so, for reading.
 fn reads(rt: &HostRuntime, path: &str, fails: Fails, wanted: Opened) -> Result<bool, Fail> {
     let mut owner = OneOwner::new(rt.alloc(), RandomState::new(rt)?);
-    match open_to_read(&failing(rt, fails), rt.alloc(), path, &mut owner) {
-        Ok((_, loaded)) => Ok(Ok(loaded) == wanted),
-        Err(fault) => Ok(Err(fault) == wanted),
-    }
-}
-
-/// The owner of the record's set.
-pub fn owner_of_record(rt: &HostRuntime) -> Result<Owner, Fail>
-    ensures { IfOk result (λ owner. owner.next ≡ None) }
-{
-    let mut owner = OneOwner::new(rt.alloc(), RandomState::new(rt)?);
-    let mut source = MemorySource::new(RECORD, 64);
-    reload(rt.alloc(), &mut source, &mut owner, 64, 10)?;
-    Ok(owner)
+    let opened = open_to_read(&Failing { rt, fails }, rt.alloc(), path, &mut owner);
+    drop(owner);
+    let found = match opened {
+        Ok((file, loaded)) => {
+            drop(file);
+            Ok(loaded)
+        }
+        Err(fault) => Err(fault),
+    };
+    Ok(found == wanted)
 }
 
 /// Whether this becomes of a new file for the sets of the record.
@@ -103,20 +96,14 @@ fn rewrites(
     fails: Fails,
     wanted: Result<u64, NewFileFault>,
 ) -> Result<bool, Fail> {
-    let owner = owner_of_record(rt)?;
-    Ok(write_anew(&failing(rt, fails), rt.alloc(), path, &owner) == wanted)
+    let owner = owner_of(rt, RECORD)?;
+    let written = write_anew(&Failing { rt, fails }, rt.alloc(), path, &owner);
+    drop(owner);
+    Ok(written == wanted)
 }
 
 fn has_bytes(rt: &HostRuntime, path: &str, wanted: &[u8]) -> Result<bool, Fail> {
     Ok(fs::read(rt, path)?.as_slice() == wanted)
-}
-
-fn mode_of(rt: &HostRuntime, path: &str) -> Result<u32, Fail> {
-    Ok(fs::metadata(rt, path)?.permissions().mode() & 0o777)
-}
-
-fn is_link(rt: &HostRuntime, path: &str) -> Result<bool, Fail> {
-    Ok(fs::symlink_metadata(rt, path)?.is_symlink())
 }
 
 /// Whether a step goes as it says.
@@ -135,8 +122,10 @@ fn goes(rt: &HostRuntime, step: Step) -> Result<bool, Fail> {
         Step::Read(path, fails, wanted) => reads(rt, path, fails, wanted),
         Step::Rewrite(path, fails, wanted) => rewrites(rt, path, fails, wanted),
         Step::Has(path, bytes) => has_bytes(rt, path, bytes),
-        Step::HasMode(path, mode) => Ok(mode_of(rt, path)? == mode),
-        Step::IsLink(path, wanted) => Ok(is_link(rt, path)? == wanted),
+        Step::HasMode(path, mode) => {
+            Ok(fs::metadata(rt, path)?.permissions().mode() & 0o777 == mode)
+        }
+        Step::IsLink(path, wanted) => { Ok(fs::symlink_metadata(rt, path)?.is_symlink() == wanted) }
         Step::IsMissing(path) => Ok(fs::metadata(rt, path).is_err()),
     }
 }
@@ -151,20 +140,46 @@ pub fn taken(rt: &HostRuntime, steps: &[Step]) -> Result<usize, Fail> {
     Ok(steps.len())
 }
 
-/// The same of steps that are taken while a file is open for appending.
-pub fn taken_beside_an_appender(
-    rt: &HostRuntime,
-    path: &str,
-    steps: &[Step],
-) -> Result<usize, Fail> {
-    let mut owner = OneOwner::new(rt.alloc(), RandomState::new(rt)?);
-    let _held = open_to_append(rt, rt.alloc(), path, &mut owner)?;
-    taken(rt, steps)
+/// A file that is open while steps are taken.
+#[derive(Clone, Copy)]
+pub enum Held {
+    ToAppend(&'static str),
+    ToRead(&'static str),
 }
 
-/// The same of steps that are taken while a file is open for reading.
-pub fn taken_beside_a_reader(rt: &HostRuntime, path: &str, steps: &[Step]) -> Result<usize, Fail> {
+/// A name for steps that are taken in turn while a file is open, behind steps before it is opened.
+pub type TaleOfTwo = (&'static str, &'static [Step], Held, &'static [Step]);
+
+/// How many steps of both kinds go as they say, before one does not.
+pub fn taken_beside(rt: &HostRuntime, tale: &TaleOfTwo) -> Result<usize, Fail> {
+    let (_, before, held, steps) = *tale;
+    let taken_before = taken(rt, before)?;
+    if taken_before < before.len() {
+        return Ok(taken_before);
+    }
+    let taken = match held {
+        Held::ToAppend(path) => taken_beside_an_appender(rt, path, steps)?,
+        Held::ToRead(path) => taken_beside_a_reader(rt, path, steps)?,
+    };
+    Ok(taken_before.saturating_add(taken))
+}
+
+fn taken_beside_an_appender(rt: &HostRuntime, path: &str, steps: &[Step]) -> Result<usize, Fail> {
     let mut owner = OneOwner::new(rt.alloc(), RandomState::new(rt)?);
-    let _held = open_to_read(rt, rt.alloc(), path, &mut owner)?;
-    taken(rt, steps)
+    let opened = open_to_append(rt, rt.alloc(), path, &mut owner);
+    drop(owner);
+    let held = opened?;
+    let taken = taken(rt, steps);
+    drop(held);
+    taken
+}
+
+fn taken_beside_a_reader(rt: &HostRuntime, path: &str, steps: &[Step]) -> Result<usize, Fail> {
+    let mut owner = OneOwner::new(rt.alloc(), RandomState::new(rt)?);
+    let opened = open_to_read(rt, rt.alloc(), path, &mut owner);
+    drop(owner);
+    let held = opened?;
+    let taken = taken(rt, steps);
+    drop(held);
+    taken
 }

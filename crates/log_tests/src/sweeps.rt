@@ -1,84 +1,226 @@
 //! Sinks and sources of which each call fails once, and files that are cut or damaged at each byte.
 
-ghost use Rattle.std.specs.Prelude.{◌≡◌, ◌≤◌, None, IfOk};
+ghost use Rattle.std.specs.Prelude.{◌≡◌, ◌≤◌, None};
 
-use crate::records::{
-    AMPLE, LISTING, Limits, Owner, Played, THREE_RECORDS, TWO_SETS, answer, damaged, loaded, play,
+use crate::owners::{
+    AMPLE, Found, Limits, Owner, Played, Reads, WHOLE_READS, answers, owner_of, play, reloads_to,
 };
-use append_log::{FuseSink, Loaded, MemorySink, ReloadFault, RewriteFault, reload, rewrite};
-use resp_wire::{FuseSource, MemorySource};
+use crate::records::{Case, LISTING, RECORD, THREE_RECORDS, TWO_SETS, goes_so};
+use crate::steps::EFFECT;
+use crate::versions::{A_AT_1, NOTHING};
+use append_log::{FuseSink, MemorySink, ReloadFault, RewriteFault, rewrite};
 use std::alloc::Global;
 use std::hash::RandomState;
 use std::test::*;
 use zset_core::OneOwner;
 
-/// How many bytes a call moves, and which call fails, 0 for none.
-#[derive(Clone, Copy)]
-struct Device {
-    chunk: usize,
-    fails_at: u64,
-}
-
-/// What a reload of these bytes from such a source gives, and the reply to a question after it.
-fn reload_from(
-    rt: &HostRuntime,
-    bytes: &[u8],
-    from: Device,
-    max_reads: u64,
-    question: &str,
-) -> Result<(Result<Loaded, ReloadFault>, String), Fail>
-    requires some { 1 ≤ from.chunk }
-    requires few { max_reads ≤ 1000 }
-{
-    let alloc = rt.alloc();
-    let mut owner = OneOwner::new(alloc, RandomState::new(rt)?);
-    let mut source = FuseSource::new(MemorySource::new(bytes, from.chunk), from.fails_at);
-    let found = reload(alloc, &mut source, &mut owner, 35, max_reads);
-    Ok((found, answer(alloc, &mut owner, question)?))
-}
-
-/// Limits of a log whose sink has calls that move so many bytes, and fails at one of them.
-fn failing(chunk: usize, fails_at: u64) -> Limits
-    ensures chunk { result.chunk ≡ chunk }
-    ensures records { result.max_records ≡ 10 }
-{
-    Limits {
-        chunk,
-        fails_at,
-        ..AMPLE
-    }
-}
-
-/// The replies to two changes, each of one record, where a call of the sink fails, and how many bytes it has then. Five
-/// writes of 7 bytes and a sync make the record of 35 bytes.
-const FAILING_CALLS: [(u64, &str, usize); 7] = [
-    (1, "r16 r14 ", 0),
-    (2, "r16 r14 ", 7),
-    (3, "r16 r14 ", 14),
-    (4, "r16 r14 ", 21),
-    (5, "r16 r14 ", 28),
-    (6, "r16 r14 ", 35),
-    (7, ":1~ r16 ", 35),
+/// The replies to two changes, each of one record, where a call of the sink fails, how many of them are recorded, and how
+/// many bytes the sink has then. Five writes of 7 bytes and a sync make the record of 35 bytes.
+const FAILING_CALLS: [(u64, &str, u64, usize); 7] = [
+    (1, REFUSED_TWICE, 0, 0),
+    (2, REFUSED_TWICE, 0, 7),
+    (3, REFUSED_TWICE, 0, 14),
+    (4, REFUSED_TWICE, 0, 21),
+    (5, REFUSED_TWICE, 0, 28),
+    (6, REFUSED_TWICE, 0, 35),
+    (7, ":1~ -ERR 16 append file failed~ ", 1, 35),
 ];
 
-/// Whether two changes are answered so where this call fails, and the sink has so many bytes then.
-fn meets_failing_call(
-    rt: &HostRuntime,
-    fails_at: u64,
-    replies: &str,
-    bytes: usize,
-) -> Result<bool, Fail> {
-    let played = play(rt, failing(7, fails_at), &["ZADD k 1 a", "ZADD k 2 b"])?;
-    let is_told = played.replies.as_str() == replies;
-    Ok(is_told && played.sink.into_inner().bytes().len() == bytes)
-}
+const REFUSED_TWICE: &str = "-ERR 16 append file failed~ -ERR 14 append file failed earlier~ ";
 
 #[test]
 fn a_record_meets_each_failing_call(rt: HostRuntime) -> Result<(), Fail> {
-    for (fails_at, replies, bytes) in FAILING_CALLS {
+    for (fails_at, replies, appended, bytes) in FAILING_CALLS {
+        let case = Case {
+            name: "two changes, one of which meets a failing call",
+            limits: Limits {
+                chunk: 7,
+                fails_at,
+                ..AMPLE
+            },
+            commands: &["ZADD k 1 a", "ZADD k 2 b"],
+            replies,
+            appended,
+            is_broken: true,
+            calls: fails_at,
+            bytes: RECORD.get(..bytes).unwrap_or(&[]),
+        };
+        assert!(rt; goes_so(&rt, &case)?, "call {fails_at}");
+    }
+    Ok(())
+}
+
+/// How many bytes a read gives at most.
+const CHUNKS: [usize; 4] = [1, 3, 7, 98];
+
+/// Whether bytes are reloaded so in each of these chunks, where k is listed so then, and `a` has this score under the key
+/// `!`.
+fn is_reloaded(
+    rt: &HostRuntime,
+    bytes: &[u8],
+    found: Found,
+    listed: &str,
+    score: &str,
+) -> Result<bool, Fail> {
+    for chunk in CHUNKS {
+        let reads = Reads {
+            chunk,
+            ..WHOLE_READS
+        };
+        if !reloads_to(rt, bytes, reads, found, (LISTING, listed))?
+            || !reloads_to(rt, bytes, reads, found, ("ZSCORE ! a", score))?
+        {
+            return Ok(false);
+        }
+    }
+    Ok(true)
+}
+
+const B_AT_2: &str = "*2~$1~b~$1~2~ ";
+
+const BOTH: &str = "*4~$1~a~$1~1~$1~b~$1~2~ ";
+
+/// A file that is cut: behind how many bytes at least, and before how many, its version, the records and the bytes that
+/// are whole then, and the listing of k.
+type Cut = (&'static [u8], usize, usize, (u8, u64, u64), &'static str);
+
+const CUTS: [Cut; 7] = [
+    (THREE_RECORDS, 0, 35, (1, 0, 0), NOTHING),
+    (THREE_RECORDS, 35, 70, (1, 1, 35), A_AT_1),
+    (THREE_RECORDS, 70, 98, (1, 2, 70), BOTH),
+    (THREE_RECORDS, 98, 99, (1, 3, 98), B_AT_2),
+    (EFFECT, 0, 24, (1, 0, 0), NOTHING),
+    (EFFECT, 24, 59, (2, 0, 24), NOTHING),
+    (EFFECT, 59, 60, (2, 1, 59), A_AT_1),
+];
+
+/// Whether the first so many bytes of a file are reloaded as this row says.
+fn is_cut_so(rt: &HostRuntime, cut: &Cut, bytes: usize) -> Result<bool, Fail> {
+    let (file, _, _, (version, records, whole), listed) = *cut;
+    let found = Ok((
+        version,
+        records,
+        whole,
+        (bytes as u64).saturating_sub(whole),
+    ));
+    is_reloaded(rt, file.get(..bytes).unwrap_or(&[]), found, listed, "$-1~ ")
+}
+
+#[test]
+fn a_file_is_cut_after_each_byte(rt: HostRuntime) -> Result<(), Fail> {
+    for (row, cut) in CUTS.iter().enumerate() {
+        let (_, from, to, _, _) = *cut;
+        for bytes in from..to {
+            assert!(rt; is_cut_so(&rt, cut, bytes)?, "row {row}, {bytes} bytes");
+        }
+    }
+    Ok(())
+}
+
+/// A file one of whose bytes is another: from which byte on, and before which one, what it is reloaded as, the listing of
+/// k, and the score of `a` under the key `!`.
+type Damage = (
+    &'static [u8],
+    usize,
+    usize,
+    Found,
+    &'static str,
+    &'static str,
+);
+
+/// What stands first is damaged, or is no command.
+const DAMAGED: Found = Err(ReloadFault::Damaged(0));
+
+const NO_COMMAND: Found = Err(ReloadFault::NotACommand(0));
+
+/// The same of what stands behind a header.
+const EFFECT_DAMAGED: Found = Err(ReloadFault::Damaged(24));
+
+const NO_EFFECT: Found = Err(ReloadFault::NotACommand(24));
+
+/// Each byte of the three records' first one, and of the header and a record: those of its name, its score, its key and
+/// its member make another one.
+const DAMAGES: [Damage; 23] = [
+    (THREE_RECORDS, 0, 8, DAMAGED, NOTHING, "$-1~ "),
+    (THREE_RECORDS, 8, 12, NO_COMMAND, NOTHING, "$-1~ "),
+    (THREE_RECORDS, 12, 18, DAMAGED, NOTHING, "$-1~ "),
+    (THREE_RECORDS, 18, 19, Ok((1, 3, 98, 0)), B_AT_2, "$1~1~ "),
+    (THREE_RECORDS, 19, 25, DAMAGED, NOTHING, "$-1~ "),
+    (THREE_RECORDS, 25, 26, NO_COMMAND, NOTHING, "$-1~ "),
+    (THREE_RECORDS, 26, 32, DAMAGED, NOTHING, "$-1~ "),
+    (
+        THREE_RECORDS,
+        32,
+        33,
+        Ok((1, 3, 98, 0)),
+        "*4~$1~!~$1~1~$1~b~$1~2~ ",
+        "$-1~ ",
+    ),
+    (THREE_RECORDS, 33, 35, DAMAGED, NOTHING, "$-1~ "),
+    // the header: its name or its version
+    (EFFECT, 0, 8, DAMAGED, NOTHING, "$-1~ "),
+    (EFFECT, 8, 15, NO_COMMAND, NOTHING, "$-1~ "),
+    (EFFECT, 15, 21, DAMAGED, NOTHING, "$-1~ "),
+    (
+        EFFECT,
+        21,
+        22,
+        Err(ReloadFault::UnknownVersion),
+        NOTHING,
+        "$-1~ ",
+    ),
+    (EFFECT, 22, 24, DAMAGED, NOTHING, "$-1~ "),
+    (EFFECT, 24, 32, EFFECT_DAMAGED, NOTHING, "$-1~ "),
+    (EFFECT, 32, 36, NO_EFFECT, NOTHING, "$-1~ "),
+    (EFFECT, 36, 42, EFFECT_DAMAGED, NOTHING, "$-1~ "),
+    (EFFECT, 42, 43, Ok((2, 1, 59, 0)), NOTHING, "$1~1~ "),
+    (EFFECT, 43, 49, EFFECT_DAMAGED, NOTHING, "$-1~ "),
+    (EFFECT, 49, 50, NO_EFFECT, NOTHING, "$-1~ "),
+    (EFFECT, 50, 56, EFFECT_DAMAGED, NOTHING, "$-1~ "),
+    (EFFECT, 56, 57, Ok((2, 1, 59, 0)), "*2~$1~!~$1~1~ ", "$-1~ "),
+    (EFFECT, 57, 59, EFFECT_DAMAGED, NOTHING, "$-1~ "),
+];
+
+/// Whether a file is reloaded as this row says where this byte is a `!`.
+fn is_damaged_so(rt: &HostRuntime, damage: &Damage, at: usize) -> Result<bool, Fail> {
+    let (file, _, _, found, listed, score) = *damage;
+    let mut bytes = Vec::from_slice(rt.alloc(), file)?;
+    if let Some(byte) = bytes.get_mut(at) {
+        *byte = b'!';
+    }
+    is_reloaded(rt, &bytes, found, listed, score)
+}
+
+#[test]
+fn each_byte_of_a_record_is_damaged(rt: HostRuntime) -> Result<(), Fail> {
+    for (row, damage) in DAMAGES.iter().enumerate() {
+        let (_, from, to, _, _, _) = *damage;
+        for at in from..to {
+            assert!(rt; is_damaged_so(&rt, damage, at)?, "row {row}, byte {at}");
+        }
+    }
+    Ok(())
+}
+
+/// Reads of a whole file, of which so many are made and one fails, and the fault.
+const STOPPED: [(u64, u64, ReloadFault); 2] = [
+    (1, 0, ReloadFault::TooManyReads),
+    (1000, 2, ReloadFault::ReadFault),
+];
+
+// It stops behind the first record, which stands whole in the first read of 35 bytes.
+#[test]
+fn a_reload_stops_at_its_reads(rt: HostRuntime) -> Result<(), Fail> {
+    for (most, fails_at, fault) in STOPPED {
+        let reads = Reads {
+            chunk: 65_536,
+            fails_at,
+            most,
+        };
+        let asked = ("ZSCORE k a", "$1~1~ ");
         assert!(rt;
-            meets_failing_call(&rt, fails_at, replies, bytes)?,
-            "call {fails_at}"
+            reloads_to(&rt, THREE_RECORDS, reads, Err(fault), asked)?,
+            "{fault}"
         );
     }
     Ok(())
@@ -94,338 +236,195 @@ const COMMANDS: [&str; 10] = [
     "ZADD k XX CH 9 b",
     "ZADD k INCR -3 c",
     "ZREMRANGEBYSCORE k 7 +inf",
-    "ZRANGEBYSCORE k -inf +inf WITHSCORES",
-    "ZRANGEBYSCORE j -inf +inf WITHSCORES",
+    LISTING,
+    LISTING_OF_J,
 ];
 
-/// Whether a reply is a refusal, or what this owner answers.
-fn is_accepted_so(alloc: Global, owner: &mut Owner, text: &str, reply: &str) -> Result<bool, Fail>
+const LISTING_OF_J: &str = "ZRANGEBYSCORE j -inf +inf WITHSCORES";
+
+/// The listings of both sets.
+const LISTINGS: [&str; 2] = [LISTING, LISTING_OF_J];
+
+/// What a change is told whose record meets the failing call, or a broken log.
+fn refusal_of(is_broken: bool) -> &'static str {
+    match is_broken {
+        true => "-ERR 14 append file failed earlier",
+        false => "-ERR 16 append file failed",
+    }
+}
+
+/// Whether an owner replies so to a command.
+fn replies_so(
+    alloc: Global,
+    owner: &mut Owner<Global>,
+    text: &str,
+    reply: &str,
+) -> Result<bool, Fail>
     requires { owner.old.next ≡ None }
     ensures { owner.new.next ≡ None }
 {
-    Ok(reply.starts_with('r') || answer(alloc, owner, text)?.as_str() == reply)
+    let answer = answers(alloc, owner, &[text])?;
+    Ok(answer.as_str().split("~ ").next() == Some(reply))
 }
 
-/// Whether each reply that is no refusal is that of an owner to which the accepted commands alone were given.
-fn are_of_the_accepted(rt: &HostRuntime, replies: &str) -> Result<bool, Fail> {
-    let mut owner = OneOwner::new(rt.alloc(), RandomState::new(rt)?);
-    for (text, reply) in COMMANDS.iter().zip(replies.split(' ')) {
-        if !is_accepted_so(rt.alloc(), &mut owner, text, reply)? {
+/// Whether the first refusal is that of the call that failed, each behind it that of a broken log, and each reply that is
+/// no refusal that of an owner to which the accepted commands alone were given.
+fn are_of_the_accepted(
+    alloc: Global,
+    owner: &mut Owner<Global>,
+    replies: &str,
+) -> Result<bool, Fail>
+    requires { owner.old.next ≡ None }
+    ensures { owner.new.next ≡ None }
+{
+    let mut rest = replies.split("~ ");
+    let mut is_broken = false;
+    for text in COMMANDS {
+        let Some(reply) = rest.next() else {
+            return Ok(false);
+        };
+        if reply == refusal_of(is_broken) {
+            is_broken = true;
+        } else if !replies_so(alloc, owner, text, reply)? {
             return Ok(false);
         }
     }
-    Ok(true)
+    Ok(rest.next() == Some("") && rest.next().is_none())
 }
 
-/// How a change is refused: in the call that fails, and once the log is broken.
-fn refusal(is_broken: bool) -> &'static str {
-    if is_broken { "r14" } else { "r16" }
-}
-
-/// Whether the first refusal is that of the call that failed, and each behind it that of a broken log.
-fn are_refused_in_turn(replies: &str) -> bool {
-    let mut is_broken = false;
-    for reply in replies.split(' ') {
-        if reply.starts_with('r') {
-            if reply != refusal(is_broken) {
-                return false;
-            }
-            is_broken = true;
-        }
-    }
-    true
-}
-
-/// The listings of both sets, a space behind each.
-fn both_listed(alloc: Global, owner: &mut Owner) -> Result<String, Fail>
-    requires { owner.old.next ≡ None }
-{
-    let of_k = answer(alloc, owner, LISTING)?;
-    let of_j = answer(alloc, owner, "ZRANGEBYSCORE j -inf +inf WITHSCORES")?;
-    Ok(format!(in alloc; "{of_k} {of_j} ")?)
-}
-
-/// The listings of both sets after a reload.
-fn listed_after(rt: &HostRuntime, bytes: &[u8]) -> Result<String, Fail> {
-    let alloc = rt.alloc();
-    let mut owner = OneOwner::new(alloc, RandomState::new(rt)?);
-    let mut source = MemorySource::new(bytes, 65_536);
-    reload(alloc, &mut source, &mut owner, 35, 1000)?;
-    both_listed(alloc, &mut owner)
+/// The listings of both sets that records replay to.
+fn listed_after(rt: &HostRuntime, records: &[u8]) -> Result<String, Fail> {
+    let mut owner = owner_of(rt, records)?;
+    let listed = answers(rt.alloc(), &mut owner, &LISTINGS);
+    drop(owner);
+    listed
 }
 
 /// Whether a run answered as an owner of the accepted commands, refused the others as it should, and, where no call
 /// failed, its records lead to the same sets.
 fn is_replayed(rt: &HostRuntime, played: Played) -> Result<bool, Fail> {
     let replies = played.replies;
-    if !are_refused_in_turn(replies.as_str()) || !are_of_the_accepted(rt, replies.as_str())? {
-        return Ok(false);
-    }
     let sink = played.sink.into_inner();
+    let mut owner = OneOwner::new(rt.alloc(), RandomState::new(rt)?);
+    let are_accepted = are_of_the_accepted(rt.alloc(), &mut owner, replies.as_str());
+    drop(owner);
+    let are_accepted = are_accepted?;
     let listed = listed_after(rt, sink.bytes())?;
-    Ok(played.is_broken || replies.as_str().ends_with(listed.as_str()))
+    let leads_there = played.is_broken || replies.as_str().ends_with(listed.as_str());
+    Ok(are_accepted && leads_there)
 }
 
 /// Whether the log is broken where a call of its sink fails, and all is as [`is_replayed`] says.
-fn is_failed_so(
-    rt: &HostRuntime,
-    chunk: usize,
-    fails_at: u64,
-    is_broken: bool,
-) -> Result<bool, Fail>
+fn goes_on(rt: &HostRuntime, chunk: usize, fails_at: u64, fails: bool) -> Result<bool, Fail>
     requires { 1 ≤ chunk }
 {
-    let played = play(rt, failing(chunk, fails_at), &COMMANDS)?;
-    Ok(played.is_broken == is_broken && is_replayed(rt, played)?)
-}
-
-/// Makes each of so many calls of a sink fail, and then none.
-fn fails_at_each(rt: &HostRuntime, chunk: usize, calls: u64) -> Result<bool, Fail>
-    requires some { 1 ≤ chunk }
-    requires few { calls ≤ 1000 }
-{
-    for fails_at in 1..calls + 2 {
-        if !is_failed_so(rt, chunk, fails_at, fails_at <= calls)? {
-            return Ok(false);
-        }
-    }
-    Ok(true)
-}
-
-#[test]
-fn each_failing_call_leaves_the_accepted_commands(rt: HostRuntime) -> Result<(), Fail> {
-    // 235 bytes of six records, and six syncs
-    for (chunk, calls) in [(1usize, 241u64), (3, 86), (7, 42)] {
-        assert!(rt; fails_at_each(&rt, chunk, calls)?, "{chunk} bytes a write");
-    }
-    Ok(())
-}
-
-/// How many bytes a read gives at most.
-const CHUNKS: [usize; 4] = [1, 3, 7, 98];
-
-/// What the first so many bytes of the three records are reloaded as.
-fn cut_after(bytes: usize) -> Result<Loaded, ReloadFault> {
-    let (records, whole) = match bytes {
-        0..=34 => (0, 0),
-        35..=69 => (1, 35),
-        70..=97 => (2, 70),
-        _ => (3, 98),
-    };
-    loaded(records, whole, (bytes as u64).saturating_sub(whole))
-}
-
-/// Whether they are, read in such chunks.
-fn is_cut_so(rt: &HostRuntime, bytes: usize, chunk: usize) -> Result<bool, Fail>
-    requires { 1 ≤ chunk }
-{
-    let cut = THREE_RECORDS.get(..bytes).unwrap_or(&[]);
-    let (found, _) = reload_from(rt, cut, Device { chunk, fails_at: 0 }, 1000, "PING")?;
-    Ok(found == cut_after(bytes))
-}
-
-#[test]
-fn a_file_is_cut_after_each_byte(rt: HostRuntime) -> Result<(), Fail> {
-    for bytes in 0..99usize {
-        for chunk in CHUNKS {
-            assert!(rt; is_cut_so(&rt, bytes, chunk)?, "{bytes} bytes");
-        }
-    }
-    Ok(())
-}
-
-/// What a reload gives, and then the listing of k and the score of `a` under the key `!`.
-#[derive(Clone, Copy)]
-struct Reloaded {
-    found: Result<Loaded, ReloadFault>,
-    listed: &'static str,
-    score: &'static str,
-}
-
-/// The same, without a set of the key `!`.
-fn without_other_key(found: Result<Loaded, ReloadFault>, listed: &'static str) -> Reloaded {
-    Reloaded {
-        found,
-        listed,
-        score: "$-1~",
-    }
-}
-
-/// What a byte of the first record makes of it where it is another: damage, no command, another key, another
-/// member.
-fn with_byte_changed(at: usize) -> Reloaded {
-    match at {
-        8..=11 | 25 => without_other_key(Err(ReloadFault::NotACommand(0)), "*0~"),
-        18 => Reloaded {
-            found: loaded(3, 98, 0),
-            listed: "*2~$1~b~$1~2~",
-            score: "$1~1~",
-        },
-        32 => without_other_key(loaded(3, 98, 0), "*4~$1~!~$1~1~$1~b~$1~2~"),
-        _ => without_other_key(Err(ReloadFault::Damaged(0)), "*0~"),
-    }
-}
-
-/// Whether bytes are reloaded so, in reads of at most so many.
-fn is_reloaded(rt: &HostRuntime, bytes: &[u8], chunk: usize, wanted: Reloaded) -> Result<bool, Fail>
-    requires { 1 ≤ chunk }
-{
-    let from = Device { chunk, fails_at: 0 };
-    let (found, listed) = reload_from(rt, bytes, from, 1000, LISTING)?;
-    let (_, score) = reload_from(rt, bytes, from, 1000, "ZSCORE ! a")?;
-    Ok(found == wanted.found && listed.as_str() == wanted.listed && score.as_str() == wanted.score)
-}
-
-/// Whether a file is reloaded as it should be one of whose bytes is another, in each of the chunks.
-fn is_damaged_so(rt: &HostRuntime, at: usize) -> Result<bool, Fail> {
-    let bytes = damaged(rt.alloc(), THREE_RECORDS, at)?;
-    for chunk in CHUNKS {
-        if !is_reloaded(rt, &bytes, chunk, with_byte_changed(at))? {
-            return Ok(false);
-        }
-    }
-    Ok(true)
-}
-
-#[test]
-fn each_byte_of_a_record_is_damaged(rt: HostRuntime) -> Result<(), Fail> {
-    for at in 0..35usize {
-        assert!(rt; is_damaged_so(&rt, at)?, "byte {at}");
-    }
-    Ok(())
-}
-
-/// Reads of a whole file, of which so many are made and one fails, and the fault.
-const STOPPED: [(u64, u64, ReloadFault); 2] = [
-    (1, 0, ReloadFault::TooManyReads),
-    (1000, 2, ReloadFault::ReadFault),
-];
-
-/// Whether a reload stops with this fault behind the first record, which stands whole in the first read of 35 bytes.
-fn stops_with(
-    rt: &HostRuntime,
-    max_reads: u64,
-    fails_at: u64,
-    fault: ReloadFault,
-) -> Result<bool, Fail>
-    requires { max_reads ≤ 1000 }
-{
-    let from = Device {
-        chunk: 65_536,
+    let limits = Limits {
+        chunk,
         fails_at,
+        ..AMPLE
     };
-    let (found, reply) = reload_from(rt, THREE_RECORDS, from, max_reads, "ZSCORE k a")?;
-    Ok(found == Err(fault) && reply.as_str() == "$1~1~")
-}
-
-#[test]
-fn a_reload_stops_at_its_reads(rt: HostRuntime) -> Result<(), Fail> {
-    for (max_reads, fails_at, fault) in STOPPED {
-        assert!(rt; stops_with(&rt, max_reads, fails_at, fault)?, "{fault}");
-    }
-    Ok(())
+    let played = play(rt, limits, &COMMANDS)?;
+    Ok(played.is_broken == fails && is_replayed(rt, played)?)
 }
 
 /// The listing of k after the records that stand whole in so many bytes of the three.
 fn listed_of(bytes: usize) -> &'static str {
     match bytes {
-        0..=34 => "*0~",
-        35..=69 => "*2~$1~a~$1~1~",
-        70..=97 => "*4~$1~a~$1~1~$1~b~$1~2~",
-        _ => "*2~$1~b~$1~2~",
+        0..=34 => NOTHING,
+        35..=69 => A_AT_1,
+        70..=97 => BOTH,
+        _ => B_AT_2,
     }
 }
 
-/// What a reload gives one of whose reads fails, and whether k is that of the records that were read before.
-fn reload_failing(
-    rt: &HostRuntime,
-    chunk: usize,
-    fails_at: u64,
-) -> Result<(Result<Loaded, ReloadFault>, bool), Fail>
+/// Whether a reload comes to what it should, and leaves k as the records that were read make it.
+fn reads_so_far(rt: &HostRuntime, chunk: usize, fails_at: u64, fails: bool) -> Result<bool, Fail>
     requires some { 1 ≤ chunk }
     requires first { 1 ≤ fails_at }
 {
-    let from = Device { chunk, fails_at };
-    let (found, listed) = reload_from(rt, THREE_RECORDS, from, 1000, LISTING)?;
-    let before = chunk.saturating_mul(fails_at as usize - 1);
-    Ok((found, listed.as_str() == listed_of(before)))
+    let reads = Reads {
+        chunk,
+        fails_at,
+        ..WHOLE_READS
+    };
+    let found = if fails {
+        Err(ReloadFault::ReadFault)
+    } else {
+        Ok((1, 3, 98, 0))
+    };
+    let listed = listed_of(chunk.saturating_mul(fails_at as usize - 1));
+    reloads_to(rt, THREE_RECORDS, reads, found, (LISTING, listed))
 }
 
-/// How many reads of a reload failed, one in each run, until a run had none that did. None where one failed otherwise.
-fn failing_reads(rt: &HostRuntime, chunk: usize) -> Result<Option<u64>, Fail>
+/// Whether a rewrite of two sets comes to what it should, and both stay.
+fn is_rewritten(rt: &HostRuntime, chunk: usize, fails_at: u64, fails: bool) -> Result<bool, Fail>
     requires { 1 ≤ chunk }
 {
-    for fails_at in 1..1000u64 {
-        let found = reload_failing(rt, chunk, fails_at)?;
-        if found == (loaded(3, 98, 0), true) {
-            return Ok(Some(fails_at - 1));
-        }
-        if found != (Err(ReloadFault::ReadFault), true) {
-            return Ok(None);
-        }
-    }
-    Ok(None)
+    let mut owner = owner_of(rt, TWO_SETS)?;
+    let mut sink = FuseSink::new(MemorySink::new(rt.alloc(), chunk), fails_at);
+    let found = rewrite(rt.alloc(), &owner, &mut sink);
+    let wanted = if fails {
+        Err(RewriteFault::Sink)
+    } else {
+        Ok(2)
+    };
+    let listed = answers(rt.alloc(), &mut owner, &LISTINGS);
+    drop(owner);
+    let listed = listed?;
+    Ok(found == wanted && listed.as_str() == "*6~$1~B~$1~1~$1~a~$1~1~$1~b~$1~1~ *2~$1~x~$2~-3~ ")
 }
 
-// 98 bytes, and the read behind them that finds the end.
+/// What is done with a device one of whose calls fails.
+#[derive(Clone, Copy)]
+enum Work {
+    /// Commands are run, over a log.
+    Log,
+    Reload,
+    Rewrite,
+}
+
+/// Each work, how many bytes a call moves, and how many calls there are where none fails.
+const WORKS: [(&str, Work, usize, u64); 9] = [
+    // 235 bytes of six records, and six syncs
+    ("a log", Work::Log, 1, 241),
+    ("a log", Work::Log, 3, 86),
+    ("a log", Work::Log, 7, 42),
+    // 98 bytes, and the read behind them that finds the end
+    ("a reload", Work::Reload, 1, 99),
+    ("a reload", Work::Reload, 3, 34),
+    ("a reload", Work::Reload, 7, 15),
+    // a header of 24 bytes, records of 36 and 63, and a sync
+    ("a rewrite", Work::Rewrite, 1, 124),
+    ("a rewrite", Work::Rewrite, 3, 42),
+    ("a rewrite", Work::Rewrite, 7, 20),
+];
+
+/// Whether it goes as it should: its call of this number fails, or, where not `fails`, it has fewer calls.
+fn goes_so_failing(
+    rt: &HostRuntime,
+    work: Work,
+    chunk: usize,
+    fails_at: u64,
+    fails: bool,
+) -> Result<bool, Fail>
+    requires some { 1 ≤ chunk }
+    requires first { 1 ≤ fails_at }
+{
+    match work {
+        Work::Log => goes_on(rt, chunk, fails_at, fails),
+        Work::Reload => reads_so_far(rt, chunk, fails_at, fails),
+        Work::Rewrite => is_rewritten(rt, chunk, fails_at, fails),
+    }
+}
+
+// Each of the calls fails in a run of its own, and none in the last run.
 #[test]
-fn each_failing_read_leaves_the_records_before(rt: HostRuntime) -> Result<(), Fail> {
-    for (chunk, reads) in [(1usize, 99u64), (3, 34), (7, 15)] {
-        let failing = failing_reads(&rt, chunk)?;
-        assert_eq!(rt; failing, Some(reads), "{chunk} bytes a read");
-    }
-    Ok(())
-}
-
-/// The owner of two sets.
-fn owner_of_two(rt: &HostRuntime) -> Result<Owner, Fail>
-    ensures { IfOk result (λ owner. owner.next ≡ None) }
-{
-    let alloc = rt.alloc();
-    let mut owner = OneOwner::new(alloc, RandomState::new(rt)?);
-    let mut source = MemorySource::new(TWO_SETS, 65_536);
-    reload(alloc, &mut source, &mut owner, 35, 1000)?;
-    Ok(owner)
-}
-
-/// The listings of both.
-const TWO_LISTED: &str = "*6~$1~B~$1~1~$1~a~$1~1~$1~b~$1~1~ *2~$1~x~$2~-3~ ";
-
-/// What a rewrite of two sets to such a sink gives, and whether they stay.
-fn rewrite_to(rt: &HostRuntime, to: Device) -> Result<(Result<u64, RewriteFault>, bool), Fail>
-    requires { 1 ≤ to.chunk }
-{
-    let alloc = rt.alloc();
-    let mut owner = owner_of_two(rt)?;
-    let mut sink = FuseSink::new(MemorySink::new(alloc, to.chunk), to.fails_at);
-    let found = rewrite(alloc, &owner, &mut sink);
-    let listed = both_listed(alloc, &mut owner)?;
-    Ok((found, listed.as_str() == TWO_LISTED))
-}
-
-/// How many calls of a rewrite's sink failed, one in each run, until a run had none that did. None where one failed
-/// otherwise.
-fn failing_calls_of_a_rewrite(rt: &HostRuntime, chunk: usize) -> Result<Option<u64>, Fail>
-    requires { 1 ≤ chunk }
-{
-    for fails_at in 1..1000u64 {
-        let found = rewrite_to(rt, Device { chunk, fails_at })?;
-        if found == (Ok(2), true) {
-            return Ok(Some(fails_at - 1));
+fn each_failing_call_leaves_what_came_before(rt: HostRuntime) -> Result<(), Fail> {
+    for (name, work, chunk, calls) in WORKS {
+        for fails_at in 1..calls.saturating_add(2) {
+            let goes_so = goes_so_failing(&rt, work, chunk, fails_at, fails_at <= calls)?;
+            assert!(rt; goes_so, "{name}, {chunk} bytes a call: call {fails_at}");
         }
-        if found != (Err(RewriteFault::Sink), true) {
-            return Ok(None);
-        }
-    }
-    Ok(None)
-}
-
-// A header of 24 bytes, records of 36 and 63, and a sync.
-#[test]
-fn a_rewrite_meets_each_failing_call(rt: HostRuntime) -> Result<(), Fail> {
-    for (chunk, calls) in [(1usize, 124u64), (3, 42), (7, 20)] {
-        let failing = failing_calls_of_a_rewrite(&rt, chunk)?;
-        assert_eq!(rt; failing, Some(calls), "{chunk} bytes a write");
     }
     Ok(())
 }

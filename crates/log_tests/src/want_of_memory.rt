@@ -1,25 +1,24 @@
 //! Each allocation of a reload, of a rewrite and of a logged command refused in turn, and what these answer
 //! when they are asked again with memory.
 
-ghost use Rattle.std.specs.Prelude.{◌≡◌, ◌≤◌, ◌^◌, None, IfOk};
+ghost use Rattle.std.specs.Prelude.{◌≡◌, None};
 
-use crate::records::{LISTING, THREE_RECORDS, TWO_SETS_REWRITTEN, loaded};
+use crate::owners::{Logged, Owner, answers, command, put_answer, put_replies, replies_to, shown};
+use crate::records::{LISTING, THREE_RECORDS, TWO_SETS_REWRITTEN};
 use append_log::{
     FuseSink, Loaded, Log, LoggedOwner, MemorySink, NoSink, ReloadFault, reload, rewrite,
 };
 use fuse_alloc::Fuse;
-use resp_wire::{Bytes, BytesList, MemorySource, Reply, Request, write_reply};
-use std::alloc::{Allocator, Global};
+use resp_wire::MemorySource;
+use std::alloc::Global;
 use std::hash::RandomState;
 use std::marker::Brand;
 use std::sync::ledger::{Blank, Ledger};
 use std::test::*;
-use zset_core::{Command, OneOwner, Refusal};
+use zset_core::OneOwner;
 
 /// Memory one of whose allocations is refused.
-pub type Heap<'f> = &'f Fuse<Global>;
-
-type Owner<'f> = OneOwner<RandomState, Heap<'f>>;
+type Heap<'f> = &'f Fuse<Global>;
 
 /// What came of a run one of whose allocations was to be refused.
 #[derive(Clone, Copy)]
@@ -41,89 +40,20 @@ impl Outcome {
     }
 }
 
-/// The command whose words stand between single blanks.
-pub fn command<A: Allocator + Copy>(alloc: A, words: &str) -> Result<Command<A>, Fail> {
-    let mut list = Vec::new(alloc);
-    for word in words.split(' ') {
-        list.push(Bytes::from_slice(alloc, word.as_bytes())?)?;
-    }
-    let request = Request::new(BytesList::new(list)).ok_or("no request")?;
-    Command::read(alloc, request).map_err(|_| Fail::from("no command"))
-}
+/// What came of a reload or of a rewrite: whether there were fewer allocations, whether it was made whole, and whether it
+/// was refused for want of memory.
+type Attempt = (bool, bool, bool);
 
-/// The number that an owner answers, or that of its refusal below zero.
-pub fn number<A: Allocator + Copy>(answer: &Result<Reply<A>, Refusal>) -> i64 {
-    match answer {
-        Ok(Reply::Int(number)) => *number,
-        Ok(_) => 100,
-        Err(refusal) => -i64::from(refusal.number()),
-    }
-}
+/// All three records are reloaded.
+const WHOLE: Result<Loaded, ReloadFault> = Ok(Loaded {
+    records: 3,
+    whole: 98,
+    torn: 0,
+    version: 1,
+});
 
-/// Puts the bytes that a client gets.
-fn put_answer<'f>(
-    answer: Result<Reply<Heap<'f>>, Refusal>,
-    bytes: &mut Vec<u8, Heap<'f>>,
-) -> Result<(), Fail> {
-    let reply = match answer {
-        Ok(reply) => reply,
-        Err(refusal) => Reply::Fault(refusal.text()),
-    };
-    Ok(write_reply(&reply, bytes)?)
-}
-
-/// The listings of k after none of the three records, after one, after two and after all of them.
-const LISTINGS: [&str; 4] = [
-    "*0\r\n",
-    "*2\r\n$1\r\na\r\n$1\r\n1\r\n",
-    "*4\r\n$1\r\na\r\n$1\r\n1\r\n$1\r\nb\r\n$1\r\n2\r\n",
-    "*2\r\n$1\r\nb\r\n$1\r\n2\r\n",
-];
-
-/// How many records were replayed that lead to this listing of k.
-fn replayed_to(listed: &[u8]) -> Option<usize> {
-    for (records, listing) in LISTINGS.iter().enumerate() {
-        if listing.as_bytes() == listed {
-            return Some(records);
-        }
-    }
-    None
-}
-
-/// How many of the three records were replayed, by the listing of k.
-fn replayed<'f>(heap: Heap<'f>, owner: &mut Owner<'f>) -> Result<Option<usize>, Fail>
-    requires { owner.old.next ≡ None }
-    ensures { owner.new.next ≡ None }
-{
-    let listing = command(heap, LISTING)?;
-    let mut bytes = Vec::new(heap);
-    put_answer(owner.run(&listing), &mut bytes)?;
-    Ok(replayed_to(&bytes))
-}
-
-/// What came of a reload one of whose allocations was refused.
-#[derive(Clone, Copy)]
-struct AfterReload {
-    is_whole: bool,
-    found: Result<Loaded, ReloadFault>,
-    /// How many records were replayed, where the sets are those after some.
-    records: Option<usize>,
-}
-
-impl AfterReload {
-    /// Whether all records were replayed.
-    fn is_made(self) -> bool {
-        self.found == loaded(3, 98, 0) && self.records == Some(3)
-    }
-
-    /// Whether memory ran out behind some of the records.
-    fn is_refused(self) -> bool {
-        self.found == Err(ReloadFault::NoMemory) && matches!(self.records, Some(0..=2))
-    }
-}
-
-/// Reloads the three records, and then looks at the sets with memory.
-fn reload_once<'f>(heap: Heap<'f>, owner: &mut Owner<'f>) -> Result<AfterReload, Fail>
+/// Reloads the three records, and then tells by k, with memory, whether all were replayed, or some first ones.
+fn reload_once<'f>(heap: Heap<'f>, owner: &mut Owner<Heap<'f>>) -> Result<Attempt, Fail>
     requires { owner.old.next ≡ None }
     ensures { owner.new.next ≡ None }
 {
@@ -131,55 +61,43 @@ fn reload_once<'f>(heap: Heap<'f>, owner: &mut Owner<'f>) -> Result<AfterReload,
     let found = reload(heap, &mut source, owner, 35, 1000);
     let is_whole = heap.is_armed();
     heap.arm(0);
-    Ok(AfterReload {
+    let listed = answers(heap, owner, &[LISTING])?;
+    let is_made = found == WHOLE && listed.as_str() == "*2~$1~b~$1~2~ ";
+    let are_some = matches!(
+        listed.as_str(),
+        "*0~ " | "*2~$1~a~$1~1~ " | "*4~$1~a~$1~1~$1~b~$1~2~ "
+    );
+    Ok((
         is_whole,
-        found,
-        records: replayed(heap, owner)?,
-    })
+        is_made,
+        found == Err(ReloadFault::NoMemory) && are_some,
+    ))
 }
 
-/// A reload one of whose allocations is refused, and another on the same sets, with memory. The first leaves the sets
-/// that some first records replay to. The last record is a removal, which takes what is kept back where it finds no
-/// memory.
-fn reload_refused(rt: &HostRuntime, allocation: u64) -> Result<Outcome, Fail> {
-    let fuse = Fuse::new(rt.alloc(), allocation);
-    let mut owner = OneOwner::new(&fuse, RandomState::new(rt)?);
-    let first = reload_once(&fuse, &mut owner)?;
-    let again = reload_once(&fuse, &mut owner)?;
-    let is_told = first.is_made() || !first.is_whole && first.is_refused();
-    Ok(Outcome::of(first.is_whole, is_told && again.is_made()))
-}
-
-/// The number that an owner without a log answers.
-fn ask_owner<'f>(heap: Heap<'f>, owner: &mut Owner<'f>, words: &str) -> Result<i64, Fail>
+/// A reload that may be refused, and another on the same sets, with memory. The first leaves the sets that some first
+/// records replay to. The last record is a removal, which takes what is kept back where it finds no memory.
+fn reload_twice<'f>(heap: Heap<'f>, owner: &mut Owner<Heap<'f>>) -> Result<Outcome, Fail>
     requires { owner.old.next ≡ None }
     ensures { owner.new.next ≡ None }
 {
-    let command = command(heap, words)?;
-    Ok(number(&owner.run(&command)))
+    let (is_whole, is_made, is_refused) = reload_once(heap, owner)?;
+    let (_, is_made_again, _) = reload_once(heap, owner)?;
+    let is_told = is_made || !is_whole && is_refused;
+    Ok(Outcome::of(is_whole, is_told && is_made_again))
 }
 
-/// The owner of two sets.
-fn owner_of_two<'f>(heap: Heap<'f>, hasher: RandomState) -> Result<Owner<'f>, Fail>
-    ensures { IfOk result (λ owner. owner.next ≡ None) }
-{
-    let mut owner = OneOwner::new(heap, hasher);
-    ask_owner(heap, &mut owner, "ZADD k 1 b 1 a 1 B")?;
-    ask_owner(heap, &mut owner, "ZADD j -3 x")?;
-    Ok(owner)
+/// Refuses one allocation of a reload.
+fn reload_refused(rt: &HostRuntime, allocation: u64) -> Result<Outcome, Fail> {
+    let hasher = RandomState::new(rt)?;
+    let fuse = Fuse::new(rt.alloc(), allocation);
+    let mut owner = OneOwner::new(&fuse, hasher);
+    let outcome = reload_twice(&fuse, &mut owner);
+    drop(owner);
+    outcome
 }
 
-/// Whether they are rewritten, both of them.
-fn are_rewritten<'f>(heap: Heap<'f>, owner: &Owner<'f>) -> bool
-    requires { owner.now.next ≡ None }
-{
-    let mut sink = MemorySink::new(heap, 7);
-    rewrite(heap, owner, &mut sink) == Ok(2) && sink.bytes() == TWO_SETS_REWRITTEN
-}
-
-/// Refuses an allocation of a rewrite, and then rewrites them with memory. The first is out of memory, or the sink in
-/// memory failed, which could not grow.
-fn rewrite_twice<'f>(heap: Heap<'f>, owner: &Owner<'f>, allocation: u64) -> Outcome
+/// Rewrites two sets. Where it is refused it is out of memory, or the sink in memory failed, which could not grow.
+fn rewrite_once<'f>(heap: Heap<'f>, owner: &Owner<Heap<'f>>, allocation: u64) -> Attempt
     requires { owner.now.next ≡ None }
 {
     let mut sink = MemorySink::new(heap, 7);
@@ -187,283 +105,218 @@ fn rewrite_twice<'f>(heap: Heap<'f>, owner: &Owner<'f>, allocation: u64) -> Outc
     let found = rewrite(heap, owner, &mut sink);
     let is_whole = heap.is_armed();
     heap.arm(0);
-    let is_told = match sink.bytes().len() {
-        123 => is_whole && found == Ok(2),
-        bytes => !is_whole && found.is_err() && bytes < 123,
-    };
-    Outcome::of(is_whole, is_told && are_rewritten(heap, owner))
+    let is_made = found == Ok(2) && sink.bytes() == TWO_SETS_REWRITTEN;
+    (
+        is_whole,
+        is_made,
+        found.is_err() && sink.bytes().len() < 123,
+    )
 }
 
+/// A rewrite one of whose allocations is refused, and another one with memory.
 fn rewrite_refused(rt: &HostRuntime, allocation: u64) -> Result<Outcome, Fail> {
     let fuse = Fuse::new(rt.alloc(), 0);
-    let owner = owner_of_two(&fuse, RandomState::new(rt)?)?;
-    Ok(rewrite_twice(&fuse, &owner, allocation))
+    let mut owner = OneOwner::new(&fuse, RandomState::new(rt)?);
+    let added = answers(&fuse, &mut owner, &["ZADD k 1 b 1 a 1 B", "ZADD j -3 x"]);
+    let (is_whole, is_made, is_refused) = rewrite_once(&fuse, &owner, allocation);
+    let (_, is_made_again, _) = rewrite_once(&fuse, &owner, 0);
+    drop(owner);
+    drop(added?);
+    let is_told = if is_whole { is_made } else { is_refused };
+    Ok(Outcome::of(is_whole, is_told && is_made_again))
 }
 
-/// The log of a change.
+/// A change of an owner whose records go to a log that keeps nothing.
 #[derive(Clone, Copy)]
-enum Over {
-    /// It takes all records.
-    Ample,
-    /// It was broken by the record before.
-    Broken,
-    /// It is full with the record before.
-    Full,
-    /// Its sink fails at its next call.
-    Failing,
+pub struct Change {
+    /// Which call of the log's sink fails, 0 for none. Each record is written by one, and synced by one more.
+    pub fails_at: u64,
+    /// How many records the log takes.
+    pub max_records: u64,
+    /// Commands before it, and the replies.
+    pub before: &'static [&'static str],
+    pub told_before: &'static str,
+    pub words: &'static str,
+    /// Commands behind it, which have memory.
+    pub behind: &'static [&'static str],
+    /// The replies to it and to these where it has its memory, and how many records the log has then.
+    pub whole: (&'static str, u64),
+    /// The same where an allocation is refused.
+    pub refused: (&'static str, u64),
 }
 
-impl Over {
-    /// How many records it takes.
-    fn max_records(self) -> u64
-        ensures some { 1 ≤ result }
-        ensures few { result ≤ 10 }
-    {
-        match self {
-            Over::Full => 1,
-            _ => 10,
-        }
-    }
-
-    /// Which call of its sink fails, 0 for none.
-    fn fails_at(self) -> u64 {
-        match self {
-            Over::Ample | Over::Full => 0,
-            Over::Broken => 1,
-            Over::Failing => 3,
-        }
-    }
-
-    /// What a change is answered that has its memory, and what it is answered when it is asked again.
-    fn answers(self) -> (i64, i64) {
-        match self {
-            Over::Ample => (1, 0),
-            Over::Broken => (-14, -14),
-            Over::Full => (-15, -15),
-            Over::Failing => (-16, -14),
-        }
-    }
-}
-
-/// An owner whose changes go to a log that keeps nothing.
-pub type Logged<'f, L> = LoggedOwner<RandomState, FuseSink<NoSink>, L, Heap<'f>>;
-
-/// The owner of a set k with `a` at 9, whose changes go to such a log from the first record on, that of another set:
-/// it may break the log, or fill it.
-fn logged_over<'f, L: Ledger>(
+/// Refuses one allocation of a change: whether there were fewer, and whether the replies are as they should be.
+fn told<'f, L: Ledger>(
     heap: Heap<'f>,
-    hasher: RandomState,
-    blank: Blank,
-    over: Over,
-) -> Result<Logged<'f, L>, Fail>
-    requires name { blank.name ≡ L.name }
-    requires parts { blank.parts ≡ L.parts }
-    requires two { blank.parts ≡ 2 }
-{
-    let mut owner = OneOwner::new(heap, hasher);
-    ask_owner(heap, &mut owner, "ZADD k 9 a")?;
-    let sink = FuseSink::new(NoSink::new(), over.fails_at());
-    let log = Log::<_, L>::new(blank, sink, over.max_records());
-    let mut owner = LoggedOwner::new(heap, owner, log);
-    ask(heap, &mut owner, "ZADD j 1 x")?;
-    Ok(owner)
-}
-
-/// The number that a command is answered.
-pub fn ask<'f, L: Ledger>(
-    heap: Heap<'f>,
-    owner: &mut Logged<'f, L>,
-    words: &str,
-) -> Result<i64, Fail> {
-    let command = command(heap, words)?;
-    Ok(number(&owner.run(&command)))
-}
-
-/// The change: a member gets another score, and another member is added.
-const CHANGE: &str = "ZADD k 1 a 2 b";
-
-/// How many records the log of an owner has.
-pub fn appended<L: Ledger>(owner: Logged<'_, L>) -> u64 {
-    let (_, log) = owner.into_parts();
-    log.appended()
-}
-
-/// What came of a change one of whose allocations was refused.
-#[derive(Clone, Copy)]
-struct AfterChange {
-    is_whole: bool,
-    /// What the change answered, and what it answered when it was asked again.
-    answers: (i64, i64),
-    /// How many members there are in between, and how many of them have the score from before.
-    members: (i64, i64),
-}
-
-/// Refuses one allocation of a change, and asks it again with memory.
-fn after_change<'f, L: Ledger>(
-    heap: Heap<'f>,
-    owner: &mut Logged<'f, L>,
-    allocation: u64,
-) -> Result<AfterChange, Fail> {
-    let change = command(heap, CHANGE)?;
-    heap.arm(allocation);
-    let changed = number(&owner.run(&change));
-    let is_whole = heap.is_armed();
-    heap.arm(0);
-    let members = ask(heap, owner, "ZCARD k")?;
-    let kept = ask(heap, owner, "ZCOUNT k 9 9")?;
-    let again = number(&owner.run(&change));
-    Ok(AfterChange {
-        is_whole,
-        answers: (changed, again),
-        members: (members, kept),
-    })
-}
-
-/// Whether the change was made at once, or was refused for want of memory and made when it was asked again. The log has
-/// its record, and that of the other set.
-fn is_made_once(after: AfterChange, appended: u64) -> bool {
-    let (answers, members) = if after.is_whole {
-        ((1, 0), (2, 0))
-    } else {
-        ((-1, 1), (1, 1))
-    };
-    after.answers == answers && after.members == members && appended == 2
-}
-
-/// Whether the set stayed, and the change was refused for want of memory, or by the log: in one way the first time that
-/// the log is asked, and in another after it.
-fn is_refused_by_a_log(after: AfterChange, answers: (i64, i64)) -> bool {
-    let wanted = if after.is_whole {
-        answers
-    } else {
-        (-1, answers.0)
-    };
-    after.answers == wanted && after.members == (1, 1)
-}
-
-/// A change over a log of this kind, one of whose allocations is refused, and how many records the log has then.
-fn change_over<L: Ledger>(
-    rt: &HostRuntime,
-    blank: Blank,
-    over: Over,
-    allocation: u64,
-) -> Result<(AfterChange, u64), Fail>
-    requires name { blank.name ≡ L.name }
-    requires parts { blank.parts ≡ L.parts }
-    requires two { blank.parts ≡ 2 }
-{
-    let hasher = RandomState::new(rt)?;
-    let fuse = Fuse::new(rt.alloc(), 0);
-    let mut owner = logged_over::<L>(&fuse, hasher, blank, over)?;
-    let after = after_change(&fuse, &mut owner, allocation)?;
-    Ok((after, appended(owner)))
-}
-
-fn change_refused(rt: &HostRuntime, over: Over, allocation: u64) -> Result<Outcome, Fail> {
-    let (after, appended) = change_over::<Brand>(rt, Blank::new(2), over, allocation)?;
-    let is_right = match over {
-        Over::Ample => is_made_once(after, appended),
-        _ => is_refused_by_a_log(after, over.answers()),
-    };
-    Ok(Outcome::of(after.is_whole, is_right))
-}
-
-/// Puts the bytes of the reply to a command.
-pub fn put_reply<'f, L: Ledger>(
-    heap: Heap<'f>,
-    owner: &mut Logged<'f, L>,
-    words: &str,
-    bytes: &mut Vec<u8, Heap<'f>>,
-) -> Result<(), Fail> {
-    let command = command(heap, words)?;
-    put_answer(owner.run(&command), bytes)
-}
-
-/// The replies to a change that was refused for want of memory, ZSCORE k a and ZCARD k; and those where it was made.
-const REFUSED: &[u8] = b"-ERR 1 out of memory\r\n$1\r\n9\r\n:1\r\n";
-
-const MADE: &[u8] = b":1\r\n$1\r\n1\r\n:2\r\n";
-
-/// Refuses one allocation of a change, which is asked once, and then asks ZSCORE and ZCARD with memory: whether there
-/// were fewer, and whether each reply is as it should be, byte by byte.
-fn told_of_change<'f, L: Ledger>(
-    heap: Heap<'f>,
-    owner: &mut Logged<'f, L>,
+    owner: &mut Logged<FuseSink<NoSink>, L, Heap<'f>>,
+    change: &Change,
     allocation: u64,
 ) -> Result<(bool, bool), Fail> {
-    let mut replies = Vec::new(heap);
-    let change = command(heap, CHANGE)?;
+    let command = command(heap, change.words)?;
     heap.arm(allocation);
-    let answer = owner.run(&change);
+    let answer = owner.run(&command);
     let is_whole = heap.is_armed();
     heap.arm(0);
-    put_answer(answer, &mut replies)?;
-    put_reply(heap, owner, "ZSCORE k a", &mut replies)?;
-    put_reply(heap, owner, "ZCARD k", &mut replies)?;
-    let told = if is_whole { MADE } else { REFUSED };
-    Ok((is_whole, replies.as_slice() == told))
+    drop(command);
+    let mut bytes = Vec::new(heap);
+    put_answer(answer, &mut bytes)?;
+    put_replies(heap, owner, change.behind, &mut bytes)?;
+    let (whole, _) = change.whole;
+    let (refused, _) = change.refused;
+    let wanted = if is_whole { whole } else { refused };
+    Ok((is_whole, shown(heap, &bytes)?.as_str() == wanted))
 }
 
-/// The log has the record of the other set, and that of the change where it was made.
-fn told_over<L: Ledger>(rt: &HostRuntime, blank: Blank, allocation: u64) -> Result<Outcome, Fail>
+/// The same behind the commands before it.
+fn told_behind<'f, L: Ledger>(
+    heap: Heap<'f>,
+    owner: &mut Logged<FuseSink<NoSink>, L, Heap<'f>>,
+    change: &Change,
+    allocation: u64,
+) -> Result<(bool, bool), Fail> {
+    let before = replies_to(heap, owner, change.before)?;
+    let was_told = before.as_str() == change.told_before;
+    drop(before);
+    let (is_whole, is_told) = told(heap, owner, change, allocation)?;
+    Ok((is_whole, was_told && is_told))
+}
+
+/// The same of an owner with a log of its own, which has as many records then as it should.
+fn change_refused<L: Ledger>(
+    rt: &HostRuntime,
+    blank: Blank,
+    change: &Change,
+    allocation: u64,
+) -> Result<Outcome, Fail>
     requires name { blank.name ≡ L.name }
     requires parts { blank.parts ≡ L.parts }
     requires two { blank.parts ≡ 2 }
 {
+    if change.max_records == 0 || change.max_records > 10 {
+        return Err("no limits of a log")?;
+    }
     let hasher = RandomState::new(rt)?;
     let fuse = Fuse::new(rt.alloc(), 0);
-    let mut owner = logged_over::<L>(&fuse, hasher, blank, Over::Ample)?;
-    let (is_whole, is_told) = told_of_change(&fuse, &mut owner, allocation)?;
-    let records = appended(owner);
-    Ok(Outcome::of(is_whole, is_told && records == 1 + u64::from(is_whole)))
-}
-
-fn told_refused(rt: &HostRuntime, allocation: u64) -> Result<Outcome, Fail> {
-    told_over::<Brand>(rt, Blank::new(2), allocation)
+    let sink = FuseSink::new(NoSink::new(), change.fails_at);
+    let log = Log::<_, L>::new(blank, sink, change.max_records);
+    let mut owner = LoggedOwner::new(&fuse, OneOwner::new(&fuse, hasher), log);
+    let told = told_behind(&fuse, &mut owner, change, allocation);
+    let (sets, log) = owner.into_parts();
+    drop(sets);
+    let records = log.appended();
+    drop(log);
+    let (is_whole, is_told) = told?;
+    let (_, whole) = change.whole;
+    let (_, refused) = change.refused;
+    let wanted = if is_whole { whole } else { refused };
+    Ok(Outcome::of(is_whole, is_told && records == wanted))
 }
 
 /// What is done whose allocations are refused.
 #[derive(Clone, Copy)]
-enum Work {
+pub enum Work<'w> {
     Reload,
     Rewrite,
-    /// A change, which is asked again.
-    Change(Over),
-    /// A change, which is told byte by byte.
-    ToldChange,
+    Change(&'w Change),
 }
 
 /// Refuses one allocation of it.
-fn outcome_of(rt: &HostRuntime, work: Work, allocation: u64) -> Result<Outcome, Fail> {
+fn outcome_of(rt: &HostRuntime, work: Work<'_>, allocation: u64) -> Result<Outcome, Fail> {
     match work {
         Work::Reload => reload_refused(rt, allocation),
         Work::Rewrite => rewrite_refused(rt, allocation),
-        Work::Change(over) => change_refused(rt, over, allocation),
-        Work::ToldChange => told_refused(rt, allocation),
+        Work::Change(change) => { change_refused::<Brand>(rt, Blank::new(2), change, allocation) }
     }
 }
 
-/// How many of its allocations were refused, one in each run, until a run had none that was.
-fn allocations_of(rt: &HostRuntime, work: Work) -> Result<u64, Fail> {
+/// How many of its allocations were refused, one in each run, until a run had none that was: 0 where a run went neither
+/// as refused nor as with memory.
+pub fn allocations_of(rt: &HostRuntime, work: Work<'_>) -> Result<u64, Fail> {
     for allocation in 1..1000u64 {
         match outcome_of(rt, work, allocation)? {
             Outcome::Whole => return Ok(allocation - 1),
             Outcome::Met => {}
-            Outcome::Wrong => return Err("neither refused nor as with memory")?,
+            Outcome::Wrong => return Ok(0),
         }
     }
     Err("no end")?
 }
 
+/// A member gets another score, and another member is added.
+const CHANGE: &str = "ZADD k 1 a 2 b";
+
+/// The log takes all records. A change that is refused is made when it is asked again.
+const LOGGED: Change = Change {
+    fails_at: 0,
+    max_records: 10,
+    before: &["ZADD k 9 a", "ZADD j 1 x"],
+    told_before: ":1~ :1~ ",
+    words: CHANGE,
+    behind: &["ZCARD k", "ZCOUNT k 9 9", CHANGE],
+    whole: (":1~ :2~ :0~ :0~ ", 3),
+    refused: ("-ERR 1 out of memory~ :1~ :1~ :1~ ", 3),
+};
+
+/// The same, asked once: the log has its record only where it was made.
+const ASKED_ONCE: Change = Change {
+    behind: &["ZSCORE k a", "ZCARD k"],
+    whole: (":1~ $1~1~ :2~ ", 3),
+    refused: ("-ERR 1 out of memory~ $1~9~ :1~ ", 2),
+    ..LOGGED
+};
+
+/// The log was broken by the record before.
+const BROKEN: Change = Change {
+    fails_at: 3,
+    told_before: ":1~ -ERR 16 append file failed~ ",
+    whole: (
+        "-ERR 14 append file failed earlier~ :1~ :1~ -ERR 14 append file failed earlier~ ",
+        1,
+    ),
+    refused: (
+        "-ERR 1 out of memory~ :1~ :1~ -ERR 14 append file failed earlier~ ",
+        1,
+    ),
+    ..LOGGED
+};
+
+/// The log is full with the record before.
+const FULL: Change = Change {
+    max_records: 2,
+    whole: (
+        "-ERR 15 append file is full~ :1~ :1~ -ERR 15 append file is full~ ",
+        2,
+    ),
+    refused: (
+        "-ERR 1 out of memory~ :1~ :1~ -ERR 15 append file is full~ ",
+        2,
+    ),
+    ..LOGGED
+};
+
+/// The log's sink fails at its next call.
+const FAILING: Change = Change {
+    fails_at: 5,
+    whole: (
+        "-ERR 16 append file failed~ :1~ :1~ -ERR 14 append file failed earlier~ ",
+        2,
+    ),
+    refused: (
+        "-ERR 1 out of memory~ :1~ :1~ -ERR 16 append file failed~ ",
+        2,
+    ),
+    ..LOGGED
+};
+
 /// What is done, and the least number of allocations that it makes, a sink's and a record's included.
-const WORKS: [(&str, Work, u64); 7] = [
+const WORKS: [(&str, Work<'static>, u64); 7] = [
     ("a reload", Work::Reload, 20),
     ("a rewrite", Work::Rewrite, 20),
-    ("a logged change", Work::Change(Over::Ample), 5),
-    ("a change byte by byte", Work::ToldChange, 5),
-    ("over a broken log", Work::Change(Over::Broken), 5),
-    ("over a full log", Work::Change(Over::Full), 5),
-    ("over a failing sink", Work::Change(Over::Failing), 5),
+    ("a logged change", Work::Change(&LOGGED), 5),
+    ("a change that is asked once", Work::Change(&ASKED_ONCE), 5),
+    ("over a broken log", Work::Change(&BROKEN), 5),
+    ("over a full log", Work::Change(&FULL), 5),
+    ("over a failing sink", Work::Change(&FAILING), 5),
 ];
 
 #[test]
