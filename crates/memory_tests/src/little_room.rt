@@ -2,7 +2,7 @@
 
 ghost use Rattle.std.specs.Prelude.{◌≡◌, None};
 
-use crate::owners::{Owner, command, reply, run_all};
+use crate::owners::{Owner, addition, command, replies};
 use append_log::{Log, LoggedOwner, NoSink};
 use linked_list_allocator::LocalHeap;
 use std::alloc::Global;
@@ -15,17 +15,8 @@ use zset_core::{Command, OneOwner};
 /// The bytes of a heap.
 const HEAP: usize = 1 << 20;
 
-/// The bytes of the least block that is taken of it. The rows of a long piece would take twelve times as many.
+/// The bytes of the least block that is taken of it. The rows of a long piece would take over fifteen times as many.
 const LEAST: usize = 1_024;
-
-/// `ZADD k` with 500 members, each with its number as its score.
-fn long_piece(alloc: Global) -> Result<String, Fail> {
-    let mut text = "ZADD k".to_string(alloc)?;
-    for number in 0..500u64 {
-        text.push_str(&format!(in alloc; " {number} m{number}")?)?;
-    }
-    Ok(text)
-}
 
 /// Takes room of a heap until no block of [`LEAST`] bytes is left.
 fn take_room(heap: &LocalHeap) -> Result<Vec<Vec<u8, &LocalHeap>, &LocalHeap>, Fail> {
@@ -48,20 +39,22 @@ fn window<'h>(
 ) -> Result<Vec<u8, &'h LocalHeap>, Fail>
     requires { owner.old.next ≡ None }
 {
-    run_all(heap, owner, &[text, "ZCOUNT k -inf +inf"])?;
+    drop(replies(heap, owner, &[text, "ZCOUNT k -inf +inf"])?);
     let _taken = take_room(heap)?;
-    reply(heap, owner, "ZRANGEBYSCORE k -inf +inf LIMIT 0 2")
+    replies(heap, owner, &["ZRANGEBYSCORE k -inf +inf LIMIT 0 2"])
 }
 
 #[test]
 fn a_short_window_of_a_long_piece_takes_little(rt: HostRuntime) -> Result<(), Fail> {
+    let text = addition(rt.alloc(), 500)?;
+    let hasher = RandomState::new(&rt)?;
     let heap = LocalHeap::new(rt.alloc(), HEAP)?;
-    let mut owner = OneOwner::new(&heap, RandomState::new(&rt)?);
-    let text = long_piece(rt.alloc())?;
-    let told = window(&heap, &mut owner, text.as_str())?;
+    let mut owner = OneOwner::new(&heap, hasher);
+    let told = window(&heap, &mut owner, text.as_str());
+    drop(owner);
     assert_eq!(rt;
-        told.as_slice(),
-        b"*2\r\n$2\r\nm0\r\n$2\r\nm1\r\n".as_slice()
+        told?.as_slice(),
+        b"*2\r\n$8\r\nmember-0\r\n$8\r\nmember-1\r\n".as_slice()
     );
     Ok(())
 }
@@ -69,23 +62,14 @@ fn a_short_window_of_a_long_piece_takes_little(rt: HostRuntime) -> Result<(), Fa
 /// What is left for the removal of a long member: enough to prepare it, and too little for its record.
 const LEFT_BESIDE_A_RECORD: usize = 16_384;
 
-/// The words of a command, and a member of 60,000 bytes behind them.
-fn with_long_member(alloc: Global, words: &str) -> Result<String, Fail> {
-    let mut text = words.to_string(alloc)?;
-    text.push_str(" ")?;
-    for _ in 0..6_000u16 {
-        text.push_str("0123456789")?;
-    }
-    Ok(text)
-}
-
-/// The command with these words and a long member behind them.
+/// The command with these words and a member of 60,000 bytes behind them.
 fn long_command<'h>(
     alloc: Global,
     heap: &'h LocalHeap,
     words: &str,
 ) -> Result<Command<&'h LocalHeap>, Fail> {
-    let text = with_long_member(alloc, words)?;
+    let member = "0123456789".repeat(alloc, 6_000)?;
+    let text = format!(in alloc; "{words} {member}")?;
     command(heap, text.as_str())
 }
 
@@ -104,10 +88,18 @@ fn is_taken_out<L: Ledger>(
     let removal = long_command(alloc, heap, "ZREM k")?;
     let log = Log::<_, L>::new(blank, NoSink::new(), 10);
     let mut owner = LoggedOwner::new(heap, OneOwner::new(heap, hasher), log);
-    let is_added = owner.run(&addition).is_ok();
+    let added = owner.run(&addition);
+    let is_added = added.is_ok();
+    drop(added);
     let room = heap.free().saturating_sub(LEFT_BESIDE_A_RECORD);
-    let _taken: Vec<u8, &LocalHeap> = Vec::with_capacity(heap, room)?;
-    Ok(is_added && owner.run(&removal).is_ok())
+    let taken: Result<Vec<u8, &LocalHeap>, _> = Vec::with_capacity(heap, room);
+    let removed = owner.run(&removal);
+    drop(addition);
+    drop(removal);
+    drop(owner);
+    let is_removed = removed.is_ok();
+    drop(removed);
+    Ok(is_added && taken.is_ok() && is_removed)
 }
 
 // A removal whose record finds no room lets go what was kept back, and is made.

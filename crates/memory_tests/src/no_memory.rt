@@ -3,13 +3,16 @@
 
 ghost use Rattle.std.specs.Prelude.{◌≡◌, ◌≤◌, length, None};
 
-use crate::owners::{Owner, command, run_all};
+use crate::owners::{Owner, command, replies};
 use fuse_alloc::Fuse;
 use resp_wire::Decoder;
-use std::alloc::{Allocator, Global};
+use std::alloc::Global;
 use std::hash::RandomState;
 use std::test::*;
-use zset_core::OneOwner;
+use zset_core::{Command, OneOwner};
+
+/// Memory one of whose allocations is refused.
+type Heap<'f> = &'f Fuse<Global>;
 
 /// A set with rows in pieces and rows that wait, and a set of one member.
 const SETUP: [&str; 5] = [
@@ -35,30 +38,47 @@ const CHANGES: [&str; 11] = [
     "ZREMRANGEBYSCORE k (6 8",
 ];
 
-/// Whether a change that is prepared is made without an allocation.
-fn is_made_without<A: Allocator + Copy>(
-    alloc: A,
-    fuse: &Fuse<Global>,
-    owner: &mut Owner<A>,
-    text: &str,
-) -> Result<bool, Fail>
+/// Whether a change is prepared, and then made without an allocation.
+fn is_made_without<'f>(
+    heap: Heap<'f>,
+    owner: &mut Owner<Heap<'f>>,
+    change: &Command<Heap<'f>>,
+) -> bool
     requires { owner.old.next ≡ None }
     ensures { owner.new.next ≡ None }
 {
-    let change = command(alloc, text)?;
     if !change.writes() {
-        Err("a reading command")?;
+        return false;
     }
-    match owner.prepare(&change) {
-        Err(_) => Err("refused")?,
-        Ok(_) => {
-            fuse.arm(1);
-            let _reply = owner.commit(&change);
-            let is_armed = fuse.is_armed();
-            fuse.arm(0);
-            Ok(is_armed)
+    match owner.prepare(change) {
+        Err(_refusal) => false,
+        Ok(_outline) => {
+            heap.arm(1);
+            drop(owner.commit(change));
+            let is_armed = heap.is_armed();
+            heap.arm(0);
+            is_armed
         }
     }
+}
+
+/// The first of the changes that is not, where there is one.
+fn first_with_memory<'f>(
+    heap: Heap<'f>,
+    owner: &mut Owner<Heap<'f>>,
+) -> Result<Option<&'static str>, Fail>
+    requires { owner.old.next ≡ None }
+{
+    drop(replies(heap, owner, &SETUP)?);
+    for text in CHANGES {
+        let change = command(heap, text)?;
+        let is_made = is_made_without(heap, owner, &change);
+        drop(change);
+        if !is_made {
+            return Ok(Some(text));
+        }
+    }
+    Ok(None)
 }
 
 // A change whose record is written is made, whatever memory there is then.
@@ -66,28 +86,25 @@ fn is_made_without<A: Allocator + Copy>(
 fn a_prepared_change_takes_no_memory(rt: HostRuntime) -> Result<(), Fail> {
     let fuse = Fuse::new(rt.alloc(), 0);
     let mut owner = OneOwner::new(&fuse, RandomState::new(&rt)?);
-    run_all(&fuse, &mut owner, &SETUP)?;
-    for text in CHANGES {
-        let is_made = is_made_without(&fuse, &fuse, &mut owner, text)?;
-        assert!(rt; is_made, "{text}");
-    }
+    let first = first_with_memory(&fuse, &mut owner);
+    drop(owner);
+    let first = first?.unwrap_or("none");
+    assert!(rt; first == "none", "{first}");
     Ok(())
 }
 
 /// Whether keys are told and a set leaves an owner without an allocation.
-fn leaves_without<A: Allocator + Copy>(
-    alloc: A,
-    fuse: &Fuse<Global>,
-    owner: &mut Owner<A>,
-) -> Result<bool, Fail>
+fn leaves_without<'f>(heap: Heap<'f>, owner: &mut Owner<Heap<'f>>) -> Result<bool, Fail>
     requires { owner.old.next ≡ None }
 {
-    run_all(alloc, owner, &SETUP)?;
-    fuse.arm(1);
+    drop(replies(heap, owner, &SETUP)?);
+    heap.arm(1);
     let is_told = owner.key_at(1) == Some(b"k".as_slice());
-    let has_left = owner.take_first().is_some();
-    let is_armed = fuse.is_armed();
-    fuse.arm(0);
+    let set = owner.take_first();
+    let has_left = set.is_some();
+    drop(set);
+    let is_armed = heap.is_armed();
+    heap.arm(0);
     Ok(is_told && has_left && is_armed)
 }
 
@@ -96,7 +113,9 @@ fn leaves_without<A: Allocator + Copy>(
 fn a_set_that_leaves_takes_no_memory(rt: HostRuntime) -> Result<(), Fail> {
     let fuse = Fuse::new(rt.alloc(), 0);
     let mut owner = OneOwner::new(&fuse, RandomState::new(&rt)?);
-    assert!(rt; leaves_without(&fuse, &fuse, &mut owner)?);
+    let leaves = leaves_without(&fuse, &mut owner);
+    drop(owner);
+    assert!(rt; leaves?);
     Ok(())
 }
 
@@ -109,23 +128,19 @@ const OF_NINE_WORDS: &[u8] =
       *9\r\n$1\r\n1\r\n$1\r\n2\r\n$1\r\n3\r\n$1\r\n4\r\n$1\r\n5\r\n$1\r\n6\r\n$1\r\n7\r\n$1\r\n8\r\n$1\r\n9\r\n";
 
 /// Whether the second of two requests is read without an allocation, where the first was answered and is reused.
-fn is_read_without<A: Allocator + Copy>(
-    alloc: A,
-    fuse: &Fuse<Global>,
-    two: &[u8],
-) -> Result<bool, Fail>
+fn is_read_without(heap: Heap<'_>, two: &[u8]) -> Result<bool, Fail>
     requires { length two.now ≤ 1000 }
 {
-    let mut decoder = Decoder::new(alloc);
+    let mut decoder = Decoder::new(heap);
     decoder.feed(two)?;
     let Ok(Some(answered)) = decoder.next() else {
         return Err("no request")?;
     };
     decoder.reuse(answered);
-    fuse.arm(1);
+    heap.arm(1);
     let is_given = matches!(decoder.next(), Ok(Some(_)));
-    let is_armed = fuse.is_armed();
-    fuse.arm(0);
+    let is_armed = heap.is_armed();
+    heap.arm(0);
     Ok(is_given && is_armed)
 }
 
@@ -133,7 +148,7 @@ fn is_read_without<A: Allocator + Copy>(
 #[test]
 fn a_short_request_behind_another_takes_no_memory(rt: HostRuntime) -> Result<(), Fail> {
     let fuse = Fuse::new(rt.alloc(), 0);
-    assert!(rt; is_read_without(&fuse, &fuse, OF_TWO_WORDS)?);
-    assert!(rt; !is_read_without(&fuse, &fuse, OF_NINE_WORDS)?);
+    assert!(rt; is_read_without(&fuse, OF_TWO_WORDS)?);
+    assert!(rt; !is_read_without(&fuse, OF_NINE_WORDS)?);
     Ok(())
 }

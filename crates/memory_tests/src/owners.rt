@@ -2,11 +2,11 @@
 
 ghost use Rattle.std.specs.Prelude.{◌≡◌, None};
 
-use resp_wire::{Bytes, BytesList, Request, write_reply};
-use std::alloc::Allocator;
+use resp_wire::{Bytes, BytesList, Reply, Request, write_reply};
+use std::alloc::{Allocator, Global};
 use std::hash::RandomState;
-use std::test::Fail;
-use zset_core::{Command, OneOwner};
+use std::test::*;
+use zset_core::{Command, OneOwner, Refusal};
 
 pub type Owner<A> = OneOwner<RandomState, A>;
 
@@ -20,37 +20,45 @@ pub fn command<A: Allocator + Copy>(alloc: A, text: &str) -> Result<Command<A>, 
     Command::read(alloc, request).map_err(|_| Fail::from("no command"))
 }
 
-/// The bytes of the reply to a command that is not refused.
-pub fn reply<A: Allocator + Copy>(
+/// Puts the bytes of a reply that is no refusal.
+fn put_reply<A: Allocator + Copy>(
+    answer: Result<Reply<A>, Refusal>,
+    bytes: &mut Vec<u8, A>,
+) -> Result<(), Fail> {
+    match answer {
+        Ok(reply) => {
+            let written = write_reply(&reply, bytes);
+            drop(reply);
+            Ok(written?)
+        }
+        Err(_refusal) => Err("refused")?,
+    }
+}
+
+/// The bytes of the replies to commands none of which is refused.
+pub fn replies<A: Allocator + Copy>(
     alloc: A,
     owner: &mut Owner<A>,
-    text: &str,
+    texts: &[&str],
 ) -> Result<Vec<u8, A>, Fail>
     requires { owner.old.next ≡ None }
     ensures { owner.new.next ≡ None }
 {
-    let command = command(alloc, text)?;
-    match owner.run(&command) {
-        Ok(reply) => {
-            let mut bytes = Vec::new(alloc);
-            write_reply(&reply, &mut bytes)?;
-            Ok(bytes)
-        }
-        Err(_) => Err("refused")?,
+    let mut bytes = Vec::new(alloc);
+    for text in texts {
+        let command = command(alloc, text)?;
+        let answer = owner.run(&command);
+        drop(command);
+        put_reply(answer, &mut bytes)?;
     }
+    Ok(bytes)
 }
 
-/// Runs commands none of which is refused.
-pub fn run_all<A: Allocator + Copy>(
-    alloc: A,
-    owner: &mut Owner<A>,
-    texts: &[&str],
-) -> Result<(), Fail>
-    requires { owner.old.next ≡ None }
-    ensures { owner.new.next ≡ None }
-{
-    for text in texts {
-        reply(alloc, owner, text)?;
+/// `ZADD k` with so many members, each with its number as its score.
+pub fn addition(alloc: Global, members: u64) -> Result<String, Fail> {
+    let mut text = "ZADD k".to_string(alloc)?;
+    for number in 0..members {
+        text.push_str(&format!(in alloc; " {number} member-{number}")?)?;
     }
-    Ok(())
+    Ok(text)
 }

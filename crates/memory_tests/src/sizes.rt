@@ -2,24 +2,14 @@
 
 ghost use Rattle.std.specs.Prelude.{◌≡◌, None};
 
-use crate::owners::{Owner, run_all};
+use crate::owners::{Owner, addition, replies};
 use linked_list_allocator::LocalHeap;
-use std::alloc::Global;
 use std::hash::RandomState;
 use std::test::*;
 use zset_core::OneOwner;
 
 /// The bytes of a heap.
 const HEAP: usize = 1 << 20;
-
-/// `ZADD k` with so many members, each with its number as its score.
-fn addition(alloc: Global, members: u64) -> Result<String, Fail> {
-    let mut text = "ZADD k".to_string(alloc)?;
-    for number in 0..members {
-        text.push_str(&format!(in alloc; " {number} member-{number}")?)?;
-    }
-    Ok(text)
-}
 
 /// The bytes that a set takes once so many members were added to it at once. Another set was there before.
 fn size_of<'h>(
@@ -29,9 +19,9 @@ fn size_of<'h>(
 ) -> Result<usize, Fail>
     requires { owner.old.next ≡ None }
 {
-    run_all(heap, owner, &["ZADD j 1 x"])?;
+    drop(replies(heap, owner, &["ZADD j 1 x"])?);
     let before = heap.used();
-    run_all(heap, owner, &[text])?;
+    drop(replies(heap, owner, &[text])?);
     Ok(heap.used().saturating_sub(before))
 }
 
@@ -42,10 +32,13 @@ const SIZES: [(u64, usize); 3] = [(1, 1500), (50, 6600), (200, 23_500)];
 #[test]
 fn a_new_set_keeps_no_room_for_removals(rt: HostRuntime) -> Result<(), Fail> {
     for (members, most) in SIZES {
-        let heap = LocalHeap::new(rt.alloc(), HEAP)?;
-        let mut owner = OneOwner::new(&heap, RandomState::new(&rt)?);
         let text = addition(rt.alloc(), members)?;
-        let bytes = size_of(&heap, &mut owner, text.as_str())?;
+        let hasher = RandomState::new(&rt)?;
+        let heap = LocalHeap::new(rt.alloc(), HEAP)?;
+        let mut owner = OneOwner::new(&heap, hasher);
+        let bytes = size_of(&heap, &mut owner, text.as_str());
+        drop(owner);
+        let bytes = bytes?;
         assert!(rt; bytes <= most, "{members} members: {bytes}");
     }
     Ok(())
