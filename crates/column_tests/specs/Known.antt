@@ -1,8 +1,0 @@
--- Rows that are known to be in a column.
-use Rattle.std.specs.Prelude.{◌≤◌, ℤ, ℕ, List, count_by}
-use Rattle.crack_kernel.specs.RowBag.{Test}
-use Rattle.ripple_column.specs.Content.{ColumnState, content_count}
-
--- the column holds these rows, and may hold others
-abbrev pub HoldsAll : ColumnState → List (ℤ × List ℕ) → Type 0
-HoldsAll c known = (p : Test) → count_by p known ≤ content_count p c
