@@ -7,11 +7,15 @@ mod columns;
 #[cfg(test)]
 mod gap_removals;
 #[cfg(test)]
+mod inner_pivots;
+#[cfg(test)]
 mod merges;
 #[cfg(test)]
 mod passes;
 #[cfg(test)]
 mod removals;
+#[cfg(test)]
+mod rows;
 #[cfg(test)]
 mod sizes;
 #[cfg(test)]

@@ -1,12 +1,16 @@
-ghost use Rattle.std.specs.Prelude.{◌≡◌, ◌<◌, length, IfOk, OnOk};
+//! Two columns that are driven by the same changes, merged more and less often, are alike whenever nothing waits.
+
+ghost use Rattle.std.specs.Prelude.{◌<◌, length, OnOk};
 ghost use Rattle.ripple_column.specs.Content.{Holds, SameContent};
 
+use crate::rows::{Ranges, Scores, count_each};
+use crate::steps::{add_known, take_known};
 use crack_kernel::Row;
 use ripple_column::Column;
 use score_bounds::{Bound, Range};
-use short_bytes::ShortBytes;
 use std::alloc::{AllocError, Global};
 use std::process::Abort;
+use std::test::Fail;
 
 // A linear congruential generator with the constants of Knuth's MMIX, and how many scores its rows
 // have.
@@ -40,13 +44,6 @@ impl Numbers {
     }
 }
 
-// The row of the same member with another score.
-fn with_score(alloc: Global, row: &Row<Global>, score: i64) -> Result<Row<Global>, AllocError>
-    ensures { IfOk result (λ r. r ≡ (score, row.now.1)) }
-{
-    Ok(Row::new(score, ShortBytes::from_slice(alloc, row.member())?))
-}
-
 // Adds a row to the column and to the list of the rows that it holds.
 fn add(
     alloc: Global,
@@ -61,15 +58,8 @@ fn add(
     let number = numbers.next() % 1000;
     let bytes = [(number % 251) as u8; 40];
     let len = (number % 41) as usize;
-    let row = Row::new(
-        numbers.score(),
-        ShortBytes::from_slice(alloc, &bytes[..len])?,
-    );
-    let copy = with_score(alloc, &row, row.score())?;
-    column.reserve_write(1)?;
-    column.insert(row);
-    held.push(copy)?;
-    Ok(())
+    let score = numbers.score();
+    add_known(alloc, column, held, score, &bytes[..len])
 }
 
 // Takes a row out of both.
@@ -82,10 +72,7 @@ fn take(
     requires within { index < length held.old.items }
     ensures { OnOk result (Holds column.new held.new.items) }
 {
-    column.reserve_write(1)?;
-    let row = held.swap_remove(index);
-    column.delete(row);
-    Ok(())
+    take_known(column, held, index)
 }
 
 // Adds rows and takes rows out, `adds` of four times an addition, and merges all that waits after each `each` of these
@@ -115,63 +102,43 @@ fn change(
     Ok(())
 }
 
-// Rows by score and member.
-fn sorted(alloc: Global, list: &[Row<Global>]) -> Result<Vec<&Row<Global>>, AllocError> {
-    let mut rows = Vec::new(alloc);
-    for row in list {
-        rows.push(row)?;
+// A number for a score and a member of up to 40 equal bytes, another for each; `None` for another member.
+fn number_of(row: &Row<Global>) -> Option<i64> {
+    let member = row.member();
+    let byte = member.first().copied().unwrap_or(0);
+    if member.len() > 40 || member != &[byte; 40][..member.len()] {
+        return None;
     }
-    rows.sort_unstable_by(|x, y| {
-        x.score()
-            .cmp(&y.score())
-            .then_with(|| x.member().cmp(y.member()))
-    });
-    Ok(rows)
+    let place = i64::from(byte) * 41 + member.len() as i64;
+    Some(row.score().saturating_mul(16_384).saturating_add(place))
 }
 
-// Whether two lists have the same rows, each at the same place.
-fn are_same(rows: &[&Row<Global>], others: &[&Row<Global>]) -> bool {
-    for (row, like) in rows.iter().zip(others.iter()) {
-        if !row.is_same(*like) {
-            return false;
-        }
+// These numbers of rows, in order.
+fn sorted(alloc: Global, rows: &[Row<Global>]) -> Result<Vec<i64>, Fail> {
+    let mut numbers = Vec::new(alloc);
+    for row in rows {
+        numbers.push(number_of(row).ok_or("a row of another member")?)?;
     }
-    rows.len() == others.len()
+    numbers.sort_unstable();
+    Ok(numbers)
 }
 
-// Two lists have the same rows when they are sorted.
-fn expect_same_rows<R: Abort>(
-    rt: &R,
-    alloc: Global,
-    one: &[Row<Global>],
-    other: &[Row<Global>],
-) -> Result<(), AllocError> {
-    let rows = sorted(alloc, one)?;
-    let others = sorted(alloc, other)?;
-    assert!(rt; are_same(&rows, &others));
-    Ok(())
+// Whether nothing waits in a column, and its rows are just those of such numbers.
+fn has_just(alloc: Global, column: &Column<Global>, wanted: &[i64]) -> Result<bool, Fail> {
+    let numbers = sorted(alloc, column.rows(0, column.len()))?;
+    Ok(column.pending() == (0, 0) && numbers.as_slice() == wanted)
 }
 
-// In two columns nothing waits, and they have the same rows and the same pivots at the same places.
-fn expect_alike<R: Abort>(
-    rt: &R,
+// Whether in two columns nothing waits, and they have the rows of a list, and the same pivots at the same places.
+fn are_alike(
     alloc: Global,
     one: &Column<Global>,
     other: &Column<Global>,
-) -> Result<(), AllocError> {
-    assert_eq!(rt; one.pivot_list(), other.pivot_list());
-    assert_eq!(rt; one.pending(), (0, 0));
-    assert_eq!(rt; other.pending(), (0, 0));
-    let rows = one.rows(0, one.len());
-    expect_same_rows(rt, alloc, rows, other.rows(0, other.len()))
-}
-
-// A narrow range from a score on.
-fn range_from(low: i64) -> Range {
-    Range {
-        min: Bound::Incl(low),
-        max: Bound::Excl(low.saturating_add(30)),
-    }
+    held: &[Row<Global>],
+) -> Result<bool, Fail> {
+    let wanted = sorted(alloc, held)?;
+    let have_rows = has_just(alloc, one, &wanted)? && has_just(alloc, other, &wanted)?;
+    Ok(have_rows && one.pivot_list() == other.pivot_list())
 }
 
 // A column, the rows that it holds, the numbers that drive it, and after how many changes each all that waits is
@@ -195,170 +162,122 @@ impl Driven {
             each,
         }
     }
-
-    // Selects so many ranges apart from each other, each of which leaves two pivots.
-    fn show_pivots(&mut self, ranges: u32) -> Result<(), AllocError>
-        requires { Holds self.old.column self.old.held.items }
-        ensures { OnOk result (Holds self.new.column self.new.held.items) }
-    {
-        for turn in 0..ranges {
-            let low = i64::from(turn).saturating_mul(900);
-            self.column
-                .select(&range_from(low.saturating_sub(500_000)))?;
-        }
-        Ok(())
-    }
 }
 
 // Changes a column, and selects a range where the numbers say, of which a window of ten ranks is
 // then wanted: the range's lower end, and how many rows it has.
-fn drive(
-    alloc: Global,
-    column: &mut Column<Global>,
-    held: &mut Vec<Row<Global>>,
-    numbers: &mut Numbers,
-    adds: u32,
-    each: u32,
-) -> Result<(i64, usize), AllocError>
-    requires { Holds column.old held.old.items }
-    ensures { OnOk result (Holds column.new held.new.items) }
+fn drive(alloc: Global, driven: &mut Driven, adds: u32) -> Result<(i64, usize), AllocError>
+    requires { Holds driven.old.column driven.old.held.items }
+    ensures { OnOk result (Holds driven.new.column driven.new.held.items) }
 {
-    change(alloc, column, held, numbers, adds, each)?;
+    let Driven {
+        column,
+        held,
+        numbers,
+        each,
+    } = driven;
+    change(alloc, column, held, numbers, adds, *each)?;
     let low = numbers.score();
-    let range = range_from(low);
+    let range = Range {
+        min: Bound::Incl(low),
+        max: Bound::Excl(low.saturating_add(30)),
+    };
     let (from, to) = column.select(&range)?;
     let start = from.saturating_add(numbers.below(1000)).min(to);
     column.narrow(start, start.saturating_add(10).min(to));
     Ok((low, to - from))
 }
 
-// Merges all that waits in both columns, which are then alike.
-fn merge_alike<R: Abort>(
-    rt: &R,
-    alloc: Global,
-    one: &mut Column<Global>,
-    other: &mut Column<Global>,
-) -> Result<(), AllocError>
-    ensures one { SameContent one.old one.new }
-    ensures other { SameContent other.old other.new }
-{
-    one.merge_all()?;
-    other.merge_all()?;
-    expect_alike(rt, alloc, one, other)
-}
-
-// The columns are driven once, by numbers of the same state, and their ranges are the same.
-fn drive_both<R: Abort>(
-    rt: &R,
-    alloc: Global,
-    one: &mut Driven,
-    other: &mut Driven,
-    adds: u32,
-) -> Result<(), AllocError>
+// All that waits in both is merged: whether they are alike, with the rows that the first holds.
+fn are_merged_alike(alloc: Global, one: &mut Driven, other: &mut Driven) -> Result<bool, Fail>
     requires one { Holds one.old.column one.old.held.items }
     requires other { Holds other.old.column other.old.held.items }
     ensures one { OnOk result (Holds one.new.column one.new.held.items) }
     ensures other { OnOk result (Holds other.new.column other.new.held.items) }
+    ensures content_one { SameContent one.old.column one.new.column }
+    ensures content_other { SameContent other.old.column other.new.column }
 {
-    let answer = drive(
-        alloc,
-        &mut one.column,
-        &mut one.held,
-        &mut one.numbers,
-        adds,
-        one.each,
-    )?;
-    let like = drive(
-        alloc,
-        &mut other.column,
-        &mut other.held,
-        &mut other.numbers,
-        adds,
-        other.each,
-    )?;
-    assert_eq!(rt; answer, like);
-    Ok(())
+    one.column.merge_all()?;
+    other.column.merge_all()?;
+    are_alike(alloc, &one.column, &other.column, one.held.as_slice())
 }
 
-// How many scores rows have, how many ranges are selected before there are rows, in how many rounds rows then come and
-// go, and of four changes how many add a row, in rounds in turn.
-#[derive(Clone, Copy)]
+// What drives two columns: how many scores rows have, how many ranges apart from each other are selected before there
+// are rows, in how many rounds rows then come and go, of four changes how many add a row, in rounds in turn, the state
+// in which the numbers begin, and after how many changes each is merged.
 struct Course {
+    what: &'static str,
     scores: u32,
-    ranges: u32,
+    ranges: u16,
     rounds: usize,
     adds: [u32; 4],
+    state: u64,
+    each: (u32, u32),
 }
 
-// All that waits in both is merged: they are alike, with the rows that the first holds.
-fn expect_merged_alike<R: Abort>(
-    rt: &R,
+// Drives both in rounds by the same numbers, and merges them in each third: whether their ranges are the same, and they
+// are alike.
+fn are_driven_alike(
     alloc: Global,
     one: &mut Driven,
     other: &mut Driven,
-) -> Result<(), AllocError>
-    requires one { Holds one.old.column one.old.held.items }
-    requires other { Holds other.old.column other.old.held.items }
-    ensures one { OnOk result (Holds one.new.column one.new.held.items) }
-    ensures other { OnOk result (Holds other.new.column other.new.held.items) }
-{
-    merge_alike(rt, alloc, &mut one.column, &mut other.column)?;
-    let rows = one.column.rows(0, one.column.len());
-    expect_same_rows(rt, alloc, rows, one.held.as_slice())?;
-    Ok(())
-}
-
-// Drives both in rounds, and merges them in each third.
-fn drive_in_rounds<R: Abort>(
-    rt: &R,
-    alloc: Global,
-    one: &mut Driven,
-    other: &mut Driven,
-    course: Course,
-) -> Result<(), AllocError>
+    course: &Course,
+) -> Result<bool, Fail>
     requires one { Holds one.old.column one.old.held.items }
     requires other { Holds other.old.column other.old.held.items }
 {
     for round in 0..course.rounds {
-        drive_both(rt, alloc, one, other, course.adds[round % 4])?;
-        if round % 3 == 0 {
-            expect_merged_alike(rt, alloc, one, other)?;
+        let adds = course.adds[round % 4];
+        if drive(alloc, one, adds)? != drive(alloc, other, adds)? {
+            return Ok(false);
+        }
+        if round % 3 == 0 && !are_merged_alike(alloc, one, other)? {
+            return Ok(false);
         }
     }
-    Ok(())
+    Ok(true)
+}
+
+// Selects the ranges of a course, each of which leaves two pivots.
+fn show_pivots(column: &mut Column<Global>, course: &Course) -> Result<bool, AllocError>
+    ensures { SameContent column.old column.new }
+{
+    let ranges = Ranges {
+        from: Scores {
+            count: course.ranges,
+            first: -500_000,
+            apart: 900,
+            stride: 1,
+        },
+        width: Some(30),
+    };
+    count_each(column, &ranges)?;
+    Ok(column.pivot_list().len() == 2 * usize::from(course.ranges))
 }
 
 // Shows the pivots of a course in both, and drives them.
-fn drive_through<R: Abort>(
-    rt: &R,
+fn are_alike_all_along(
     alloc: Global,
     one: &mut Driven,
     other: &mut Driven,
-    course: Course,
-) -> Result<(), AllocError>
+    course: &Course,
+) -> Result<bool, Fail>
     requires one { Holds one.old.column one.old.held.items }
     requires other { Holds other.old.column other.old.held.items }
 {
-    one.show_pivots(course.ranges)?;
-    other.show_pivots(course.ranges)?;
-    let pivots = one.column.pivot_list().len();
-    assert!(rt; pivots == (course.ranges as usize).saturating_mul(2));
-    drive_in_rounds(rt, alloc, one, other, course)
+    let is_one_shown = show_pivots(&mut one.column, course)?;
+    let is_other_shown = show_pivots(&mut other.column, course)?;
+    Ok(is_one_shown && is_other_shown && are_driven_alike(alloc, one, other, course)?)
 }
 
-// Random changes, merges and selects lead to the same rows and pivots, however many changes each all that waits is
-// merged, and to the rows of a plain list: the same numbers drive both columns.
-fn run_both<R: Abort>(
-    rt: &R,
-    alloc: Global,
-    state: u64,
-    course: Course,
-    each: (u32, u32),
-) -> Result<(), AllocError> {
-    let scores = course.scores;
-    let mut one = Driven::new(alloc, Numbers { state, scores }, each.0);
-    let mut other = Driven::new(alloc, Numbers { state, scores }, each.1);
-    drive_through(rt, alloc, &mut one, &mut other, course)
+// Whether random changes, merges and selects lead to the same rows and pivots, however many changes each all that waits
+// is merged, and to the rows of a plain list: the same numbers drive both columns.
+fn is_alike(alloc: Global, course: &Course) -> Result<bool, Fail> {
+    let Course { state, scores, .. } = *course;
+    let (seldom, often) = course.each;
+    let mut one = Driven::new(alloc, Numbers { state, scores }, seldom);
+    let mut other = Driven::new(alloc, Numbers { state, scores }, often);
+    are_alike_all_along(alloc, &mut one, &mut other, course)
 }
 
 // Rows come, stay as many, go, and come and go.
@@ -367,48 +286,101 @@ const TO_AND_FRO: [u32; 4] = [4, 2, 1, 2];
 // Past 10,000 rows.
 const MORE_AND_MORE: [u32; 4] = [4, 4, 2, 3];
 
-// Many rows at once, and few: among few pivots these move each by itself.
-const SELDOM_AND_OFTEN: (u32, u32) = (u32::MAX, 10);
-
-// 40 rounds with few pivots, of a test's numbers.
-fn few_pivots(scores: u32, adds: [u32; 4]) -> Course {
-    Course {
-        scores,
-        ranges: 0,
-        rounds: 40,
-        adds,
-    }
-}
-
-#[test]
-fn merging_at_once_is_merging_row_by_row(rt: HostRuntime) -> Result<(), AllocError> {
-    for (state, scores) in [(0, 200), (1, 200), (2, 3), (3, 1)] {
-        let course = few_pivots(scores, TO_AND_FRO);
-        run_both(&rt, rt.alloc(), state, course, SELDOM_AND_OFTEN)?;
-    }
-    Ok(())
-}
-
-#[test]
-fn many_rows_are_merged_alike(rt: HostRuntime) -> Result<(), AllocError> {
-    for (state, scores) in [(4, 1_000_000), (5, 2)] {
-        let course = few_pivots(scores, MORE_AND_MORE);
-        run_both(&rt, rt.alloc(), state, course, SELDOM_AND_OFTEN)?;
-    }
-    Ok(())
-}
+// Merged at once and row by row: many rows at once, and few. Among few pivots these move each by itself.
+const FEW_PIVOTS: Course = Course {
+    what: "200 scores",
+    scores: 200,
+    ranges: 0,
+    rounds: 40,
+    adds: TO_AND_FRO,
+    state: 0,
+    each: (u32::MAX, 10),
+};
 
 // Among many pivots two rows and more are merged by a pass, which goes from one to the next.
-#[test]
-fn few_rows_among_many_pivots_are_merged_as_one_is(rt: HostRuntime) -> Result<(), AllocError> {
-    let course = Course {
-        scores: 1_000_000,
-        ranges: 1_100,
-        rounds: 9,
-        adds: TO_AND_FRO,
-    };
-    for (state, each) in [(6, 2), (7, 5), (8, 31)] {
-        run_both(&rt, rt.alloc(), state, course, (each, 1))?;
+const MANY_PIVOTS: Course = Course {
+    what: "two rows at once",
+    scores: 1_000_000,
+    ranges: 1_100,
+    rounds: 9,
+    adds: TO_AND_FRO,
+    state: 6,
+    each: (2, 1),
+};
+
+// The columns of each course are alike all along.
+fn expect_alike<R: Abort>(rt: &R, alloc: Global, courses: &[Course]) -> Result<(), Fail> {
+    for course in courses {
+        assert!(rt; is_alike(alloc, course)?, "{}", course.what);
     }
     Ok(())
+}
+
+const FEW_ROWS: [Course; 4] = [
+    FEW_PIVOTS,
+    Course {
+        what: "200 scores again",
+        state: 1,
+        ..FEW_PIVOTS
+    },
+    Course {
+        what: "three scores",
+        scores: 3,
+        state: 2,
+        ..FEW_PIVOTS
+    },
+    Course {
+        what: "one score",
+        scores: 1,
+        state: 3,
+        ..FEW_PIVOTS
+    },
+];
+
+#[test]
+fn merging_at_once_is_merging_row_by_row(rt: HostRuntime) -> Result<(), Fail> {
+    expect_alike(&rt, rt.alloc(), &FEW_ROWS)
+}
+
+const MANY_ROWS: [Course; 2] = [
+    Course {
+        what: "many scores",
+        scores: 1_000_000,
+        adds: MORE_AND_MORE,
+        state: 4,
+        ..FEW_PIVOTS
+    },
+    Course {
+        what: "two scores",
+        scores: 2,
+        adds: MORE_AND_MORE,
+        state: 5,
+        ..FEW_PIVOTS
+    },
+];
+
+#[test]
+fn many_rows_are_merged_alike(rt: HostRuntime) -> Result<(), Fail> {
+    expect_alike(&rt, rt.alloc(), &MANY_ROWS)
+}
+
+const AMONG_MANY_PIVOTS: [Course; 3] = [
+    MANY_PIVOTS,
+    Course {
+        what: "five rows at once",
+        state: 7,
+        each: (5, 1),
+        ..MANY_PIVOTS
+    },
+    Course {
+        what: "31 rows at once",
+        state: 8,
+        each: (31, 1),
+        ..MANY_PIVOTS
+    },
+];
+
+#[test]
+fn few_rows_among_many_pivots_are_merged_as_one_is(rt: HostRuntime) -> Result<(), Fail> {
+    expect_alike(&rt, rt.alloc(), &AMONG_MANY_PIVOTS)
 }

@@ -1,27 +1,27 @@
 //! That many rows are merged by passes over the pieces. No answer tells it, so the clock has to: at once they take a
 //! small part of the time of the same rows one by one. Were no pass made they would take as long.
 
-use crate::columns::add;
+use crate::rows::{RISING, Ranges, Scores, add, add_each, count_each};
 use ripple_column::Column;
-use score_bounds::{Bound, Range};
 use std::alloc::{AllocError, Global};
-use std::test::*;
+use std::test::Fail;
 use std::time::{Duration, Instant};
 
-/// Adds 2,000 rows, and selects ranges whose cuts are as many pivots.
-fn part(alloc: Global, column: &mut Column<Global>) -> Result<(), AllocError> {
-    for i in 0..2000u16 {
-        add(alloc, column, i64::from(i), b"m")?;
-    }
-    for i in 0..1000u16 {
-        let low = 2 * i64::from(i);
-        column.select(&Range {
-            min: Bound::Incl(low),
-            max: Bound::Excl(low + 1),
-        })?;
-    }
-    Ok(())
-}
+/// 2,000 scores from 0 on.
+const PARTED: Scores = Scores {
+    count: 2000,
+    ..RISING
+};
+
+/// Ranges whose cuts are as many pivots.
+const RANGES: Ranges = Ranges {
+    from: Scores {
+        count: 1000,
+        apart: 2,
+        ..RISING
+    },
+    width: Some(1),
+};
 
 /// Adds 200 rows below all pivots, and merges them: each by itself, or all at once.
 fn add_below(
@@ -44,7 +44,8 @@ fn time_in(
     column: &mut Column<Global>,
     is_each_merged: bool,
 ) -> Result<Duration, Fail> {
-    part(rt.alloc(), column)?;
+    add_each(rt.alloc(), column, &PARTED)?;
+    count_each(column, &RANGES)?;
     let start = Instant::now(rt)?;
     add_below(rt.alloc(), column, is_each_merged)?;
     Ok(start.elapsed(rt)?)

@@ -1,13 +1,12 @@
 //! Each allocation of a column's calls refused in turn: where a call is refused for want of one, the column is as
 //! before and answers once it is asked again. Inner pivots are done without.
 
-use crack_kernel::Row;
+use crate::rows::{RISING, Ranges, Scores, add_each, count_each, has_rows};
 use fuse_alloc::Fuse;
 use ripple_column::Column;
 use score_bounds::{Bound, Range};
-use short_bytes::ShortBytes;
 use std::alloc::{AllocError, Allocator, Global};
-use std::test::*;
+use std::test::Fail;
 
 /// The calls of a column that change it.
 #[derive(Clone, Copy)]
@@ -51,19 +50,10 @@ fn is_removed<A: Allocator + Copy>(column: &mut Column<A>, range: &Range) -> boo
 }
 
 /// A column in numbers: its rows, those that wait as insertions and as deletions, and the pivots that it shows.
-#[derive(Clone, Copy, PartialEq, Eq)]
-struct Numbers {
-    rows: usize,
-    pending: (usize, usize),
-    pivots: usize,
-}
+type Numbers = (usize, (usize, usize), usize);
 
 fn numbers_of<A: Allocator + Copy>(column: &Column<A>) -> Numbers {
-    Numbers {
-        rows: column.len(),
-        pending: column.pending(),
-        pivots: column.pivot_list().len(),
-    }
+    (column.len(), column.pending(), column.pivot_list().len())
 }
 
 /// Adds so many rows with scores from 0 on.
@@ -72,26 +62,18 @@ fn fill<A: Allocator + Copy>(
     column: &mut Column<A>,
     count: u16,
 ) -> Result<(), AllocError> {
-    for i in 0..count {
-        let row = Row::new(
-            i64::from(i),
-            ShortBytes::from_slice(alloc, &i.to_be_bytes())?,
-        );
-        column.reserve_write(1)?;
-        column.insert(row);
-    }
-    Ok(())
+    add_each(alloc, column, &Scores { count, ..RISING })
 }
 
 /// Asks for so many ranges, which end where none begins.
 fn crack<A: Allocator + Copy>(column: &mut Column<A>, count: u16) -> Result<(), AllocError> {
-    for i in 0..count {
-        let low = 10 * i64::from(i);
-        column.select(&Range {
-            min: Bound::Incl(low),
-            max: Bound::Incl(low + 4),
-        })?;
-    }
+    let from = Scores {
+        count,
+        apart: 10,
+        ..RISING
+    };
+    let width = Some(5);
+    count_each(column, &Ranges { from, width })?;
     Ok(())
 }
 
@@ -113,14 +95,7 @@ fn set_up<A: Allocator + Copy>(
     fill(alloc, column, setup.first)?;
     crack(column, setup.ranges)?;
     fill(alloc, column, setup.then)?;
-    answer(column, setup.answered)
-}
-
-fn answer<A: Allocator + Copy>(
-    column: &mut Column<A>,
-    range: Option<Range>,
-) -> Result<(), AllocError> {
-    if let Some(range) = range {
+    if let Some(range) = setup.answered {
         column.narrow(1000, 1010);
         column.select(&range)?;
     }
@@ -155,31 +130,6 @@ fn push_left(scores: &mut Vec<i64>, count: u16, call: Call) -> Result<(), AllocE
     Ok(())
 }
 
-/// Whether each row has the member that its score names.
-fn are_named<A: Allocator>(rows: &[Row<A>]) -> bool {
-    for row in rows {
-        let name = row.score().to_be_bytes();
-        if name.strip_suffix(row.member()).is_none() {
-            return false;
-        }
-    }
-    true
-}
-
-/// Whether rows have just these scores, which are in order.
-fn have_scores<A: Allocator>(
-    alloc: Global,
-    rows: &[Row<A>],
-    wanted: &[i64],
-) -> Result<bool, AllocError> {
-    let mut scores: Vec<i64> = Vec::new(alloc);
-    for row in rows {
-        scores.push(row.score())?;
-    }
-    scores.sort_unstable();
-    Ok(scores.as_slice() == wanted)
-}
-
 /// Whether a column has the rows that a call leaves, once all that waits is merged.
 fn has_rows_of<A: Allocator + Copy>(
     alloc: Global,
@@ -188,9 +138,8 @@ fn has_rows_of<A: Allocator + Copy>(
     call: Call,
 ) -> Result<bool, AllocError> {
     column.merge_all()?;
-    let rows = column.rows(0, column.len());
     let wanted = scores_of(alloc, setup, call)?;
-    Ok(are_named(rows) && have_scores(alloc, rows, &wanted)?)
+    has_rows(alloc, column, &RISING, &wanted)
 }
 
 /// What came of a call one of whose allocations was refused.
@@ -206,15 +155,16 @@ struct After {
     has_rows: bool,
 }
 
-fn refuse<'f>(
-    fuse: &'f Fuse<Global>,
+fn refuse<A: Allocator + Copy>(
+    fuse: &Fuse<Global>,
+    fused: A,
     room: Global,
-    column: &mut Column<&'f Fuse<Global>>,
+    column: &mut Column<A>,
     setup: Setup,
     call: Call,
     allocation: u64,
 ) -> Result<After, AllocError> {
-    set_up(fuse, column, setup)?;
+    set_up(fused, column, setup)?;
     let before = numbers_of(column);
     fuse.arm(allocation);
     let is_made_at_once = is_made(column, call);
@@ -224,13 +174,16 @@ fn refuse<'f>(
     if !is_made_at_once {
         is_made(column, call);
     }
+    let end = numbers_of(column);
+    let with_inner = column.piece_list().len();
+    let has_rows = has_rows_of(room, column, setup, call)?;
     Ok(After {
         is_whole,
         is_made: is_made_at_once,
         has_stayed,
-        end: numbers_of(column),
-        with_inner: column.piece_list().len(),
-        has_rows: has_rows_of(room, column, setup, call)?,
+        end,
+        with_inner,
+        has_rows,
     })
 }
 
@@ -243,7 +196,7 @@ fn refuse_anew(
     allocation: u64,
 ) -> Result<After, AllocError> {
     let mut column = Column::new(fuse);
-    refuse(fuse, room, &mut column, setup, call, allocation)
+    refuse(fuse, fuse, room, &mut column, setup, call, allocation)
 }
 
 fn refused(alloc: Global, setup: Setup, call: Call, allocation: u64) -> Result<After, AllocError> {
@@ -253,7 +206,7 @@ fn refused(alloc: Global, setup: Setup, call: Call, allocation: u64) -> Result<A
 
 /// How many allocations of a call were refused, one in each run, how often the call was refused for want of one, and
 /// how many inner pivots the column has where none was refused.
-#[derive(Clone, Copy, Debug)]
+#[derive(Clone, Copy)]
 struct Points {
     all: u64,
     refused: u64,
@@ -281,7 +234,7 @@ fn points_of(alloc: Global, setup: Setup, call: Call, end: Numbers) -> Result<Po
             return Ok(Points {
                 all: allocation - 1,
                 refused: refusals,
-                inner: after.with_inner.saturating_sub(end.pivots),
+                inner: after.with_inner.saturating_sub(end.2),
             });
         }
         refusals = refusals.saturating_add(u64::from(!after.is_made));
@@ -335,7 +288,7 @@ const LONG: Setup = Setup {
 type Least = (u64, u64, usize);
 
 /// Calls, with the rows, the insertions and deletions that wait, and the shown pivots that each leaves.
-const CALLS: [(&str, Setup, Call, (usize, (usize, usize), usize), Least); 6] = [
+const CALLS: [(&str, Setup, Call, Numbers, Least); 6] = [
     (
         "a first range of rows that wait",
         TEN,
@@ -382,57 +335,59 @@ const CALLS: [(&str, Setup, Call, (usize, (usize, usize), usize), Least); 6] = [
 
 #[test]
 fn calls_meet_each_refused_allocation(rt: HostRuntime) -> Result<(), Fail> {
-    for (name, setup, call, (rows, pending, pivots), least) in CALLS {
-        let end = Numbers {
-            rows,
-            pending,
-            pivots,
-        };
-        let points = points_of(rt.alloc(), setup, call, end)?;
-        assert!(rt; points.are_at_least(least), "{name}: {points:?}");
+    for (name, setup, call, end, least) in &CALLS {
+        let points = points_of(rt.alloc(), *setup, *call, *end)?;
+        assert!(rt; points.are_at_least(*least), "{name}");
     }
     Ok(())
 }
 
-/// Whether a call changes a column without an allocation.
-fn is_made_without_memory(alloc: Global, setup: Setup, call: Call) -> Result<bool, AllocError> {
+/// Whether rows leave, or are merged, without an allocation.
+fn is_made_without_memory(
+    alloc: Global,
+    first: u16,
+    then: u16,
+    leaving: Option<Range>,
+) -> Result<bool, AllocError> {
+    let setup = Setup {
+        first,
+        ranges: 0,
+        then,
+        answered: leaving,
+    };
+    let call = match leaving {
+        None => Call::MergeAll,
+        Some(range) => Call::Remove(range),
+    };
     let after = refused(alloc, setup, call, 1)?;
     Ok(after.is_whole && after.is_made && !after.has_stayed && after.has_rows)
 }
 
-/// Ranges near the low end of a column and in its middle, which rows leave.
-const REMOVED: [Range; 3] = [
-    FOUR,
-    Range {
-        min: Bound::Incl(5),
-        max: Bound::Excl(9),
-    },
-    ALL,
+const MIDDLE: Range = Range {
+    min: Bound::Incl(5),
+    max: Bound::Excl(9),
+};
+
+/// Changes that take no memory, of so many rows, with so many that wait behind them: a range leaves, or all is merged.
+/// Beside many rows there is room for those that wait, so that rows can leave where there is none left.
+const WITHOUT_MEMORY: [(&str, u16, u16, Option<Range>); 9] = [
+    ("ten rows: some near the low end leave", 10, 0, Some(FOUR)),
+    ("ten rows: some in the middle leave", 10, 0, Some(MIDDLE)),
+    ("ten rows: all leave", 10, 0, Some(ALL)),
+    ("many rows: four low ones leave", 4097, 0, Some(FOUR)),
+    ("many rows: others near leave", 4097, 0, Some(MIDDLE)),
+    ("many rows: all leave", 4097, 0, Some(ALL)),
+    ("one row more is merged", 4097, 1, None),
+    ("100 more are merged", 4097, 100, None),
+    ("2,000 more are merged", 4097, 2000, None),
 ];
 
 #[test]
-fn rows_leave_without_memory(rt: HostRuntime) -> Result<(), Fail> {
-    for first in [10u16, 4097] {
-        for range in REMOVED {
-            let setup = Setup {
-                first,
-                answered: Some(range),
-                ..NONE
-            };
-            assert!(rt; is_made_without_memory(rt.alloc(), setup, Call::Remove(range))?);
-        }
-    }
-    Ok(())
-}
-
-// Beside many rows there is room for those that wait, so that rows can leave where there is none left.
-#[test]
-fn rows_beside_many_are_merged_without_memory(rt: HostRuntime) -> Result<(), Fail> {
-    for then in [1u16, 100, 2000] {
-        let setup = Setup { then, ..LONG };
+fn rows_leave_and_are_merged_without_memory(rt: HostRuntime) -> Result<(), Fail> {
+    for (name, first, then, leaving) in &WITHOUT_MEMORY {
         assert!(rt;
-            is_made_without_memory(rt.alloc(), setup, Call::MergeAll)?,
-            "{then}"
+            is_made_without_memory(rt.alloc(), *first, *then, *leaving)?,
+            "{name}"
         );
     }
     Ok(())

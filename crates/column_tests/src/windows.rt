@@ -1,11 +1,9 @@
-ghost use Rattle.std.specs.Prelude.{◌<◌, ◌≤◌, ◌^◌};
+//! Windows that slide: rows come at the high end, and as many leave at the low one.
 
-use crate::columns::{add, expect_count, expect_state};
-use crate::removals::{expect_parted, remove};
-use crate::steps::{Bulk, Step, expect_steps, expect_steps_anew};
-use crack_kernel::Row;
+use crate::rows::{RISING, add_at, has_rows};
+use crate::steps::{Step, is_removed, right_steps};
 use ripple_column::Column;
-use score_bounds::{Bound, Range};
+use score_bounds::Bound;
 use std::alloc::{AllocError, Global};
 use std::process::Abort;
 
@@ -16,157 +14,86 @@ struct Window {
     scores: Vec<i64>,
 }
 
-// Adds a row whose member is its score.
-fn add_at(alloc: Global, column: &mut Column<Global>, score: i64) -> Result<(), AllocError> {
-    add(alloc, column, score, &score.to_be_bytes())
-}
-
-// Adds so many rows with the scores from 0 on.
-pub fn add_rising(alloc: Global, column: &mut Column<Global>, rows: u16) -> Result<(), AllocError> {
-    for score in 0..rows {
-        add_at(alloc, column, i64::from(score))?;
-    }
-    Ok(())
-}
-
 // Adds a row at the high end.
-fn push(alloc: Global, window: &mut Window, score: i64) -> Result<(), AllocError> {
-    add_at(alloc, &mut window.column, score)?;
-    window.scores.push(score)?;
+fn push(alloc: Global, window: &mut Window, score: u16) -> Result<(), AllocError> {
+    add_at(alloc, &mut window.column, &RISING, score)?;
+    window.scores.push(i64::from(score))?;
     Ok(())
 }
 
 // Adds so many rows with the scores from 0 on.
 fn fill(alloc: Global, window: &mut Window, len: u16) -> Result<(), AllocError> {
     for score in 0..len {
-        push(alloc, window, i64::from(score))?;
+        push(alloc, window, score)?;
     }
     Ok(())
 }
 
+// Takes the rows of a range out, which are so many from a place on.
+fn removes(
+    window: &mut Window,
+    min: Bound,
+    max: Bound,
+    place: usize,
+    count: usize,
+) -> Result<bool, AllocError> {
+    for _ in 0..count {
+        if place < window.scores.len() {
+            window.scores.remove(place);
+        }
+    }
+    is_removed(&mut window.column, min, max, count)
+}
+
 // Takes the first row out.
-fn remove_first<R: Abort>(rt: &R, window: &mut Window) -> Result<(), AllocError> {
-    assert!(rt; !window.scores.is_empty());
-    let first = window.scores.remove(0);
-    let column = &mut window.column;
-    remove(rt, column, Bound::NegInf, Bound::Incl(first), 1)
+fn removes_first(window: &mut Window) -> Result<bool, AllocError> {
+    match window.scores.first().copied() {
+        None => Ok(false),
+        Some(first) => removes(window, Bound::NegInf, Bound::Incl(first), 0, 1),
+    }
+}
+
+// Takes the row in the middle and the one before it out.
+fn removes_two(window: &mut Window) -> Result<bool, AllocError> {
+    let middle = window.scores.len() / 2;
+    let before = middle.saturating_sub(1);
+    let low = window.scores.get(before).copied().map(Bound::Incl);
+    let high = window.scores.get(middle).copied().map(Bound::Incl);
+    match (low, high) {
+        (Some(min), Some(max)) => removes(window, min, max, before, 2),
+        _ => Ok(false),
+    }
 }
 
 // Adds rows with the scores from `from` on and before `to`, and takes the first row out after each. Those
 // that came are merged where their score can be divided by `merged`.
-fn slide<R: Abort>(
-    rt: &R,
+fn slides(
     alloc: Global,
     window: &mut Window,
     from: u16,
     to: u16,
     merged: u16,
-) -> Result<(), AllocError>
-    requires { 0 < merged }
-{
+) -> Result<bool, AllocError> {
     for score in from..to {
-        push(alloc, window, i64::from(score))?;
-        if score % merged == 0 {
+        push(alloc, window, score)?;
+        if score.checked_rem(merged) == Some(0) {
             window.column.merge_all()?;
         }
-        remove_first(rt, window)?;
+        if !removes_first(window)? {
+            return Ok(false);
+        }
     }
-    window.column.merge_all()
-}
-
-// Each row has its score as its member.
-fn expect_members<R: Abort>(rt: &R, rows: &[Row<Global>]) {
-    for row in rows {
-        assert!(rt; row.member() == row.score().to_be_bytes().as_slice());
-    }
-}
-
-// The column has just these rows, and its pivots part them.
-fn expect_rows<R: Abort>(rt: &R, alloc: Global, window: &Window) -> Result<(), AllocError> {
-    let rows = window.column.rows(0, window.column.len());
-    expect_members(rt, rows);
-    expect_parted(rt, &window.column);
-    let mut scores: Vec<i64> = rows.iter().map(|row| row.score()).collect(alloc)?;
-    scores.sort_unstable();
-    assert!(rt; scores.as_slice() == window.scores.as_slice());
-    Ok(())
-}
-
-// Slides, and has just the rows that came last then.
-fn expect_slide<R: Abort>(
-    rt: &R,
-    alloc: Global,
-    window: &mut Window,
-    from: u16,
-    to: u16,
-    merged: u16,
-) -> Result<(), AllocError>
-    requires { 0 < merged }
-{
-    slide(rt, alloc, window, from, to, merged)?;
-    expect_rows(rt, alloc, window)
-}
-
-// Takes two rows in the middle out.
-fn remove_two<R: Abort>(rt: &R, window: &mut Window) -> Result<(), AllocError> {
-    let middle = window.scores.len() / 2;
-    assert!(rt; middle > 0);
-    let second = window.scores.remove(middle);
-    let first = window.scores.remove(middle - 1);
-    let column = &mut window.column;
-    remove(rt, column, Bound::Incl(first), Bound::Incl(second), 2)
+    window.column.merge_all()?;
+    Ok(true)
 }
 
 // Takes all rows out, and adds another.
-fn expect_emptied<R: Abort>(rt: &R, alloc: Global, window: &mut Window) -> Result<(), AllocError> {
+fn empties(alloc: Global, window: &mut Window) -> Result<bool, AllocError> {
     let rows = window.scores.len();
-    remove(rt, &mut window.column, Bound::NegInf, Bound::PosInf, rows)?;
-    window.scores.clear();
+    let is_empty = removes(window, Bound::NegInf, Bound::PosInf, 0, rows)?;
     push(alloc, window, 7)?;
     window.column.merge_all()?;
-    expect_rows(rt, alloc, window)
-}
-
-// Turns a window of `len` rows over twice, takes rows in the middle out, turns it over again, and empties it.
-fn expect_turns<R: Abort>(
-    rt: &R,
-    alloc: Global,
-    window: &mut Window,
-    len: u16,
-    merged: u16,
-) -> Result<(), AllocError>
-    requires some { 0 < len }
-    requires few { len < 2 ^ 14 }
-    requires merged { 0 < merged }
-{
-    expect_slide(rt, alloc, window, len, 3 * len, merged)?;
-    remove_two(rt, window)?;
-    expect_rows(rt, alloc, window)?;
-    expect_slide(rt, alloc, window, 3 * len, 4 * len - 2, merged)?;
-    expect_emptied(rt, alloc, window)
-}
-
-// Pivots behind rows that left, and a range.
-const CLOSED_UP: [Step; 3] = [
-    Step::State(&[(1, 0), (2, 0), (3, 0)], 10, (0, 0)),
-    Step::Count(Bound::Incl(5), Bound::Incl(6), 2),
-    Step::State(&[(1, 0), (2, 0), (3, 0), (5, 2), (7, 4)], 10, (0, 0)),
-];
-
-// The pivots once three more rows left.
-const SEVEN_PIVOTS: [(i64, usize); 7] = [(1, 0), (2, 0), (3, 0), (4, 0), (5, 0), (6, 0), (7, 1)];
-
-// Pivots of a window of ten rows close up.
-fn expect_closed_up<R: Abort>(
-    rt: &R,
-    alloc: Global,
-    window: &mut Window,
-) -> Result<(), AllocError> {
-    slide(rt, alloc, window, 10, 13, 1)?;
-    expect_steps(rt, alloc, &mut window.column, &CLOSED_UP)?;
-    slide(rt, alloc, window, 13, 16, 1)?;
-    expect_state(rt, &window.column, &SEVEN_PIVOTS, 10, (0, 0));
-    Ok(())
+    Ok(is_empty)
 }
 
 // How many rows the first piece with rows has.
@@ -179,147 +106,142 @@ fn first_piece(column: &Column<Global>) -> usize {
     column.len()
 }
 
-// More turns than there may be pivots for a search to crack at: a sliding cut reads a short piece all the same.
-fn expect_short_pieces<R: Abort>(
-    rt: &R,
-    alloc: Global,
-    window: &mut Window,
-) -> Result<(), AllocError> {
-    assert!(rt; first_piece(&window.column) > 2048);
-    slide(rt, alloc, window, 9000, 9600, 8)?;
-    assert!(rt; first_piece(&window.column) <= 2048);
-    expect_rows(rt, alloc, window)
+/// What becomes of a window.
+enum Turn {
+    /// Rows with the scores from one on and before another come, and the first row leaves after each. Those that came
+    /// are merged where their score can be divided by the third number.
+    Slides(u16, u16, u16),
+    /// Two rows in the middle leave.
+    LosesTwo,
+    /// All rows leave, and another comes.
+    IsEmptied,
+    /// Its column takes steps.
+    Takes(&'static [Step]),
+    /// Whether its first piece with rows is long.
+    HasLongPiece(bool),
 }
 
-// What is expected of a window.
-#[derive(Clone, Copy)]
-enum Course {
-    // It turns over, with the rows that came merged where their score can be divided by this.
-    Turns(u16),
-    ClosesUp,
-    HasShortPieces,
-}
-
-// Fills a window with so many rows, and expects that of it.
-fn expect_course<R: Abort>(
-    rt: &R,
-    alloc: Global,
-    window: &mut Window,
-    len: u16,
-    course: Course,
-) -> Result<(), AllocError>
-    requires some { 0 < len }
-    requires few { len < 2 ^ 14 }
-{
-    fill(alloc, window, len)?;
-    match course {
-        Course::Turns(merged) => expect_turns(rt, alloc, window, len, merged.max(1)),
-        Course::ClosesUp => expect_closed_up(rt, alloc, window),
-        Course::HasShortPieces => expect_short_pieces(rt, alloc, window),
+fn is_turned(alloc: Global, window: &mut Window, turn: &Turn) -> Result<bool, AllocError> {
+    match turn {
+        Turn::Slides(from, to, merged) => slides(alloc, window, *from, *to, *merged),
+        Turn::LosesTwo => removes_two(window),
+        Turn::IsEmptied => empties(alloc, window),
+        Turn::Takes(steps) => Ok(right_steps(alloc, &mut window.column, steps)? == steps.len()),
+        Turn::HasLongPiece(_) => Ok(false),
     }
 }
 
-// The same of a new window.
-fn expect_of_window<R: Abort>(
-    rt: &R,
+// Turns a window, which then has just its rows; or tells of its first piece, whatever waits.
+fn is_right(alloc: Global, window: &mut Window, turn: &Turn) -> Result<bool, AllocError> {
+    if let Turn::HasLongPiece(is_long) = turn {
+        return Ok((first_piece(&window.column) > 2048) == *is_long);
+    }
+    let is_done = is_turned(alloc, window, turn)?;
+    Ok(is_done && has_rows(alloc, &window.column, &RISING, window.scores.as_slice())?)
+}
+
+// Fills a window with so many rows, and turns it; how many turns come before one that tells what is not so.
+fn right_turns(
     alloc: Global,
+    window: &mut Window,
     len: u16,
-    course: Course,
-) -> Result<(), AllocError>
-    requires some { 0 < len }
-    requires few { len < 2 ^ 14 }
-{
+    turns: &[Turn],
+) -> Result<usize, AllocError> {
+    fill(alloc, window, len)?;
+    let mut count = 0usize;
+    for turn in turns {
+        if !is_right(alloc, window, turn)? {
+            return Ok(count);
+        }
+        count = count.saturating_add(1);
+    }
+    Ok(count)
+}
+
+// The same with a new window.
+fn right_turns_anew(alloc: Global, len: u16, turns: &[Turn]) -> Result<usize, AllocError> {
     let mut window = Window {
         column: Column::new(alloc),
         scores: Vec::new(alloc),
     };
-    expect_course(rt, alloc, &mut window, len, course)
+    right_turns(alloc, &mut window, len, turns)
 }
+
+// A window of ten rows turns over twice, and once more behind rows in the middle that left, and is emptied.
+const TEN: &[Turn] = &[
+    Turn::Slides(10, 30, 1),
+    Turn::LosesTwo,
+    Turn::Slides(30, 38, 1),
+    Turn::IsEmptied,
+];
+
+const MANY: &[Turn] = &[
+    Turn::Slides(3000, 9000, 1),
+    Turn::LosesTwo,
+    Turn::Slides(9000, 11_998, 1),
+    Turn::IsEmptied,
+];
+
+const SELDOM_MERGED: &[Turn] = &[
+    Turn::Slides(3000, 9000, 64),
+    Turn::LosesTwo,
+    Turn::Slides(9000, 11_998, 64),
+    Turn::IsEmptied,
+];
+
+// Pivots behind rows that left, and a range; and the pivots once three more rows left.
+const CLOSED_UP: &[Turn] = &[
+    Turn::Slides(10, 13, 1),
+    Turn::Takes(&[
+        Step::State(&[(1, 0), (2, 0), (3, 0)], 10, (0, 0)),
+        Step::Count(Bound::Incl(5), Bound::Incl(6), 2),
+        Step::State(&[(1, 0), (2, 0), (3, 0), (5, 2), (7, 4)], 10, (0, 0)),
+    ]),
+    Turn::Slides(13, 16, 1),
+    Turn::Takes(&[Step::State(&SEVEN_PIVOTS, 10, (0, 0))]),
+];
+
+const SEVEN_PIVOTS: [(i64, usize); 7] = [(1, 0), (2, 0), (3, 0), (4, 0), (5, 0), (6, 0), (7, 1)];
+
+// More turns than there may be pivots for a search to crack at: a sliding cut reads a short piece all the same.
+const SHORT_PIECES: &[Turn] = &[
+    Turn::HasLongPiece(true),
+    Turn::Slides(9000, 9600, 8),
+    Turn::HasLongPiece(false),
+];
+
+// What becomes of a new window of so many rows.
+type Course = (&'static str, u16, &'static [Turn]);
+
+// Each window is as its turns tell.
+fn expect_turns<R: Abort>(rt: &R, alloc: Global, courses: &[Course]) -> Result<(), AllocError> {
+    for (what, len, turns) in courses {
+        let count = right_turns_anew(alloc, *len, turns)?;
+        assert!(rt; count == turns.len(), "{what}: turn {count}");
+    }
+    Ok(())
+}
+
+const LEAVING: [Course; 2] = [("ten rows", 10, TEN), ("many rows", 3000, MANY)];
 
 #[test]
 fn the_first_row_leaves_again_and_again(rt: HostRuntime) -> Result<(), AllocError> {
-    for (len, merged) in [(10, 1), (3000, 1), (3000, 64)] {
-        expect_of_window(&rt, rt.alloc(), len, Course::Turns(merged))?;
-    }
-    Ok(())
+    expect_turns(&rt, rt.alloc(), &LEAVING)
 }
+
+const WAITING: [Course; 1] = [("many rows", 3000, SELDOM_MERGED)];
 
 #[test]
-fn pivots_close_up_behind_rows_that_left(rt: HostRuntime) -> Result<(), AllocError> {
-    expect_of_window(&rt, rt.alloc(), 10, Course::ClosesUp)
+fn the_first_row_leaves_while_others_wait(rt: HostRuntime) -> Result<(), AllocError> {
+    expect_turns(&rt, rt.alloc(), &WAITING)
 }
 
-#[test]
-fn a_sliding_cut_finds_short_pieces(rt: HostRuntime) -> Result<(), AllocError> {
-    expect_of_window(&rt, rt.alloc(), 9000, Course::HasShortPieces)
-}
-
-// Cuts that move on, below each of which a row waits.
-pub fn move_on<R: Abort>(
-    rt: &R,
-    alloc: Global,
-    column: &mut Column<Global>,
-    to: u16,
-) -> Result<(), AllocError> {
-    for score in 0..to {
-        add(alloc, column, i64::from(score), b"late")?;
-        let rows = 2 * (usize::from(score) + 1);
-        expect_count(
-            rt,
-            column,
-            Bound::NegInf,
-            Bound::Incl(i64::from(score)),
-            rows,
-        )?;
-    }
-    Ok(())
-}
-
-// Its cuts leave many shown pivots close at the low end, and a long piece behind them. A row waits below one of them:
-// the inner pivots of the long piece stay, so that the next cut does not read all of it.
-const MOVED_ON: [Step; 5] = [
-    Step::Bulk(Bulk::Rising(9000)),
-    Step::Bulk(Bulk::MovingCuts(600)),
-    Step::Add(5, b"later"),
-    Step::Count(Bound::NegInf, Bound::Incl(99), 201),
-    Step::HasInner(true),
+const PARTED: [Course; 2] = [
+    ("pivots close up behind rows that left", 10, CLOSED_UP),
+    ("a sliding cut finds short pieces", 9000, SHORT_PIECES),
 ];
 
 #[test]
-fn cuts_that_move_on_keep_inner_pivots(rt: HostRuntime) -> Result<(), AllocError> {
-    expect_steps_anew(&rt, rt.alloc(), &MOVED_ON)
-}
-
-// Counts below so many bounds, six scores apart: each is a pivot that is shown.
-pub fn show_pivots(column: &mut Column<Global>, count: u16) -> Result<(), AllocError> {
-    for i in 1..count {
-        column.select(&Range {
-            min: Bound::NegInf,
-            max: Bound::Excl(6 * i64::from(i)),
-        })?;
-    }
-    Ok(())
-}
-
-// How many pivots there are beside those that are shown.
-pub fn inner_pivots(column: &Column<Global>) -> usize {
-    column
-        .piece_list()
-        .len()
-        .saturating_sub(column.pivot_list().len())
-}
-
-// Counts at new bounds would take longer: each bound goes into two lists of pivots, as long as an inner one is left.
-const INNER_ONES_DROPPED: [Step; 6] = [
-    Step::Bulk(Bulk::Long),
-    Step::Narrow(0, 10),
-    Step::Bulk(Bulk::Below(500)),
-    Step::HasInner(true),
-    Step::Bulk(Bulk::Below(700)),
-    Step::HasInner(false),
-];
-
-#[test]
-fn few_inner_pivots_beside_many_are_dropped(rt: HostRuntime) -> Result<(), AllocError> {
-    expect_steps_anew(&rt, rt.alloc(), &INNER_ONES_DROPPED)
+fn pieces_of_a_window_stay_short(rt: HostRuntime) -> Result<(), AllocError> {
+    expect_turns(&rt, rt.alloc(), &PARTED)
 }

@@ -1,15 +1,8 @@
-use Rattle.std.proofs.Common.{◌≡◌, ◌++◌, ◌∷◌, [], arith}
-use Rattle.std.proofs.lemmas.Int.{ints}
-use Rattle.ripple_column.specs.Content.{Holds}
-use Rattle.ripple_column.proofs.CallerLemmas.{Holds-added, Holds-same, row-same}
+use Rattle.column_tests.proofs.Known.{HoldsAll-just, Holds-kept}
 use Rattle.column_tests.proofs.merges.add.Goals as goal
 
+pub add_known-requires : goal.add_known-requires
+add_known-requires c = HoldsAll-just c.args.column.now c.args.held.now.items c.requires
+
 pub returns : goal.returns
-returns c =
-    let held = c.args.held.now.items in
-    let row = c.new-row.result in
-    let copy = row-same c.in_ok-copy.copy row _ c.in_ok-copy.ensures (omega (arith, ints)) in
-    let holds = Holds-same c.args.column.now c.reserve_write.new.self held c.reserve_write.ensures.content c.requires in
-    let added : Holds c.insert.new.self (held ++ row ∷ []) = Holds-added c.reserve_write.new.self c.insert.new.self held row holds c.insert.ensures.content in
-    let items : c.push.new.self.items ≡ held ++ c.in_ok-copy.copy ∷ [] = c.in_ok-push.ensures.items in
-    rw (items, copy) added
+returns c = Holds-kept c.add_known.result c.args.column.now c.add_known.new.column c.args.held.now.items c.add_known.new.known.items c.requires c.add_known.ensures.others
