@@ -20,6 +20,8 @@ PATIENCE = float(os.environ.get("PATIENCE", 1))
 SECONDS = 20
 # What a test may take to clean up once its time is over.
 LAST_SECONDS = 5
+# So many programs run at once where one of them does not wait for another.
+AT_ONCE = os.cpu_count() or 1
 
 tests = []
 started = []
@@ -101,9 +103,10 @@ def read(path):
 
 
 def refusing():
-    """A library that refuses allocations, threads and paths, as refusing.c says."""
+    """A library by which calls are refused, fail or move few bytes, as refusing.c says. It is made once in a test's folder."""
     library = os.path.abspath("refusing.so")
-    subprocess.run(["cc", "-shared", "-fPIC", "-o", library, f"{HERE}/refusing.c", "-ldl"], check=True)
+    if not os.path.exists(library):
+        subprocess.run(["cc", "-shared", "-fPIC", "-o", library, f"{HERE}/refusing.c", "-ldl"], check=True)
     return library
 
 

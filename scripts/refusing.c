@@ -1,6 +1,17 @@
-/* For the tests of the built program, by LD_PRELOAD. Refuses the one allocation whose number, from 1, is in
-   REFUSED_ALLOCATION, or the one thread whose number is in REFUSED_THREAD, and then makes the file that REFUSED_MARK
-   names, so that a run that met no refusal is told from one that did. Refuses to open the path that is in REFUSED_PATH. */
+/* For the tests of the built program, by LD_PRELOAD: calls that fail or move few bytes, as the environment says.
+
+   REFUSED_ALLOCATION, REFUSED_THREAD: the number, from 1, of the one allocation or thread that is refused. Where
+   REFUSED_BEHIND_INPUT is there, only those allocations count that are made between the read of standard input of this
+   number and the next one. REFUSED_PATH: a path that is not opened.
+
+   FAILING_INPUT, FAILING_OUTPUT, FAILING_RECV, FAILING_SEND, FAILING_FILE: the number of the one read of standard input,
+   write to standard output, call of a connection, or write or sync of another file, that fails. A read fails that had
+   found something: a look at a connection on which nothing came does not count. MOST_INPUT, MOST_OUTPUT, MOST_RECV,
+   MOST_SEND, MOST_FILE: how many bytes the first such call moves at most, the second and so on, between blanks; the last
+   number is that of all further calls.
+
+   What is refused or fails makes the file that REFUSED_MARK names, so that a run that met it is told from one that did
+   not. Threads count together. */
 #define _GNU_SOURCE
 #include <dlfcn.h>
 #include <errno.h>
@@ -9,6 +20,8 @@
 #include <stdarg.h>
 #include <stdlib.h>
 #include <string.h>
+#include <sys/socket.h>
+#include <sys/stat.h>
 #include <unistd.h>
 
 int open(const char *path, int flags, ...)
@@ -26,30 +39,112 @@ int open(const char *path, int flags, ...)
     return next(path, flags, mode);
 }
 
-/* Whether the next of what is counted has the number that this variable gives. Threads count together. */
+/* Counts a call, and tells whether it has the number that this variable gives. */
 static int is_refused(const char *variable, long *count)
 {
+    long made = __atomic_add_fetch(count, 1, __ATOMIC_RELAXED);
     const char *number = getenv(variable);
     const char *mark = getenv("REFUSED_MARK");
-    if (!number || !mark || __atomic_add_fetch(count, 1, __ATOMIC_RELAXED) != atol(number))
+    if (!number || !mark || made != atol(number))
         return 0;
     close(open(mark, O_CREAT | O_WRONLY | O_CLOEXEC, 0600));
     return 1;
 }
 
+/* Calls of one kind: the variables that say which fails and how many bytes they move, and how many there were. */
+struct calls {
+    const char *failing, *most;
+    long count;
+};
+
+static struct calls input = {"FAILING_INPUT", "MOST_INPUT", 0};
+static struct calls output = {"FAILING_OUTPUT", "MOST_OUTPUT", 0};
+static struct calls received = {"FAILING_RECV", "MOST_RECV", 0};
+static struct calls sent = {"FAILING_SEND", "MOST_SEND", 0};
+static struct calls file = {"FAILING_FILE", "MOST_FILE", 0};
+
+/* How many of these bytes the next call of a kind moves at most. */
+static size_t at_most(const struct calls *calls, size_t length)
+{
+    char *rest = getenv(calls->most);
+    long most = 0;
+    for (long number = 0; rest && *rest && number <= calls->count; number++)
+        most = strtol(rest, &rest, 10);
+    return most > 0 && (size_t)most < length ? (size_t)most : length;
+}
+
+/* Counts a call that found or moved something, or is to; an error where it is the one that fails. */
+static ssize_t counted(struct calls *calls, ssize_t moved)
+{
+    if (moved < 0 || !is_refused(calls->failing, &calls->count))
+        return moved;
+    errno = EIO;
+    return -1;
+}
+
+static int is_file(int descriptor)
+{
+    struct stat found;
+    return descriptor > 2 && fstat(descriptor, &found) == 0 && S_ISREG(found.st_mode);
+}
+
+ssize_t read(int descriptor, void *buffer, size_t length)
+{
+    ssize_t (*next)(int, void *, size_t) = dlsym(RTLD_NEXT, "read");
+    if (descriptor != 0)
+        return next(descriptor, buffer, length);
+    return counted(&input, next(descriptor, buffer, at_most(&input, length)));
+}
+
+ssize_t recv(int descriptor, void *buffer, size_t length, int flags)
+{
+    ssize_t (*next)(int, void *, size_t, int) = dlsym(RTLD_NEXT, "recv");
+    return counted(&received, next(descriptor, buffer, at_most(&received, length), flags));
+}
+
+ssize_t write(int descriptor, const void *bytes, size_t length)
+{
+    ssize_t (*next)(int, const void *, size_t) = dlsym(RTLD_NEXT, "write");
+    struct calls *calls = descriptor == 1 ? &output : is_file(descriptor) ? &file : NULL;
+    if (!calls)
+        return next(descriptor, bytes, length);
+    size_t most = at_most(calls, length);
+    return counted(calls, 0) < 0 ? -1 : next(descriptor, bytes, most);
+}
+
+ssize_t send(int descriptor, const void *bytes, size_t length, int flags)
+{
+    ssize_t (*next)(int, const void *, size_t, int) = dlsym(RTLD_NEXT, "send");
+    size_t most = at_most(&sent, length);
+    return counted(&sent, 0) < 0 ? -1 : next(descriptor, bytes, most, flags);
+}
+
+int fdatasync(int descriptor)
+{
+    int (*next)(int) = dlsym(RTLD_NEXT, "fdatasync");
+    return counted(&file, 0) < 0 ? -1 : next(descriptor);
+}
+
 static long allocations = 0;
 static long threads = 0;
+
+/* Whether an allocation counts that is made now, and has the number of the one that is refused. */
+static int is_without_memory(void)
+{
+    const char *behind = getenv("REFUSED_BEHIND_INPUT");
+    return (!behind || input.count == atol(behind)) && is_refused("REFUSED_ALLOCATION", &allocations);
+}
 
 void *malloc(size_t size)
 {
     void *(*next)(size_t) = dlsym(RTLD_NEXT, "malloc");
-    return is_refused("REFUSED_ALLOCATION", &allocations) ? NULL : next(size);
+    return is_without_memory() ? NULL : next(size);
 }
 
 void *realloc(void *block, size_t size)
 {
     void *(*next)(void *, size_t) = dlsym(RTLD_NEXT, "realloc");
-    return is_refused("REFUSED_ALLOCATION", &allocations) ? NULL : next(block, size);
+    return is_without_memory() ? NULL : next(block, size);
 }
 
 int pthread_create(pthread_t *thread, const pthread_attr_t *how, void *(*first)(void *), void *given)

@@ -6,17 +6,17 @@ request that was not answered was run or not. So there are several sets that may
 """
 import math
 import os
+import tempfile
 from concurrent.futures import ThreadPoolExecutor
 from copy import deepcopy
 
-from harness import refusing
-from tcp import flat, request
+from harness import AT_ONCE, read, refusing
+from tcp import HEADER, flat, request
 
 NO_MEMORY = b"-ERR 1 out of memory\r\n"
 NO_PLACE = b"-ERR 11 no place left for a key\r\n"
 EVERYTHING = ("-inf", "+inf", "WITHSCORES")
-AT_ONCE = os.cpu_count() or 1
-MOST_ALLOCATIONS = 5_000
+MOST_CALLS = 5_000
 
 
 def bulk(word):
@@ -128,29 +128,40 @@ def run_on(worlds, asked):
     return left
 
 
-def refused_once(attempt, library, number):
-    """What a run gave with the allocation of this number refused, and whether it came to it."""
-    room = os.path.abspath(f"refused {number}")
-    os.mkdir(room)
-    mark = f"{room}/mark"
-    env = {"LD_PRELOAD": library, "REFUSED_ALLOCATION": str(number), "REFUSED_MARK": mark}
+def kept_in(path):
+    """The bytes of an append file that may not have been made, or be without its header yet: it has no records then."""
+    return (read(path) if os.path.exists(path) else b"") or HEADER
+
+
+def refused_once(kind, attempt, number):
+    """What a run gave with the call of this kind and number refused, and whether it came to it."""
+    room = tempfile.mkdtemp(prefix="refused-", dir=".")
+    mark = os.path.abspath(f"{room}/mark")
+    env = {"LD_PRELOAD": refusing(), kind: str(number), "REFUSED_MARK": mark}
     try:
-        return attempt(room, env), os.path.exists(mark)
+        return attempt(os.path.abspath(room), env), os.path.exists(mark)
     except Exception as error:
-        raise AssertionError(f"allocation {number} refused: {type(error).__name__}: {error}") from error
+        raise AssertionError(f"{kind} {number}: {type(error).__name__}: {error}") from error
+
+
+def each_refused(kind, attempt):
+    """Makes a run with the first call of a kind refused, which is a variable of refusing.c's, then the second, and so on until
+    one meets no refusal, each by `attempt(room, env)` in a folder of its own. Gives what they gave, and last what the run
+    without a refusal gave."""
+    refusing()
+    given = []
+    with ThreadPoolExecutor(AT_ONCE) as pool:
+        for first in range(1, MOST_CALLS, AT_ONCE):
+            numbers = range(first, first + AT_ONCE)
+            for result, is_marked in pool.map(lambda number: refused_once(kind, attempt, number), numbers):
+                given.append(result)
+                if not is_marked:
+                    return given
+    raise AssertionError(f"there are more than {MOST_CALLS} calls of {kind}")
 
 
 def each_refused_allocation(what, attempt):
-    """Makes a run with the first allocation refused, then the second, and so on until one meets no refusal, each by
-    `attempt(room, env)` in a folder of its own. Gives what they gave, and last what the run without a refusal gave."""
-    library = refusing()
-    given = []
-    with ThreadPoolExecutor(AT_ONCE) as pool:
-        for first in range(1, MOST_ALLOCATIONS, AT_ONCE):
-            numbers = range(first, first + AT_ONCE)
-            for result, is_marked in pool.map(lambda number: refused_once(attempt, library, number), numbers):
-                given.append(result)
-                if not is_marked:
-                    print(f"each refused allocation of {what}: {len(given) - 1} points", flush=True)
-                    return given
-    raise AssertionError(f"{what} has more than {MOST_ALLOCATIONS} allocations")
+    """The same of each allocation, and tells how many there were."""
+    given = each_refused("REFUSED_ALLOCATION", attempt)
+    print(f"each refused allocation of {what}: {len(given) - 1} points", flush=True)
+    return given
