@@ -1,5 +1,4 @@
 """A part of serve_test: workers that have one client each. They wait in the reads of one that asks again and again."""
-import os
 import time
 
 from harness import SECONDS, same, test
@@ -15,15 +14,6 @@ SOON = 0.5
 def ask_often(client):
     for _ in range(OFTEN):
         same(client.ask("PING"), PONG)
-
-
-def waits_of_threads(server):
-    """How often each of a server's threads has waited, by its number."""
-    waits = {}
-    for thread in os.listdir(f"/proc/{server.process.pid}/task"):
-        with open(f"/proc/{server.process.pid}/task/{thread}/status") as file:
-            waits[thread] = next(int(line.split()[1]) for line in file if line.startswith("voluntary"))
-    return waits
 
 
 def seconds_to_ask(client):
@@ -42,11 +32,11 @@ def each_worker_has_one_of_as_many_clients():
             time.sleep(0.1)  # so that its worker has told that it is gone
             with connected(server, 4) as clients:
                 same([client.ask("PING") for client in clients], [PONG] * 4)
-                before = waits_of_threads(server)
+                before = server.waits()
                 for _ in range(OFTEN):
                     for client in clients:
                         same(client.ask("PING"), PONG)
-                after = waits_of_threads(server)
+                after = server.waits()
                 same(sum(after[thread] - before[thread] > OFTEN // 2 for thread in after), 4)
 
 
@@ -69,9 +59,9 @@ def who_asked_often_and_rests_takes_no_processor_time():
         for client in clients:
             ask_often(client)
         time.sleep(0.2)
-        time_before, before = server.processor_time(), waits_of_threads(server)
+        time_before, before = server.processor_time(), server.waits()
         time.sleep(1)
-        after = waits_of_threads(server)
+        after = server.waits()
         same(server.processor_time() - time_before < 0.05, True)
         same([after[thread] - before[thread] for thread in after if after[thread] - before[thread] > 2], [])
         for client in clients:

@@ -4,11 +4,11 @@
    REFUSED_BEHIND_INPUT is there, only those allocations count that are made between the read of standard input of this
    number and the next one. REFUSED_PATH: a path that is not opened.
 
-   FAILING_INPUT, FAILING_OUTPUT, FAILING_RECV, FAILING_SEND, FAILING_FILE: the number of the one read of standard input,
-   write to standard output, call of a connection, or write or sync of another file, that fails. A read fails that had
-   found something: a look at a connection on which nothing came does not count. MOST_INPUT, MOST_OUTPUT, MOST_RECV,
-   MOST_SEND, MOST_FILE: how many bytes the first such call moves at most, the second and so on, between blanks; the last
-   number is that of all further calls.
+   FAILING_INPUT, FAILING_OUTPUT, FAILING_RECV, FAILING_SEND, FAILING_FILE, FAILING_ACCEPT: the number of the one read of
+   standard input, write to standard output, call of a connection, write or sync of another file, or connection that came,
+   that fails. A look for what has not come does not count. MOST_INPUT, MOST_OUTPUT, MOST_RECV, MOST_SEND, MOST_FILE: how
+   many bytes the first such call moves at most, the second and so on, between blanks; the last number is that of all
+   further calls.
 
    What is refused or fails makes the file that REFUSED_MARK names, so that a run that met it is told from one that did
    not. Threads count together. */
@@ -62,6 +62,7 @@ static struct calls output = {"FAILING_OUTPUT", "MOST_OUTPUT", 0};
 static struct calls received = {"FAILING_RECV", "MOST_RECV", 0};
 static struct calls sent = {"FAILING_SEND", "MOST_SEND", 0};
 static struct calls file = {"FAILING_FILE", "MOST_FILE", 0};
+static struct calls accepted = {"FAILING_ACCEPT", "", 0};
 
 /* How many of these bytes the next call of a kind moves at most. */
 static size_t at_most(const struct calls *calls, size_t length)
@@ -100,6 +101,13 @@ ssize_t recv(int descriptor, void *buffer, size_t length, int flags)
 {
     ssize_t (*next)(int, void *, size_t, int) = dlsym(RTLD_NEXT, "recv");
     return counted(&received, next(descriptor, buffer, at_most(&received, length), flags));
+}
+
+int accept4(int listener, struct sockaddr *peer, socklen_t *length, int flags)
+{
+    int (*next)(int, struct sockaddr *, socklen_t *, int) = dlsym(RTLD_NEXT, "accept4");
+    int came = next(listener, peer, length, flags);
+    return counted(&accepted, came);
 }
 
 ssize_t write(int descriptor, const void *bytes, size_t length)

@@ -73,6 +73,14 @@ class Server:
             user, system = file.read().rsplit(")", 1)[1].split()[11:13]
         return (int(user) + int(system)) / os.sysconf("SC_CLK_TCK")
 
+    def waits(self):
+        """How often each of its threads has waited, by its number."""
+        waits = {}
+        for thread in os.listdir(f"/proc/{self.process.pid}/task"):
+            with open(f"/proc/{self.process.pid}/task/{thread}/status") as file:
+                waits[thread] = next(int(line.split()[1]) for line in file if line.startswith("voluntary"))
+        return waits
+
     def memory(self):
         """The bytes of its memory that are in use."""
         with open(f"/proc/{self.process.pid}/statm") as file:

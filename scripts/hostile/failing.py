@@ -39,6 +39,8 @@ CALLS = [(1, 60, 277), (3, 26, 100), (7, 12, 47)]
 FAILED, FAILED_EARLIER = b"-ERR 16 append file failed\r\n", b"-ERR 14 append file failed earlier\r\n"
 # Three records of 35 bytes, and the request of another connection.
 THREE, ANOTHER = ["ZADD k 1 a", "ZADD k 1 b", "ZADD k 1 c"], "ZADD k 1 z"
+# So many connections are at both of two workers, and so often asks one of them to show which it has.
+MANY, OFTEN = 16, 20
 
 
 def asked(*texts):
@@ -177,8 +179,8 @@ def each_failing_call_of_a_connection_counts_what_was_run():
 
 
 class Day:
-    """Two connections that two workers serve, one of which asks once the other was told all, over a file that is opened by one
-    sync, so that the log's calls are those behind it. A worker without connections takes the next one on."""
+    """Two connections to two workers, one of which asks once the other was told all, over a file that is opened by one sync, so
+    that the log's calls are those behind it."""
 
     def __init__(self, room, env, first, second):
         path = f"{room}/kept"
@@ -186,7 +188,6 @@ class Day:
         env = {**env, "FAILING_FILE": str(int(env["FAILING_FILE"]) + 1)}
         with Server("--workers", 2, "--connections", 2, "--file", path, env=env) as server:
             one, other = server.connect(), server.connect()
-            same([one.ask("PING"), other.ask("PING")], [b"+PONG\r\n"] * 2)
             self.one, self.other = at_once(first)(one), at_once(second)(other)
             self.ended = server.ends()
         self.kept = read(path)
@@ -194,15 +195,40 @@ class Day:
 
 
 
+def worker_of(server, client):
+    """The thread that serves a client: it waits for each of its requests."""
+    before = server.waits()
+    for _ in range(OFTEN):
+        same(client.ask("PING"), b"+PONG\r\n")
+    after = server.waits()
+    return max(after, key=lambda thread: after[thread] - before.get(thread, 0))
+
+
+def of_two_workers(server, connections):
+    """A client of each of two workers, out of so many, the others of which go."""
+    clients = [server.connect() for _ in range(connections)]
+    workers = {worker_of(server, client): client for client in clients}
+    same(len(workers), 2)
+    for client in clients:
+        if client not in workers.values():
+            client.close()
+    return workers.values()
+
+
 @test
 def a_failed_log_is_told_to_both_workers():
     """What changes nothing is answered."""
-    env = {"LD_PRELOAD": refusing(), "FAILING_FILE": "1", "REFUSED_MARK": os.path.abspath("mark")}
-    one, other = asked("ZADD a 1 x", "ZADD a 1 x", "ZREM a x", "ZCARD a"), asked("ZADD b 1 x", "ZADD b XX 1 x", "ZCARD a")
-    day = Day(".", env, one, other)
-    nothing = b":0\r\n" * 2
-    same((day.one, day.other), (FAILED + FAILED_EARLIER + nothing, FAILED_EARLIER + nothing))
-    same((day.ended, day.kept), ((0, totals(2, 0, 0, 0, 0, 0), b""), HEADER))
+    write("kept", HEADER)
+    # The file is opened by one sync.
+    env = {"LD_PRELOAD": refusing(), "FAILING_FILE": "2", "REFUSED_MARK": os.path.abspath("mark")}
+    with Server("--workers", 2, "--connections", MANY, "--file", "kept", env=env) as server:
+        one, other = of_two_workers(server, MANY)
+        unchanged = b":0\r\n" * 2
+        told = at_once(asked("ZADD a 1 x", "ZADD a 1 x", "ZREM a x", "ZCARD a"))(one)
+        same(told, FAILED + FAILED_EARLIER + unchanged)
+        same(at_once(asked("ZADD b 1 x", "ZADD b XX 1 x", "ZCARD a"))(other), FAILED_EARLIER + unchanged)
+        same(server.ends(), (0, totals(MANY, 0, 0, 0, 0, 0), b""))
+    same(read("kept"), HEADER)
 
 
 def whole_records(data):

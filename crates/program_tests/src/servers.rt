@@ -27,9 +27,6 @@ const ADD_AND_LIST: &[u8] =
 /// ZADD j 1 a.
 const ANOTHER_KEY: &[u8] = b"*4\r\n$4\r\nZADD\r\n$1\r\nj\r\n$1\r\n1\r\n$1\r\na\r\n";
 
-/// ZADD k 1 z.
-const ADD_ANOTHER: &[u8] = b"*4\r\n$4\r\nZADD\r\n$1\r\nk\r\n$1\r\n1\r\n$1\r\nz\r\n";
-
 /// What begins no request.
 const WRONG: &[u8] = b"*01";
 
@@ -201,87 +198,6 @@ fn sets_at_the_start_count_as_members(rt: HostRuntime) -> Result<(), Fail> {
     two.extend_from_slice(ANOTHER_KEY)?;
     let refused = ended(&rt, stock_of(&rt, two.as_slice())?, 2, &[], false)?;
     assert_eq!(rt; refused.as_str(), "3\nzcrackd: more keys than places\n");
-    Ok(())
-}
-
-/// ZADD k 1 a, ZADD k 1 b and ZADD k 1 c: three records of 35 bytes.
-const THREE: &[u8] =
-    b"*4\r\n$4\r\nZADD\r\n$1\r\nk\r\n$1\r\n1\r\n$1\r\na\r\n*4\r\n$4\r\nZADD\r\n$1\r\nk\r\n$1\r\n1\r\n$1\r\nb\r\n*4\r\n$4\r\nZADD\r\n$1\r\nk\r\n$1\r\n1\r\n$1\r\nc\r\n";
-
-/// The lines of a server whose connections added so many members to one set.
-fn totals_of(alloc: Global, connections: u64, added: u64) -> Result<String, AllocError> {
-    let sets = added.min(1);
-    format!(in alloc;
-        "0\nconnections {connections} sets {sets} members {added} added {added} removed 0 records {added}\n"
-    )
-}
-
-/// How a server ends that takes three additions while a call of its append file fails.
-fn ended_over_sink<R: Wait + Threads + Net + Clock + AllocGlobal + Sync>(
-    rt: &R,
-    hasher: RandomState,
-    fails_at: u64,
-) -> Result<String, Fail> {
-    let alloc = rt.alloc();
-    let stock = Stock {
-        owner: OneOwner::new(alloc, hasher),
-        sink: FuseSink::new(MemorySink::new(alloc, 7), fails_at),
-        handle: None,
-        max_records: 1000,
-    };
-    let inputs = [THREE];
-    ended_over(rt, stock, 1, inputs_of(alloc, inputs.as_slice(), false))
-}
-
-// Each record takes five writes of seven bytes, and a sync. Only those before the failure are counted.
-#[test]
-fn each_call_of_the_append_file_fails(rt: HostRuntime) -> Result<(), Fail> {
-    for fails_at in 1..20u64 {
-        let wanted = totals_of(rt.alloc(), 1, ((fails_at - 1) / 6).min(3))?;
-        let text = ended_over_sink(&rt, RandomState::new(&rt)?, fails_at)?;
-        assert_eq!(rt; text, wanted, "call {fails_at}");
-    }
-    Ok(())
-}
-
-/// How a server ends with a connection that makes three additions and fails, and another that makes one.
-fn ended_over_failing<R: Wait + Threads + Net + Clock + AllocGlobal + Sync>(
-    rt: &R,
-    stock: Stock<NoSink, FileHandle<File>>,
-    fails_at: (u64, u64),
-) -> Result<String, Fail>
-    requires { stock.owner.next ≡ None }
-{
-    let inputs = [THREE, ADD_ANOTHER];
-    let mut arrivals = inputs_of(rt.alloc(), inputs.as_slice(), false);
-    arrivals.fails_at = fails_at;
-    ended_over(rt, stock, 1, arrivals)
-}
-
-// Each request is read by five reads of seven bytes. A request is run once it is read whole.
-#[test]
-fn each_read_of_a_connection_fails(rt: HostRuntime) -> Result<(), Fail> {
-    for read in 1..18u64 {
-        let wanted = totals_of(rt.alloc(), 2, ((read - 1) / 5).min(3) + 1)?;
-        let text = ended_over_failing(&rt, stock_of(&rt, b"")?, (read, 0))?;
-        assert_eq!(rt; text, wanted, "read {read}");
-    }
-    Ok(())
-}
-
-// A reply takes two writes, and is flushed before the next read. The members that were added before the failure are
-// counted, with that of the second connection: more and more, until no call fails.
-#[test]
-fn each_call_of_a_drain_fails(rt: HostRuntime) -> Result<(), Fail> {
-    let mut added = 1u64;
-    for call in 1..60u64 {
-        let text = ended_over_failing(&rt, stock_of(&rt, b"")?, (0, call))?;
-        if text != totals_of(rt.alloc(), 2, added)? {
-            added = added.saturating_add(1);
-        }
-        assert_eq!(rt; text, totals_of(rt.alloc(), 2, added)?, "call {call}");
-    }
-    assert_eq!(rt; added, 4);
     Ok(())
 }
 

@@ -4,7 +4,7 @@
 ghost use Rattle.std.specs.Prelude.{◌≡◌, ◌≤◌, IsSome};
 ghost use Rattle.zset_core.specs.AbstractCommand.{key_of};
 
-use crate::want_of_memory::{Ample, LISTING, Outcome, bytes_of, command, with_memory};
+use crate::ample_memory::{Ample, LISTING, Outcome, bytes_of, command, with_memory};
 use append_log::{FuseSink, Log, MemorySink};
 use fuse_alloc::Fuse;
 use resp_wire::Reply;

@@ -3,7 +3,6 @@
 ghost use Rattle.std.specs.Prelude.{◌≡◌, ◌≤◌};
 
 use crate::exchange::write_words;
-use crate::memory::{Script, input_of};
 use append_log::{FuseSink, Log, LoggedOwner, MemorySink};
 use resp_wire::{MemoryDrain, MemorySource};
 use session_core::{Ended, HeldReplies, SessionFault, serve_deferred};
@@ -17,27 +16,41 @@ use zset_core::OneOwner;
 /// An owner whose records go to a sink that may fail.
 type Logged<L> = LoggedOwner<RandomState, FuseSink<MemorySink<Global>>, L, Global>;
 
+/// What a client sends in one session: requests by their words, and bytes behind these that begin no request.
+#[derive(Clone, Copy)]
+struct Script<'t> {
+    requests: &'t [&'t str],
+    behind: &'t [u8],
+}
+
+/// The bytes of a script.
+fn input_of(alloc: Global, script: Script<'_>) -> Result<Vec<u8>, Fail> {
+    let mut input = Vec::new(alloc);
+    for words in script.requests {
+        write_words(alloc, words, &mut input)?;
+    }
+    input.extend_from_slice(script.behind)?;
+    Ok(input)
+}
+
 /// Three changes of one set, each in 35 bytes, and a reading.
 const REQUESTS: &[&str] = &["ZADD k 1 a", "ZADD k 2 b", "ZADD k 3 c", "ZCARD k"];
 
 const CHANGES: Script<'static> = Script {
     requests: REQUESTS,
     behind: b"",
-    error: b"",
 };
 
 /// What only reads.
 const READINGS: Script<'static> = Script {
     requests: &["ZCARD k", "PING", "ZSCORE k a"],
     behind: b"",
-    error: b"",
 };
 
 /// The changes, and a byte that begins no request.
 const CHANGES_AND_A_FAULT: Script<'static> = Script {
     requests: REQUESTS,
     behind: b"?",
-    error: b"",
 };
 
 /// What a session comes to.

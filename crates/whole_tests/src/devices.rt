@@ -1,10 +1,10 @@
-//! Sources and drains of which a call fails, and input that is cut after each byte.
+//! Drains of which a call fails, and that take few bytes at once.
 
 ghost use Rattle.std.specs.Prelude.{◌≡◌, ◌≤◌};
 
-use crate::exchange::{bytes_of, serve_bytes};
+use crate::exchange::bytes_of;
 use crate::sessions::TWO_REQUESTS;
-use crate::want_of_memory::{LISTING, command};
+use crate::ample_memory::{LISTING, command};
 use resp_wire::{FuseDrain, FuseSource, MAX_READ_BUFFER, MemoryDrain, MemorySource, write_reply};
 use session_core::{Ended, Exec, SessionFault, serve};
 use std::alloc::Global;
@@ -155,15 +155,6 @@ const DRAINS: [(u64, Wanted); 10] = [
     (10, (SERVED, ":1~*1~$1~a~", ONE_SET)),
 ];
 
-/// Which read of a source fails. The 80 bytes come in reads of 35, 35, 10 and none.
-const SOURCES: [(u64, Wanted); 5] = [
-    (1, (Err(SessionFault::ReadFault), "", NO_SETS)),
-    (2, (Err(SessionFault::ReadFault), ":1~", ONE_SET)),
-    (3, (Err(SessionFault::ReadFault), ":1~", ONE_SET)),
-    (4, (Err(SessionFault::ReadFault), ":1~*1~$1~a~", ONE_SET)),
-    (5, (SERVED, ":1~*1~$1~a~", ONE_SET)),
-];
-
 /// Whether a session comes to that.
 fn is_broken_so(alloc: Global, broken: &Broken, wanted: Wanted) -> Result<bool, Fail> {
     let (end, written, listed) = wanted;
@@ -198,53 +189,6 @@ fn a_drain_fails_at_each_call(rt: HostRuntime) -> Result<(), Fail> {
             fails_so(&rt, WHOLE, to, 65_536, wanted)?,
             "call {fails_at}"
         );
-    }
-    Ok(())
-}
-
-#[test]
-fn a_source_fails_at_each_read(rt: HostRuntime) -> Result<(), Fail> {
-    for (fails_at, wanted) in SOURCES {
-        let from = Device {
-            chunk: 65_536,
-            fails_at,
-        };
-        assert!(rt; fails_so(&rt, from, WHOLE, 35, wanted)?, "read {fails_at}");
-    }
-    Ok(())
-}
-
-/// How many requests the first bytes of the two requests hold whole, the bytes behind them, and the replies.
-fn whole_of(bytes: usize) -> (u64, usize, &'static str) {
-    if bytes < 35 {
-        (0, bytes, "")
-    } else if bytes < 80 {
-        (1, bytes - 35, ":1~")
-    } else {
-        (2, 0, ":1~*1~$1~a~")
-    }
-}
-
-/// Whether a session on the first so many bytes writes the replies to the requests that are whole in them.
-fn is_cut_so(rt: &HostRuntime, input: &[u8], bytes: usize, chunk: usize) -> Result<bool, Fail>
-    requires { 1 ≤ chunk }
-{
-    let (requests, rest, replies) = whole_of(bytes);
-    let cut = serve_bytes(rt, input.get(..bytes).unwrap_or(&[]), chunk)?;
-    let is_told = cut.written == bytes_of(rt.alloc(), replies)?;
-    Ok(is_told && cut.end == Ok(Ended { requests, rest }))
-}
-
-/// How many bytes a read gives at most.
-const CHUNKS: [usize; 3] = [1, 3, 7];
-
-#[test]
-fn input_is_cut_after_each_byte(rt: HostRuntime) -> Result<(), Fail> {
-    let input = bytes_of(rt.alloc(), TWO_REQUESTS)?;
-    for bytes in 0..81usize {
-        for chunk in CHUNKS {
-            assert!(rt; is_cut_so(&rt, &input, bytes, chunk)?, "{bytes} bytes");
-        }
     }
     Ok(())
 }

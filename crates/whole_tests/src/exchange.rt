@@ -1,4 +1,4 @@
-//! Sessions over an empty owner, and exchanges written as tables.
+//! Sessions over an empty owner.
 
 ghost use Rattle.std.specs.Prelude.{◌≤◌, ◌^◌};
 
@@ -77,18 +77,6 @@ pub fn write_words(alloc: Global, words: &str, out: &mut Vec<u8>) -> io::Result<
     Ok(())
 }
 
-/// Exchanges: requests by their arguments, each with the bytes of its reply, `~` for CR LF.
-pub type Exchanges<'a> = &'a [(&'a str, &'a str)];
-
-/// The requests of exchanges.
-fn requests_of(alloc: Global, exchanges: Exchanges<'_>) -> io::Result<Vec<u8>> {
-    let mut input = Vec::new(alloc);
-    for (arguments, _) in exchanges {
-        write_words(alloc, arguments, &mut input)?;
-    }
-    Ok(input)
-}
-
 /// Writes a text in which `~` stands for CR LF.
 fn write_text(text: &str, out: &mut Vec<u8>) -> io::Result<()> {
     for byte in text.as_bytes() {
@@ -99,38 +87,4 @@ fn write_text(text: &str, out: &mut Vec<u8>) -> io::Result<()> {
         }
     }
     Ok(())
-}
-
-/// The replies of exchanges.
-fn replies_of(alloc: Global, exchanges: Exchanges<'_>) -> io::Result<Vec<u8>> {
-    let mut wanted = Vec::new(alloc);
-    for (_, reply) in exchanges {
-        write_text(reply, &mut wanted)?;
-    }
-    Ok(wanted)
-}
-
-/// How a session on an empty owner ended that gave these replies to the input; none where it failed or gave others.
-fn ended_so(
-    rt: &HostRuntime,
-    input: &[u8],
-    chunk: usize,
-    replies: &[u8],
-) -> io::Result<Option<Ended>>
-    requires { 1 ≤ chunk }
-{
-    let session = serve_bytes(rt, input, chunk)?;
-    match session.end {
-        Ok(ended) if session.written.as_slice() == replies => Ok(Some(ended)),
-        _ => Ok(None),
-    }
-}
-
-/// Whether a session on an empty owner gives the replies of these exchanges, read whole and read
-/// byte by byte.
-pub fn replies_so(rt: &HostRuntime, exchanges: Exchanges<'_>) -> io::Result<bool> {
-    let input = requests_of(rt.alloc(), exchanges)?;
-    let replies = replies_of(rt.alloc(), exchanges)?;
-    let whole = ended_so(rt, &input, 65_536, &replies)?;
-    Ok(whole.is_some() && ended_so(rt, &input, 1, &replies)? == whole)
 }

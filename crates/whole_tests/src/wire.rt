@@ -11,51 +11,6 @@ use resp_wire::{
 use std::alloc::{AllocError, Allocator, Global};
 use std::test::Fail;
 
-/// What a text fed byte by byte is answered first: a fault with the number of bytes that were fed
-/// then, or None where there is none.
-fn first_fault(alloc: Global, text: &[u8]) -> Option<(WireFault, usize)> {
-    let mut decoder = Decoder::new(alloc);
-    'bytes: for (fed, byte) in text.iter().enumerate() {
-        if decoder.feed(&[*byte]).is_err() {
-            return Some((WireFault::NoMemory, fed));
-        }
-        if let Err(fault) = decoder.next() {
-            return Some((fault, fed + 1));
-        }
-    }
-    None
-}
-
-/// Texts whose last byte is the first that no request may have at its place, and the faults.
-const FAULTS: [(&[u8], ProtocolFault); 15] = [
-    (b"*0\r\n*-1\r\nP", ProtocolFault::NotAnArray),
-    (b"*01", ProtocolFault::BadNumber),
-    (b"*1\rx", ProtocolFault::BadNumber),
-    (b"*-2", ProtocolFault::BadNumber),
-    (b"*-1x", ProtocolFault::BadNumber),
-    (b"*-11", ProtocolFault::BadNumber),
-    (b"*-1\rx", ProtocolFault::BadNumber),
-    (b"*1028", ProtocolFault::TooManyArguments),
-    (b"*1\r\n$65537", ProtocolFault::TooLong),
-    (b"*1\r\n$-", ProtocolFault::BadNumber),
-    (b"*1\r\n$1\n", ProtocolFault::BadNumber),
-    (b"*1\r\n$1\r\r", ProtocolFault::BadNumber),
-    (b"*1\r\n+", ProtocolFault::BadBulk),
-    (b"*1\r\n$1\r\nab", ProtocolFault::BadBulk),
-    (b"*1\r\n$1\r\na\rx", ProtocolFault::BadBulk),
-];
-
-#[test]
-fn a_fault_is_told_at_its_byte_and_not_before(rt: HostRuntime) {
-    for (text, fault) in FAULTS.iter() {
-        let told = first_fault(rt.alloc(), text);
-        assert!(rt;
-            told == Some((WireFault::Protocol(*fault), text.len())),
-            "{fault}"
-        );
-    }
-}
-
 /// The memory that a decoder needs for the text above its first words, and for one short request.
 const LITTLE: usize = 512;
 

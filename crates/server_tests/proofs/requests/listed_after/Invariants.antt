@@ -1,5 +1,0 @@
-use Rattle.std.proofs.Common.{◌≡◌, None}
-use Rattle.server_tests.proofs.requests.listed_after.Given as goal
-
-abbrev pub invariant-loop-text : goal.invariant-loop-text
-invariant-loop-text g l = l.owner.next ≡ None

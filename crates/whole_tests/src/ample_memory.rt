@@ -1,0 +1,157 @@
+//! What commands are told by an owner with ample memory, by which those whose allocations are refused are judged.
+
+ghost use Rattle.std.specs.Prelude.{◌≡◌, None, IfOk};
+
+use resp_wire::{Bytes, BytesList, Reply, Request, write_reply};
+use std::alloc::{Allocator, Global};
+use std::hash::RandomState;
+use std::test::Fail;
+use zset_core::{Command, OneOwner, Refusal};
+
+type Owner<A> = OneOwner<RandomState, A>;
+
+/// The request whose words stand between single blanks, in memory of the owner's kind.
+fn request<A: Allocator + Copy>(alloc: A, words: &str) -> Result<Request<A>, Fail> {
+    let mut list = Vec::new(alloc);
+    for word in words.split(' ') {
+        list.push(Bytes::from_slice(alloc, word.as_bytes())?)?;
+    }
+    Ok(Request::new(BytesList::new(list)).ok_or("no request")?)
+}
+
+/// The command whose words stand between single blanks.
+pub fn command<A: Allocator + Copy>(alloc: A, words: &str) -> Result<Command<A>, Fail> {
+    Command::read(alloc, request(alloc, words)?).map_err(|_| Fail::from("no command"))
+}
+
+/// What an owner answers: the reply, or the refusal, of the command's reading or of its run.
+fn answer<A: Allocator + Copy>(
+    alloc: A,
+    owner: &mut Owner<A>,
+    request: Request<A>,
+) -> Result<Reply<A>, Refusal>
+    requires { owner.old.next ≡ None }
+    ensures { owner.new.next ≡ None }
+{
+    let command = Command::read(alloc, request)?;
+    owner.run(&command)
+}
+
+/// What a client is told, a refusal by its error reply. None for want of memory.
+fn told<A: Allocator>(answer: Result<Reply<A>, Refusal>) -> Option<Reply<A>> {
+    match answer {
+        Ok(reply) => Some(reply),
+        Err(Refusal::NoMemory) => None,
+        Err(refusal) => Some(Reply::Fault(refusal.text())),
+    }
+}
+
+/// The bytes of a reply.
+pub fn bytes_of<A: Allocator + Copy>(alloc: A, reply: &Reply<A>) -> Result<Vec<u8, A>, Fail> {
+    let mut bytes = Vec::new(alloc);
+    write_reply(reply, &mut bytes)?;
+    Ok(bytes)
+}
+
+/// The bytes of the reply to a command that is not refused.
+fn reply<A: Allocator + Copy>(
+    alloc: A,
+    owner: &mut Owner<A>,
+    words: &str,
+) -> Result<Vec<u8, A>, Fail>
+    requires { owner.old.next ≡ None }
+    ensures { owner.new.next ≡ None }
+{
+    match answer(alloc, owner, request(alloc, words)?) {
+        Ok(reply) => bytes_of(alloc, &reply),
+        Err(_) => Err("refused")?,
+    }
+}
+
+/// The bytes of what a client is told where there is memory.
+fn told_bytes<A: Allocator + Copy>(
+    alloc: A,
+    owner: &mut Owner<A>,
+    words: &str,
+) -> Result<Vec<u8, A>, Fail>
+    requires { owner.old.next ≡ None }
+    ensures { owner.new.next ≡ None }
+{
+    match told(answer(alloc, owner, request(alloc, words)?)) {
+        Some(reply) => bytes_of(alloc, &reply),
+        None => Err("out of memory")?,
+    }
+}
+
+/// Runs commands none of which is refused.
+fn run_all<A: Allocator + Copy>(
+    alloc: A,
+    owner: &mut Owner<A>,
+    commands: &[&str],
+) -> Result<(), Fail>
+    requires { owner.old.next ≡ None }
+    ensures { owner.new.next ≡ None }
+{
+    for words in commands {
+        reply(alloc, owner, words)?;
+    }
+    Ok(())
+}
+
+pub const LISTING: &str = "ZRANGEBYSCORE k -inf +inf WITHSCORES";
+
+/// What ample memory gives: the listing of the set before a command, and what the command is told.
+#[derive(Drop)]
+pub struct Ample {
+    pub before: Vec<u8>,
+    pub reply: Vec<u8>,
+}
+
+/// The owner of the sets that commands set up.
+fn set_up_with_memory(rt: &HostRuntime, setup: &[&str]) -> Result<Owner<Global>, Fail>
+    ensures { IfOk result (λ owner. owner.next ≡ None) }
+{
+    let mut owner = OneOwner::new(rt.alloc(), RandomState::new(rt)?);
+    run_all(rt.alloc(), &mut owner, setup)?;
+    Ok(owner)
+}
+
+fn listed_before(rt: &HostRuntime, setup: &[&str]) -> Result<Vec<u8>, Fail> {
+    let mut owner = set_up_with_memory(rt, setup)?;
+    reply(rt.alloc(), &mut owner, LISTING)
+}
+
+fn told_with_memory(rt: &HostRuntime, setup: &[&str], words: &str) -> Result<Vec<u8>, Fail> {
+    let mut owner = set_up_with_memory(rt, setup)?;
+    told_bytes(rt.alloc(), &mut owner, words)
+}
+
+pub fn with_memory(rt: &HostRuntime, setup: &[&str], words: &str) -> Result<Ample, Fail> {
+    Ok(Ample {
+        before: listed_before(rt, setup)?,
+        reply: told_with_memory(rt, setup, words)?,
+    })
+}
+
+/// What came of one refused allocation of a command.
+#[derive(Clone, Copy, PartialEq, Eq)]
+pub enum Outcome {
+    /// There were fewer allocations.
+    Whole,
+    /// It was refused for want of memory, the set stayed, and asked again it was told as with memory.
+    Refused,
+    /// It was told as with memory all the same.
+    Made,
+    Wrong,
+}
+
+impl Outcome {
+    /// That of a reply: it is to be the one with memory.
+    pub fn of_reply(is_whole: bool, reply: &[u8], ample: &Ample) -> Self {
+        match reply == ample.reply.as_slice() {
+            true if is_whole => Outcome::Whole,
+            true => Outcome::Made,
+            false => Outcome::Wrong,
+        }
+    }
+}
