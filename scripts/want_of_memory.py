@@ -180,8 +180,9 @@ def each_example_of_a_removal_is_made_whichever_allocation_is_refused():
 
 @test
 def some_examples_take_no_memory():
-    for example in WITHOUT_MEMORY:
-        same((example, counts(*example)), (example, (0, 0)))
+    """But what is taken to read them: without that the session ends."""
+    found = [outcomes(*example) for example in WITHOUT_MEMORY]
+    same({it for came in found for it in came}, {ENDED})
 
 
 @test

@@ -1,11 +1,13 @@
 """A part of program_test: worked exchanges of a session, each served in one piece and byte by byte; input that is cut after
 each byte, and bytes that begin no request."""
+import os
 from concurrent.futures import ThreadPoolExecutor
 
 from harness import AT_ONCE, refusing, run, same, test
 from tcp import request
 
 WHOLE = 65_536
+READ_FAULT = b"zcrackd: read fault\n"
 
 # Each request by its words, which single blanks part, and its reply, with `~` for the end of a line.
 SESSIONS = {
@@ -137,31 +139,35 @@ def bytes_of(text):
     return text.encode().replace(b"~", b"\r\n")
 
 
-def in_pieces(most, given):
-    """What a session on these bytes comes to of which a read gives so many at most."""
-    return run("stdio", given=given, env={"LD_PRELOAD": refusing(), "MOST_INPUT": str(most)})
+def in_pieces(most, given, failing=0):
+    """What a session on these bytes comes to of which a read gives so many at most, and the one of a number fails."""
+    env = {"LD_PRELOAD": refusing(), "MOST_INPUT": str(most), "FAILING_INPUT": str(failing), "REFUSED_MARK": os.path.abspath("mark")}
+    return run("stdio", given=given, env=env)
+
+
+def ends_in_pieces(most, given, replies):
+    """A session ends well with these replies. It has a read for each piece and one for the end, as shows where that fails."""
+    same((most, given, in_pieces(most, given)), (most, given, (0, replies, b"")))
+    last = -(-len(given) // most) + 1
+    same((most, given, in_pieces(most, given, last)), (most, given, (1, replies, READ_FAULT)))
 
 
 @test
 def exchanges_go_as_worked():
-    for name, exchanges in SESSIONS.items():
+    for exchanges in SESSIONS.values():
         given = b"".join(request(*words.split(" ")) for words, _ in exchanges)
-        wanted = 0, b"".join(bytes_of(reply) for _, reply in exchanges), b""
         for most in (WHOLE, 1):
-            same((name, most, in_pieces(most, given)), (name, most, wanted))
+            ends_in_pieces(most, given, b"".join(bytes_of(reply) for _, reply in exchanges))
 
 
 @test
 def input_is_cut_after_each_byte():
     """The requests that are whole are replied to, and the rest is not told."""
-    same([len(TWO_REQUESTS), TWO_REQUESTS.index(b"*4", 1)], [80, 35])
+    same((len(TWO_REQUESTS), TWO_REQUESTS.index(b"*4", 1)), (80, 35))
     refusing()
     with ThreadPoolExecutor(AT_ONCE) as pool:
-        for most in (1, 3, 7):
-            ends = pool.map(lambda cut, most=most: in_pieces(most, TWO_REQUESTS[:cut]), range(81))
-            for cut, found in enumerate(ends):
-                whole = (cut >= 35) + (cut == 80)
-                same((cut, most, found), (cut, most, (0, b"".join(TWO_REPLIES[:whole]), b"")))
+        cuts = [(most, TWO_REQUESTS[:cut], (cut >= 35) + (cut == 80)) for most in (1, 3, 7) for cut in range(81)]
+        list(pool.map(lambda it: ends_in_pieces(*it[:2], b"".join(TWO_REPLIES[: it[2]])), cuts))
 
 
 @test
@@ -170,3 +176,6 @@ def a_fault_is_told_at_its_byte_and_not_before():
         same((text, in_pieces(1, text[:-1])), (text, (0, b"", b"")))
         wanted = 1, b"-ERR protocol %d %s\r\n" % (number, told), b"zcrackd: protocol fault %d\n" % number
         same((text, in_pieces(1, text)), (text, wanted))
+        # The read of the last byte tells it, and no later one.
+        same((text, in_pieces(1, text, len(text))), (text, (1, b"", READ_FAULT)))
+        same((text, in_pieces(1, text, len(text) + 1)), (text, wanted))

@@ -2,9 +2,9 @@
 
 ghost use Rattle.std.specs.Prelude.{◌≡◌, ◌≤◌};
 
+use crate::ample_memory::{LISTING, command};
 use crate::exchange::bytes_of;
 use crate::sessions::TWO_REQUESTS;
-use crate::ample_memory::{LISTING, command};
 use resp_wire::{FuseDrain, FuseSource, MAX_READ_BUFFER, MemoryDrain, MemorySource, write_reply};
 use session_core::{Ended, Exec, SessionFault, serve};
 use std::alloc::Global;

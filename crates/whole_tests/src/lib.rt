@@ -15,8 +15,6 @@ mod encodings;
 #[cfg(test)]
 mod exchange;
 #[cfg(test)]
-mod flushing;
-#[cfg(test)]
 mod polled_devices;
 #[cfg(test)]
 mod sessions;
