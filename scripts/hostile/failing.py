@@ -2,6 +2,7 @@
 append file, behind which no change is made."""
 import functools
 import os
+import socket
 import tempfile
 
 from harness import read, refusing, run, same, test, write
@@ -71,6 +72,13 @@ def totals_of_additions(connections, added):
     return totals(connections, min(added, 1), added, added, 0, added)
 
 
+def send_no_more(client):
+    try:
+        client.socket.shutdown(socket.SHUT_WR)
+    except OSError:
+        pass  # the server ended the connection before
+
+
 def received(client):
     """All that comes until the server ends the connection, by whatever call."""
     came = []
@@ -87,7 +95,7 @@ def at_once(requests):
     """Sends requests together, and then nothing more; gives all that comes."""
     def use(client):
         client.send(requests)
-        client.socket.shutdown(1)
+        send_no_more(client)
         return received(client)
 
     return use
@@ -103,7 +111,7 @@ def in_turn(commands, replies):
             came += line
             if line != reply:
                 break
-        client.socket.shutdown(1)
+        send_no_more(client)
         return came + received(client)
 
     return use

@@ -6,9 +6,7 @@ ghost use Rattle.set_table.specs.TableAndPassViews.{IsPassOf};
 
 use crate::requests::Owner;
 use append_log::{Log, LogSink};
-use resp_wire::{
-    FuseDrain, FuseSource, MAX_READ_BUFFER, MAX_READS, MemoryDrain, MemorySource, READ_BUFFER,
-};
+use resp_wire::{MAX_READS, MemoryDrain, MemorySource, READ_BUFFER};
 use session_core::{Ended, SessionFault, Worker, serve};
 use set_table::{Pass, Table, TestGate, Totals};
 use std::alloc::{AllocError, Global};
@@ -74,74 +72,40 @@ pub fn closed<S: LogSink + Drop, L: Ledger>(
     }
 }
 
-/// How many bytes a call of a device moves, and which call fails, 0 for none.
-#[derive(Clone, Copy)]
-pub struct Device {
-    pub chunk: usize,
-    pub fails_at: u64,
-}
-
-/// A device that moves many bytes at once and never fails.
-pub const WHOLE: Device = Device {
-    chunk: 65_536,
-    fails_at: 0,
-};
-
-/// A connection in memory, whose bytes come from one device in reads of at most `buffer` bytes and go to
-/// another.
-#[derive(Clone, Copy)]
-pub struct Connection<'i> {
-    pub input: &'i [u8],
-    pub from: Device,
-    pub to: Device,
-    pub buffer: usize,
-}
-
 /// What a connection came to: how its session ended, and what was written.
 #[derive(Drop)]
-pub struct Served {
-    pub end: Result<Ended, SessionFault>,
-    pub written: Vec<u8>,
+struct Served {
+    end: Result<Ended, SessionFault>,
+    written: Vec<u8>,
 }
 
-/// Serves a connection to its end.
-pub fn serve_connection<S: LogSink, L: Ledger, G: TestGate + Drop, R: Wait>(
+/// Serves a connection in memory to its end.
+fn serve_connection<S: LogSink, L: Ledger, G: TestGate + Drop, R: Wait>(
     rt: &R,
     alloc: Global,
     worker: &mut Worker<'_, RandomState, S, L, Global, G>,
-    connection: Connection<'_>,
+    input: &[u8],
 ) -> Result<Served, AllocError>
-    requires from { 1 ≤ connection.from.chunk }
-    requires to { 1 ≤ connection.to.chunk }
-    requires some { 1 ≤ connection.buffer }
-    requires few { connection.buffer ≤ MAX_READ_BUFFER }
     ensures { worker.new.table ≡ worker.old.table }
 {
-    let Connection {
-        input,
-        from,
-        to,
-        buffer,
-    } = connection;
-    let mut source = FuseSource::new(MemorySource::new(input, from.chunk), from.fails_at);
-    let mut drain = FuseDrain::new(MemoryDrain::new(alloc, to.chunk), to.fails_at);
+    let mut source = MemorySource::new(input, 65_536);
+    let mut drain = MemoryDrain::new(alloc, 65_536);
     let end = serve(
         rt,
         alloc,
         &mut source,
         &mut drain,
         worker,
-        buffer,
+        READ_BUFFER,
         MAX_READS,
     );
-    let drain = drain.into_inner();
     Ok(Served {
         end,
         written: Vec::from_slice(alloc, drain.bytes())?,
     })
 }
 
-/// What a connection whose devices are whole is told, or None where its session ended in a fault.
+/// What a connection is told, or None where its session ended in a fault.
 pub fn replies_to<S: LogSink, L: Ledger, G: TestGate + Drop, R: Wait>(
     rt: &R,
     alloc: Global,
@@ -150,13 +114,7 @@ pub fn replies_to<S: LogSink, L: Ledger, G: TestGate + Drop, R: Wait>(
 ) -> Option<Vec<u8>>
     ensures { worker.new.table ≡ worker.old.table }
 {
-    let connection = Connection {
-        input,
-        from: WHOLE,
-        to: WHOLE,
-        buffer: READ_BUFFER,
-    };
-    match serve_connection(rt, alloc, worker, connection) {
+    match serve_connection(rt, alloc, worker, input) {
         Ok(
             Served {
                 end: Ok(_),

@@ -5,7 +5,7 @@ ghost use Rattle.std.specs.Prelude.{◌≡◌, ◌≤◌};
 use crate::ample_memory::{LISTING, command};
 use crate::exchange::bytes_of;
 use crate::sessions::TWO_REQUESTS;
-use resp_wire::{FuseDrain, FuseSource, MAX_READ_BUFFER, MemoryDrain, MemorySource, write_reply};
+use resp_wire::{FuseDrain, MemoryDrain, MemorySource, write_reply};
 use session_core::{Ended, Exec, SessionFault, serve};
 use std::alloc::Global;
 use std::hash::RandomState;
@@ -14,34 +14,21 @@ use zset_core::OneOwner;
 
 /// How many bytes a call moves, and which call fails, 0 for none.
 #[derive(Clone, Copy)]
-pub struct Device {
-    pub chunk: usize,
-    pub fails_at: u64,
-}
-
-/// A device that moves many bytes at once and never fails.
-pub const WHOLE: Device = Device {
-    chunk: 65_536,
-    fails_at: 0,
-};
-
-/// Where a session reads, and where it writes.
-#[derive(Clone, Copy)]
-pub struct Devices {
-    pub from: Device,
-    pub to: Device,
+struct Device {
+    chunk: usize,
+    fails_at: u64,
 }
 
 /// What a session over failing devices came to: how it ended, what was written, and what the sets then are.
 #[derive(Drop)]
-pub struct Broken {
-    pub end: Result<Ended, SessionFault>,
-    pub written: Vec<u8>,
-    pub listed: Vec<u8>,
+struct Broken {
+    end: Result<Ended, SessionFault>,
+    written: Vec<u8>,
+    listed: Vec<u8>,
 }
 
 /// The reply to the command whose words stand between single blanks.
-pub fn ask<R, E: Exec<R, Global>>(
+fn ask<R, E: Exec<R, Global>>(
     rt: &R,
     alloc: Global,
     exec: &mut E,
@@ -62,7 +49,7 @@ pub fn ask<R, E: Exec<R, Global>>(
 const LISTING_OF_J: &str = "ZRANGEBYSCORE j -inf +inf WITHSCORES";
 
 /// All pairs of the sets that the tests change.
-pub fn listing<R, E: Exec<R, Global>>(rt: &R, alloc: Global, exec: &mut E) -> Result<Vec<u8>, Fail>
+fn listing<R, E: Exec<R, Global>>(rt: &R, alloc: Global, exec: &mut E) -> Result<Vec<u8>, Fail>
     requires { E.settled exec.old }
     ensures { E.settled exec.new }
 {
@@ -72,25 +59,20 @@ pub fn listing<R, E: Exec<R, Global>>(rt: &R, alloc: Global, exec: &mut E) -> Re
     Ok(listed)
 }
 
-/// Serves the input from one device to another, in reads of at most `buffer` bytes, over what runs its commands.
-pub fn serve_with<R, E: Exec<R, Global>>(
+/// Serves the input, which comes in one read, to a device over what runs its commands.
+fn serve_with<R, E: Exec<R, Global>>(
     rt: &R,
     alloc: Global,
     exec: &mut E,
     input: &[u8],
-    devices: Devices,
-    buffer: usize,
+    to: Device,
 ) -> Result<Broken, Fail>
     requires settled { E.settled exec.old }
-    requires from { 1 ≤ devices.from.chunk }
-    requires to { 1 ≤ devices.to.chunk }
-    requires some { 1 ≤ buffer }
-    requires few { buffer ≤ MAX_READ_BUFFER }
+    requires to { 1 ≤ to.chunk }
 {
-    let Devices { from, to } = devices;
-    let mut source = FuseSource::new(MemorySource::new(input, from.chunk), from.fails_at);
+    let mut source = MemorySource::new(input, 65_536);
     let mut drain = FuseDrain::new(MemoryDrain::new(alloc, to.chunk), to.fails_at);
-    let end = serve(rt, alloc, &mut source, &mut drain, exec, buffer, 1 << 40);
+    let end = serve(rt, alloc, &mut source, &mut drain, exec, 65_536, 1 << 40);
     let drain = drain.into_inner();
     Ok(Broken {
         end,
@@ -100,21 +82,12 @@ pub fn serve_with<R, E: Exec<R, Global>>(
 }
 
 /// Serves the input over an owner.
-pub fn serve_over(
-    rt: &HostRuntime,
-    input: &[u8],
-    from: Device,
-    to: Device,
-    buffer: usize,
-) -> Result<Broken, Fail>
-    requires from { 1 ≤ from.chunk }
-    requires to { 1 ≤ to.chunk }
-    requires some { 1 ≤ buffer }
-    requires few { buffer ≤ MAX_READ_BUFFER }
+fn serve_over(rt: &HostRuntime, input: &[u8], to: Device) -> Result<Broken, Fail>
+    requires { 1 ≤ to.chunk }
 {
     let alloc = rt.alloc();
     let mut owner = OneOwner::new(alloc, RandomState::new(rt)?);
-    serve_with(rt, alloc, &mut owner, input, Devices { from, to }, buffer)
+    serve_with(rt, alloc, &mut owner, input, to)
 }
 
 /// What a session over the two requests comes to: how it ends, the bytes that were written, and the listings of the sets
@@ -164,20 +137,11 @@ fn is_broken_so(alloc: Global, broken: &Broken, wanted: Wanted) -> Result<bool, 
 }
 
 /// Whether a session over the two requests does.
-fn fails_so(
-    rt: &HostRuntime,
-    from: Device,
-    to: Device,
-    buffer: usize,
-    wanted: Wanted,
-) -> Result<bool, Fail>
-    requires from { 1 ≤ from.chunk }
-    requires to { 1 ≤ to.chunk }
-    requires some { 1 ≤ buffer }
-    requires few { buffer ≤ MAX_READ_BUFFER }
+fn fails_so(rt: &HostRuntime, to: Device, wanted: Wanted) -> Result<bool, Fail>
+    requires { 1 ≤ to.chunk }
 {
     let input = bytes_of(rt.alloc(), TWO_REQUESTS)?;
-    let broken = serve_over(rt, &input, from, to, buffer)?;
+    let broken = serve_over(rt, &input, to)?;
     is_broken_so(rt.alloc(), &broken, wanted)
 }
 
@@ -185,10 +149,7 @@ fn fails_so(
 fn a_drain_fails_at_each_call(rt: HostRuntime) -> Result<(), Fail> {
     for (fails_at, wanted) in DRAINS {
         let to = Device { chunk: 3, fails_at };
-        assert!(rt;
-            fails_so(&rt, WHOLE, to, 65_536, wanted)?,
-            "call {fails_at}"
-        );
+        assert!(rt; fails_so(&rt, to, wanted)?, "call {fails_at}");
     }
     Ok(())
 }
