@@ -201,8 +201,6 @@ class Day:
         self.kept = read(path)
 
 
-
-
 def worker_of(server, client):
     """The thread that serves a client: it waits for each of its requests."""
     before = server.waits()
