@@ -11,3 +11,4 @@ pub mod CallerLemmas
 pub mod FaultRows
 pub mod FaultsTold
 pub mod OutboxLemmas
+pub mod ShortNumbers

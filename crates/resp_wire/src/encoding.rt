@@ -1,6 +1,6 @@
 //! Requests and replies, written.
 
-ghost use Rattle.std.specs.Prelude.{◌≡◌, ◌≤◌, [], ◌++◌, ◌∷◌, length, take, OnOk, OnErr};
+ghost use Rattle.std.specs.Prelude.{◌≡◌, ◌≤◌, ◌<◌, ◌+◌, [], ◌++◌, ◌∷◌, length, take, OnOk, OnErr};
 ghost use Rattle.std.specs.Fmt.{signed_decimal};
 ghost use Rattle.std.specs.List.{flat_map};
 ghost use Rattle.resp_wire.specs.RequestEncoding.{line, argument, request};
@@ -23,12 +23,28 @@ fn end_line<A: Allocator>(out: &mut Vec<u8, A>) -> Result<(), AllocError>
     Ok(())
 }
 
-/// A mark, a number, and the end of the line.
+/// The digit of a number.
+fn digit(n: usize) -> u8
+    requires { n < 10 }
+    ensures { result ≡ 48 + n }
+{
+    b'0' + n as u8
+}
+
+/// A mark, a number, and the end of the line. Most numbers are lengths and counts of one digit or two: these are put at
+/// once.
+#[tactic(auto, using(std::proofs::lemmas::Fmt::decimal_digit, crate::proofs::ShortNumbers::two_digits))]
 fn put_number<A: Allocator>(out: &mut Vec<u8, A>, mark: u8, n: usize) -> Result<(), AllocError>
     ensures ok { OnOk result (out.new.items ≡ out.old.items ++ mark ∷ line n) }
     ensures kept { take (length out.old.items) out.new.items ≡ out.old.items }
     ensures longer { length out.old.items ≤ length out.new.items }
 {
+    if n < 10 {
+        return out.extend_from_slice(&[mark, digit(n), b'\r', b'\n']);
+    }
+    if n < 100 {
+        return out.extend_from_slice(&[mark, digit(n / 10), digit(n % 10), b'\r', b'\n']);
+    }
     let mut buffer = Buffer::new();
     out.push(mark)?;
     out.extend_from_slice(buffer.format(n).as_bytes())?;
@@ -77,6 +93,7 @@ fn put_reply<A: Allocator>(reply: &Reply<A>, out: &mut Vec<u8, A>) -> Result<(),
     ensures longer { length out.old.items ≤ length out.new.items }
 {
     match reply {
+        Reply::Int(n) if *n >= 0 => put_number(out, b':', *n as usize),
         Reply::Int(n) => put_text(out, b':', Buffer::new().format(*n).as_bytes()),
         Reply::Bulk(bytes) => put_bulk(out, bytes.as_slice()),
         Reply::Null => out.extend_from_slice(b"$-1\r\n"),
