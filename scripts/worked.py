@@ -1,5 +1,5 @@
-"""A part of program_test: worked exchanges of a session, each served in one piece and byte by byte; input that is cut after
-each byte, and bytes that begin no request."""
+"""A part of program_test: worked exchanges of a session, each served in one piece and byte by byte, and all in one session;
+input that is cut after each byte, and bytes that begin no request."""
 import os
 from concurrent.futures import ThreadPoolExecutor
 
@@ -73,9 +73,16 @@ SESSIONS = {
         ("ZADD k LT 7 a", ":0~"),
         ("ZADD k LT INCR -1 a", "$1~5~"),
         ("ZADD k GT INCR -1 a", "$-1~"),
+        ("ZADD k GT INCR 0 a", "$-1~"),
+        ("ZADD k LT INCR 0 a", "$-1~"),
         ("ZADD k GT INCR 9223372036854775807 a", "-ERR 13 score out of range~"),
+        ("ZADD k LT INCR 9223372036854775807 a", "-ERR 13 score out of range~"),
         ("ZADD k XX GT 9 c", ":0~"),
         ("ZADD k LT LT CH 4 a", ":1~"),
+        ("ZADD k LT CH 4 a", ":0~"),
+        ("ZADD k gt INCR 7 c", "$1~7~"),
+        ("ZADD k LT INCR 8 d", "$1~8~"),
+        ("ZRANGEBYSCORE k -inf +inf WITHSCORES", "*8~$1~b~$1~1~$1~a~$1~4~$1~c~$1~7~$1~d~$1~8~"),
     ],
     "one stream": [
         ("ZADD k 5 a", ":1~"),
@@ -100,7 +107,22 @@ SESSIONS = {
         ("ZRANGEBYSCORE k 3 3", "*1~$0~~"),
         ("ZSCORE k a", "$-1~"),
     ],
+    "removed ranges": [
+        ("ZADD k 1 a 2 b 3 c 4 d", ":4~"),
+        ("ZREMRANGEBYSCORE k (1 (4", ":2~"),
+        ("ZRANGEBYSCORE k -inf +inf", "*2~$1~a~$1~d~"),
+        ("ZREMRANGEBYSCORE k 4 1", ":0~"),
+        ("ZADD k 2 d 3 e", ":1~"),
+        ("ZREMRANGEBYSCORE k 2 2", ":1~"),
+        ("ZREMRANGEBYSCORE k -inf +inf", ":2~"),
+        ("ZCARD k", ":0~"),
+    ],
+    "a missing key": [
+        ("ZCARD k", ":0~"),
+        ("ZREMRANGEBYSCORE k -inf +inf", ":0~"),
+    ],
     "pings": [
+        ("PING", "+PONG~"),
         ("PING hi", "$2~hi~"),
         ("ping", "+PONG~"),
         ("zadd k -3 a", ":1~"),
@@ -158,6 +180,17 @@ def exchanges_go_as_worked():
         given = b"".join(request(*words.split(" ")) for words, _ in exchanges)
         for most in (WHOLE, 1):
             ends_in_pieces(most, given, b"".join(bytes_of(reply) for _, reply in exchanges))
+
+
+@test
+def exchanges_on_keys_of_their_own_go_in_one_session():
+    asked = []
+    for number, exchanges in enumerate(SESSIONS.values()):
+        for words, reply in exchanges:
+            name, *rest = words.split(" ")
+            asked.append((request(name, *([f"key:{number}", *rest[1:]] if rest[:1] == ["k"] else rest)), bytes_of(reply)))
+    given, replies = map(b"".join, zip(*asked))
+    same(run("stdio", given=given), (0, replies, b""))
 
 
 @test
