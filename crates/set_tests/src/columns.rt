@@ -1,7 +1,7 @@
 ghost use Rattle.std.specs.Prelude.{◌≡◌, None, false, IfOk, IsTrue};
 ghost use Rattle.zset_core.specs.AbstractCommand.{is_writing};
 
-use crate::examples::{command, expect_that, text_of};
+use crate::owners::{command, expect_that, text_of};
 use crate::trials::{SetTrial, expect_of_sets};
 use resp_wire::Reply;
 use std::alloc::Global;

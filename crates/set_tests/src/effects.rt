@@ -2,7 +2,7 @@
 
 ghost use Rattle.std.specs.Prelude.{◌≡◌, None};
 
-use crate::examples::{Owner, command, expect_that};
+use crate::owners::{Owner, command, expect_that};
 use std::alloc::Global;
 use std::hash::RandomState;
 use std::test::Fail;

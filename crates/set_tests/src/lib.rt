@@ -3,9 +3,7 @@
 #![tactic(auto)]
 
 #[cfg(test)]
-mod agreement;
-#[cfg(test)]
-mod big_sets;
+mod bounds;
 #[cfg(test)]
 mod columns;
 #[cfg(test)]
@@ -13,16 +11,10 @@ mod cracks;
 #[cfg(test)]
 mod effects;
 #[cfg(test)]
-mod examples;
-#[cfg(test)]
-mod questions;
-#[cfg(test)]
-mod random_changes;
+mod owners;
 #[cfg(test)]
 mod readings;
 #[cfg(test)]
-mod score_texts;
-#[cfg(test)]
-mod sizes;
-#[cfg(test)]
 mod trials;
+#[cfg(test)]
+mod windows;

@@ -1,106 +1,27 @@
-use crate::examples::{command, expect_that, request};
+use crate::owners::{command, expect_that, request};
 use std::alloc::Global;
 use std::test::Fail;
-use zset_core::{Command, Refusal};
+use zset_core::Refusal;
 
-// Requests that are refused, and the refusals.
-const REFUSED: [(&str, Refusal); 60] = [
-    ("FOO", Refusal::UnknownCommand),
-    ("", Refusal::UnknownCommand),
-    ("ZREMRANGEBYRANK k 1 2", Refusal::UnknownCommand),
-    ("ZADD k 1", Refusal::WrongArity),
-    ("ZADD", Refusal::WrongArity),
-    ("PING a b", Refusal::WrongArity),
-    ("ZREM k", Refusal::WrongArity),
-    ("ZREMRANGEBYSCORE k 1", Refusal::WrongArity),
-    ("ZREMRANGEBYSCORE k 1 2 3", Refusal::WrongArity),
-    ("ZREMRANGEBYSCORE", Refusal::WrongArity),
-    ("ZSCORE k", Refusal::WrongArity),
-    ("ZSCORE k a b", Refusal::WrongArity),
-    ("ZCARD", Refusal::WrongArity),
-    ("ZCARD k a", Refusal::WrongArity),
-    ("ZCOUNT k 1", Refusal::WrongArity),
-    ("ZCOUNT k 1 2 3", Refusal::WrongArity),
-    ("ZRANGEBYSCORE k 1", Refusal::WrongArity),
-    ("ZADD k NX 1", Refusal::Syntax),
-    ("ZADD k NX XX", Refusal::Syntax),
-    ("ZADD k 1 a 2", Refusal::Syntax),
-    ("ZADD k GT 1", Refusal::Syntax),
-    ("ZADD k INCR 1 a 2", Refusal::Syntax),
-    ("ZRANGEBYSCORE k 1 2 LIMIT 0", Refusal::Syntax),
-    ("ZRANGEBYSCORE k 1 2 LIMIT", Refusal::Syntax),
-    ("ZRANGEBYSCORE k x 2 WITHSCORE", Refusal::Syntax),
-    (
-        "ZRANGEBYSCORE k 1 2 WITHSCORES LIMIT 0 1 0",
-        Refusal::Syntax,
-    ),
-    ("ZADD k NX XX 1 a", Refusal::NxAndXx),
-    ("ZADD k xx ch nx x a", Refusal::NxAndXx),
-    ("ZADD k NX XX INCR 1 a 2 b", Refusal::NxAndXx),
-    ("ZADD k INCR 1 a 2 b", Refusal::IncrPair),
-    ("ZADD k incr x a 2 b", Refusal::IncrPair),
-    ("ZADD k 1 a x b", Refusal::BadScore),
-    ("ZADD k 9223372036854775808 a", Refusal::BadScore),
-    ("ZADD k 1 NX 2 a NX b", Refusal::BadScore),
-    ("ZADD k INCR inf a", Refusal::BadScore),
-    ("ZADD k (1 a", Refusal::BadScore),
-    ("ZREMRANGEBYSCORE k x 2", Refusal::BadBound),
-    ("ZREMRANGEBYSCORE k 1 ((2", Refusal::BadBound),
-    ("ZCOUNT k ( 5", Refusal::BadBound),
-    ("ZCOUNT k 1.5 2", Refusal::BadBound),
-    ("ZCOUNT k 1 ((2", Refusal::BadBound),
-    ("ZRANGEBYSCORE k x 2 LIMIT y 0", Refusal::BadBound),
-    ("ZRANGEBYSCORE k 1 2 LIMIT y 0", Refusal::BadInteger),
-    ("ZRANGEBYSCORE k 1 2 LIMIT 0 1.0", Refusal::BadInteger),
-    (
-        "ZRANGEBYSCORE k 1 2 LIMIT y 0 LIMIT 3 1",
-        Refusal::BadInteger,
-    ),
-    // options of ZADD, or what is asked before and behind these
-    ("ZADD k GT LT", Refusal::Syntax),
-    ("ZADD k NX GT 1 a 2", Refusal::Syntax),
-    ("ZADD k GTX 1 a", Refusal::Syntax),
-    ("ZADD k NX XX GT 1 a", Refusal::NxAndXx),
-    ("ZADD k LT XX GT NX 1 a", Refusal::NxAndXx),
-    ("ZADD k GT LT 1 a", Refusal::GtLtNx),
-    ("ZADD k NX GT 1 a", Refusal::GtLtNx),
-    ("ZADD k lt ch nx 1 a", Refusal::GtLtNx),
-    ("ZADD k XX GT LT 1 a", Refusal::GtLtNx),
-    ("ZADD k GT LT INCR 1 a 2 b", Refusal::GtLtNx),
-    ("ZADD k GT GT LT x a", Refusal::GtLtNx),
-    ("ZADD k LT INCR 1 a 2 b", Refusal::IncrPair),
-    ("ZADD k GT incr x a 2 b", Refusal::IncrPair),
-    ("ZADD k LT LT x a", Refusal::BadScore),
-    ("ZADD k 1 GT 2 a LT b", Refusal::BadScore),
+// Why requests are refused.
+const REFUSALS: [Refusal; 9] = [
+    Refusal::UnknownCommand,
+    Refusal::WrongArity,
+    Refusal::Syntax,
+    Refusal::NxAndXx,
+    Refusal::IncrPair,
+    Refusal::BadScore,
+    Refusal::BadBound,
+    Refusal::BadInteger,
+    Refusal::GtLtNx,
 ];
 
-// Why a request is refused, or None where it is read.
-fn refusal_of(alloc: Global, text: &str) -> Result<Option<Refusal>, Fail> {
-    match Command::read(alloc, request(alloc, text)?) {
-        Ok(_) => Ok(None),
-        Err(refusal) => Ok(Some(refusal)),
-    }
-}
-
-// A request is refused, by a refusal that is shown by its text.
-fn expect_refused(alloc: Global, text: &str, refusal: Refusal) -> Result<(), Fail> {
-    expect_that(refusal_of(alloc, text)? == Some(refusal), text)?;
-    let shown = refusal.to_string(alloc)?;
-    expect_that(shown.as_str() == refusal.text(), text)
-}
-
-// No command has a name as long as an argument may be.
-fn expect_long_name_refused(alloc: Global) -> Result<(), Fail> {
-    let name = "P".repeat(alloc, 65_536)?;
-    expect_refused(alloc, &name, Refusal::UnknownCommand)
-}
-
 #[test]
-fn requests_are_refused(rt: HostRuntime) -> Result<(), Fail> {
-    for (text, refusal) in &REFUSED {
-        expect_refused(rt.alloc(), text, *refusal)?;
+fn refusals_are_shown_by_their_texts(rt: HostRuntime) -> Result<(), Fail> {
+    for refusal in REFUSALS {
+        let shown = refusal.to_string(rt.alloc())?;
+        expect_that(shown.as_str() == refusal.text(), refusal.text())?;
     }
-    expect_long_name_refused(rt.alloc())?;
     assert!(rt; Refusal::OutOfStep.number() == 17);
     assert!(rt; Refusal::NoMemory.text() == "ERR 1 out of memory");
     Ok(())

@@ -2,16 +2,11 @@
 
 ghost use Rattle.std.specs.Prelude.{◌≡◌, None};
 
-use crate::agreement::{Course, expect_course};
 use crate::columns::{Set, expect, expect_few_pivots};
 use crate::effects::{expect_effects, expect_many};
-use crate::examples::{Owner, expect_listed, expect_outlines, expect_replies};
-use crate::sizes::{
-    expect_each_length, expect_each_number, expect_kept, expect_longest, expect_of_members,
-    expect_short_pieces,
-};
+use crate::owners::{Owner, expect_listed, expect_outlines};
+use crate::windows::{expect_narrowed, expect_short_pieces};
 use std::alloc::Global;
-use std::collections::BTreeMap;
 use std::hash::RandomState;
 use std::random::RandomSource;
 use std::test::Fail;
@@ -19,19 +14,11 @@ use zset_core::{OneOwner, ZSet};
 
 /// What is asked of an owner.
 pub enum Trial {
-    /// Commands in turn, with their replies.
-    Replies(&'static [(&'static str, &'static str)]),
-    /// The same of a set of so many times 500 members.
-    OfMembers(u32, &'static [(&'static str, &'static str)]),
     /// Commands in turn, with the members that they move.
     Effects(&'static [(&'static str, &'static str)]),
     ManyEffects,
     Outlines,
     Listed,
-    Longest,
-    LongMember,
-    EachLength,
-    EachNumber,
     ShortPieces,
 }
 
@@ -39,16 +26,10 @@ fn expect_trial(alloc: Global, owner: &mut Owner, trial: &Trial) -> Result<(), F
     requires { owner.old.next ≡ None }
 {
     match trial {
-        Trial::Replies(rows) => expect_replies(alloc, owner, rows),
-        Trial::OfMembers(times, rows) => expect_of_members(alloc, owner, *times, rows),
         Trial::Effects(rows) => expect_effects(alloc, owner, rows),
         Trial::ManyEffects => expect_many(alloc, owner),
         Trial::Outlines => expect_outlines(alloc, owner),
         Trial::Listed => expect_listed(alloc, owner),
-        Trial::Longest => expect_longest(alloc, owner),
-        Trial::LongMember => expect_kept(alloc, owner),
-        Trial::EachLength => expect_each_length(alloc, owner),
-        Trial::EachNumber => expect_each_number(alloc, owner),
         Trial::ShortPieces => expect_short_pieces(alloc, owner),
     }
 }
@@ -74,16 +55,7 @@ pub enum SetTrial {
     /// Commands in turn, with their replies and with the column that they leave.
     Rows(&'static [(&'static str, &'static str, &'static str)]),
     FewPivots,
-    /// It is changed beside a plain one.
-    Beside(Course),
-}
-
-/// A set is as a plain one beside it.
-fn expect_beside(alloc: Global, set: &mut Set, course: &Course) -> Result<(), Fail>
-    requires { set.old.next ≡ None }
-{
-    let mut plain = BTreeMap::new(alloc);
-    expect_course(alloc, set, &mut plain, course)
+    Narrowed,
 }
 
 fn expect_set_trial(alloc: Global, set: &mut Set, trial: &SetTrial) -> Result<(), Fail>
@@ -92,7 +64,7 @@ fn expect_set_trial(alloc: Global, set: &mut Set, trial: &SetTrial) -> Result<()
     match trial {
         SetTrial::Rows(rows) => expect(alloc, set, rows),
         SetTrial::FewPivots => expect_few_pivots(alloc, set),
-        SetTrial::Beside(course) => expect_beside(alloc, set, course),
+        SetTrial::Narrowed => expect_narrowed(alloc, set),
     }
 }
 

@@ -1,3 +1,5 @@
+//! What owners of sets tell of a change before it is made, and list.
+
 ghost use Rattle.std.specs.Prelude.{◌≡◌, None, IfOk, IsSome, OnOk, OnErr, option_map};
 ghost use Rattle.zset_core.specs.AbstractCommand.{key_of};
 
@@ -44,102 +46,17 @@ pub fn text_of(alloc: Global, reply: &Reply<Global>) -> Result<String, Fail> {
     }
 }
 
-// The bytes of the reply to a command, an end of line as `~`, or the number of its refusal behind
-// `r`.
-pub fn reply_to(alloc: Global, owner: &mut Owner, text: &str) -> Result<String, Fail>
+// The bytes of the reply to a command, an end of line as `~`.
+fn reply_to(alloc: Global, owner: &mut Owner, text: &str) -> Result<String, Fail>
     requires { owner.old.next ≡ None }
     ensures { owner.new.next ≡ None }
 {
     let command = command(alloc, text)?;
     match owner.run(&command) {
-        Err(refusal) => Ok(format!(in alloc; "r{}", refusal.number())?),
+        Err(_) => Err("refused")?,
         Ok(reply) => text_of(alloc, &reply),
     }
 }
-
-// Commands in turn, with their replies. Each key begins an example of its own.
-const EXAMPLES: &[(&str, &str)] = &[
-    ("PING", "+PONG~"),
-    ("PING hi", "$2~hi~"),
-    ("ZADD one 5 a", ":1~"),
-    ("ZRANGEBYSCORE one 5 5", "*1~$1~a~"),
-    ("ZADD ties 1 b 1 a 1 B", ":3~"),
-    (
-        "ZRANGEBYSCORE ties -inf +inf WITHSCORES",
-        "*6~$1~B~$1~1~$1~a~$1~1~$1~b~$1~1~",
-    ),
-    ("ZADD twice CH 1 a 2 a", ":2~"),
-    ("ZCARD twice", ":1~"),
-    ("ZSCORE twice a", "$1~2~"),
-    ("ZADD plain 1 a 2 a", ":1~"),
-    ("ZADD ends 9223372036854775807 a", ":1~"),
-    ("ZCOUNT ends (9223372036854775807 +inf", ":0~"),
-    ("ZCOUNT ends (9223372036854775806 +inf", ":1~"),
-    ("ZCOUNT ends 9223372036854775807 9223372036854775807", ":1~"),
-    ("ZCOUNT ends -inf (-9223372036854775808", ":0~"),
-    ("ZADD bounds 5 a", ":1~"),
-    ("ZCOUNT bounds 5 1", ":0~"),
-    ("ZCOUNT bounds (5 (5", ":0~"),
-    ("ZCOUNT bounds 5 (5", ":0~"),
-    ("ZCOUNT bounds (inf +INF", ":0~"),
-    ("ZCOUNT bounds 5 5", ":1~"),
-    ("ZCOUNT bounds -inf inf", ":1~"),
-    ("ZCARD missing", ":0~"),
-    ("ZADD sums 1 a", ":1~"),
-    ("ZADD sums INCR 9223372036854775807 a", "r13"),
-    ("ZSCORE sums a", "$1~1~"),
-    ("ZADD sums NX INCR 9223372036854775807 a", "$-1~"),
-    ("ZADD sums XX INCR 5 b", "$-1~"),
-    ("ZADD sums INCR 1.0 a", "$1~2~"),
-    ("ZADD sums XX CH 7 a 8 b", ":1~"),
-    ("ZADD parts 1 a 2 b 3 c 4 d", ":4~"),
-    ("ZRANGEBYSCORE parts -inf +inf LIMIT 1 2", "*2~$1~b~$1~c~"),
-    ("ZRANGEBYSCORE parts -inf +inf LIMIT 2 -1", "*2~$1~c~$1~d~"),
-    ("ZRANGEBYSCORE parts -inf +inf LIMIT -1 2", "*0~"),
-    ("ZRANGEBYSCORE parts -inf +inf LIMIT 0 0", "*0~"),
-    (
-        "ZRANGEBYSCORE parts -inf +inf limit 3 9 withscores",
-        "*2~$1~d~$1~4~",
-    ),
-    (
-        "ZRANGEBYSCORE parts -inf +inf LIMIT 0 1 LIMIT 3 1",
-        "*1~$1~d~",
-    ),
-    ("ZADD gone 1 a 2 b", ":2~"),
-    ("ZREM gone a a x", ":1~"),
-    ("ZADD gone 3 ", ":1~"),
-    ("ZRANGEBYSCORE gone 3 3", "*1~$0~~"),
-    ("ZSCORE gone a", "$-1~"),
-    ("ZADD cut 1 a 2 b 3 c 4 d", ":4~"),
-    ("ZREMRANGEBYSCORE cut (1 (4", ":2~"),
-    ("ZRANGEBYSCORE cut -inf +inf", "*2~$1~a~$1~d~"),
-    ("ZREMRANGEBYSCORE cut 4 1", ":0~"),
-    ("ZADD cut 2 d 3 e", ":1~"),
-    ("ZREMRANGEBYSCORE cut 2 2", ":1~"),
-    ("ZREMRANGEBYSCORE cut -inf +inf", ":2~"),
-    ("ZCARD cut", ":0~"),
-    ("ZREMRANGEBYSCORE missing -inf +inf", ":0~"),
-    // GT and LT
-    ("ZADD k 5 a", ":1~"),
-    ("ZADD k GT CH 5 a", ":0~"),
-    ("ZADD k GT CH 6 a 1 b", ":2~"),
-    ("ZADD k LT 7 a", ":0~"),
-    ("ZADD k LT INCR -1 a", "$1~5~"),
-    ("ZADD k GT INCR -1 a", "$-1~"),
-    ("ZADD k GT INCR 0 a", "$-1~"),
-    ("ZADD k LT INCR 0 a", "$-1~"),
-    ("ZADD k GT INCR 9223372036854775807 a", "r13"),
-    ("ZADD k LT INCR 9223372036854775807 a", "r13"),
-    ("ZADD k XX GT 9 c", ":0~"),
-    ("ZADD k LT LT CH 4 a", ":1~"),
-    ("ZADD k LT CH 4 a", ":0~"),
-    ("ZADD k gt INCR 7 c", "$1~7~"),
-    ("ZADD k LT INCR 8 d", "$1~8~"),
-    (
-        "ZRANGEBYSCORE k -inf +inf WITHSCORES",
-        "*8~$1~b~$1~1~$1~a~$1~4~$1~c~$1~7~$1~d~$1~8~",
-    ),
-];
 
 /// A command on an owner's sets has this reply.
 pub fn expect_reply(alloc: Global, owner: &mut Owner, text: &str, want: &str) -> Result<(), Fail>
@@ -150,8 +67,8 @@ pub fn expect_reply(alloc: Global, owner: &mut Owner, text: &str, want: &str) ->
     expect_that(reply.as_str() == want, text)
 }
 
-/// Commands in turn on one owner's sets, with their replies.
-pub fn expect_replies(alloc: Global, owner: &mut Owner, rows: &[(&str, &str)]) -> Result<(), Fail>
+// Commands in turn on one owner's sets, with their replies.
+fn expect_replies(alloc: Global, owner: &mut Owner, rows: &[(&str, &str)]) -> Result<(), Fail>
     requires { owner.old.next ≡ None }
     ensures { owner.new.next ≡ None }
 {
@@ -275,11 +192,11 @@ pub fn expect_listed(alloc: Global, owner: &mut Owner) -> Result<(), Fail>
     expect_that(are_rows_of_k(&rows), "the pairs of a key")
 }
 
-const ANSWERED: &[Trial] = &[Trial::Replies(EXAMPLES), Trial::Listed];
+const LISTED: &[Trial] = &[Trial::Listed];
 
 #[test]
-fn examples_are_answered(rt: HostRuntime) -> Result<(), Fail> {
-    expect_of_owners(&rt, ANSWERED)
+fn keys_and_pairs_are_listed_in_order(rt: HostRuntime) -> Result<(), Fail> {
+    expect_of_owners(&rt, LISTED)
 }
 
 const TOLD: &[Trial] = &[Trial::Outlines, Trial::Effects(EFFECTS), Trial::ManyEffects];

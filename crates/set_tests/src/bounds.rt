@@ -1,37 +1,8 @@
-use crate::examples::expect_that;
-use score_bounds::{Bound, Cut, Range, read_integer, read_score, write_score};
-use std::alloc::Global;
+use crate::owners::expect_that;
+use score_bounds::{Bound, Cut, Range, read_integer};
 use std::test::Fail;
 
-// Texts of scores and the numbers that they spell, `None` where they spell none.
-const SCORES: [(&[u8], Option<i64>); 24] = [
-    (b"+007", Some(7)),
-    (b"-0", Some(0)),
-    (b"1.0", Some(1)),
-    (b"9223372036854775807", Some(i64::MAX)),
-    (b"9223372036854775807.00", Some(i64::MAX)),
-    (b"-9223372036854775808", Some(i64::MIN)),
-    (b"-9223372036854775808.00", Some(i64::MIN)),
-    (b"9223372036854775808", None),
-    (b"9223372036854775808.00", None),
-    (b"-9223372036854775809", None),
-    (b"1.", None),
-    (b".0", None),
-    (b"--1", None),
-    (b"1e3", None),
-    (b"", None),
-    (b"+", None),
-    (b"-", None),
-    (b".", None),
-    (b"1.0.0", None),
-    (b"1.5", None),
-    (b" 1", None),
-    (b"1 ", None),
-    (b"inf", None),
-    (b"\xff", None),
-];
-
-// Texts of integers and the numbers that they spell.
+// Texts of integers and the numbers that they spell, `None` where they spell none.
 const INTEGERS: [(&[u8], Option<i64>); 4] = [
     (b"-12", Some(-12)),
     (b"+9223372036854775807", Some(i64::MAX)),
@@ -47,38 +18,11 @@ fn name_of(text: &[u8]) -> &str {
     }
 }
 
-// A long text of zeros with `7` behind it spells 7, with a point behind that nothing, and with `0` behind the point 7
-// again.
-fn expect_long_texts(alloc: Global) -> Result<(), Fail> {
-    let mut text = vec![in alloc; b'0'; 1000]?;
-    for (next, score) in [(b'7', Some(7)), (b'.', None), (b'0', Some(7))] {
-        text.push(next)?;
-        expect_that(read_score(&text) == score, "a long text")?;
-    }
-    Ok(())
-}
-
 #[test]
-fn texts_of_scores_are_read(rt: HostRuntime) -> Result<(), Fail> {
-    for (text, score) in &SCORES {
-        expect_that(read_score(text) == *score, name_of(text))?;
-    }
+fn texts_of_integers_are_read(_rt: HostRuntime) -> Result<(), Fail> {
     for (text, integer) in &INTEGERS {
         expect_that(read_integer(text) == *integer, name_of(text))?;
     }
-    expect_long_texts(rt.alloc())
-}
-
-const PRINTED: &[u8] = b"-3 0 42 -9223372036854775808 9223372036854775807 ";
-
-#[test]
-fn scores_are_printed(rt: HostRuntime) -> Result<(), Fail> {
-    let mut out = Vec::new(rt.alloc());
-    for score in [-3, 0, 42, i64::MIN, i64::MAX] {
-        write_score(score, &mut out)?;
-        out.push(b' ')?;
-    }
-    assert!(rt; out.as_slice() == PRINTED);
     Ok(())
 }
 

@@ -1,0 +1,146 @@
+//! Windows of long sets, which are narrowed: they leave short pieces, so that the next ones read few rows.
+
+ghost use Rattle.std.specs.Prelude.{◌≡◌, None};
+
+use crate::columns::{Set, run};
+use crate::owners::{Owner, command, expect_reply, expect_that};
+use crate::trials::{SetTrial, Trial, expect_of_owners, expect_of_sets};
+use ripple_column::Column;
+use std::alloc::Global;
+use std::test::Fail;
+
+/// `ZADD k` with 500 pairs: each member is `m` and its number, which is its score.
+fn addition(alloc: Global, from: u32) -> Result<String, Fail> {
+    let mut text = "ZADD k".to_string(alloc)?;
+    for index in 0..500u32 {
+        let number = u64::from(from) + u64::from(index);
+        text.push_str(&format!(in alloc; " {number} m{number}")?)?;
+    }
+    Ok(text)
+}
+
+/// So many members are added, from a number on, all of which are new.
+fn expect_added(alloc: Global, owner: &mut Owner, from: u32) -> Result<(), Fail>
+    requires { owner.old.next ≡ None }
+    ensures { owner.new.next ≡ None }
+{
+    let text = addition(alloc, from)?;
+    expect_reply(alloc, owner, text.as_str(), ":500~")
+}
+
+/// A set of 4,500 members.
+fn fill(alloc: Global, owner: &mut Owner) -> Result<(), Fail>
+    requires { owner.old.next ≡ None }
+    ensures { owner.new.next ≡ None }
+{
+    for turn in 0..9u32 {
+        expect_added(alloc, owner, turn.saturating_mul(500))?;
+    }
+    Ok(())
+}
+
+/// How many rows stand between the pivots around a place.
+fn rows_around(column: &Column<Global>, place: usize) -> usize {
+    let (mut from, mut to) = (0, column.len());
+    for (_, at) in column.piece_list() {
+        if *at <= place {
+            from = from.max(*at);
+        } else {
+            to = to.min(*at);
+        }
+    }
+    to.saturating_sub(from)
+}
+
+/// The same in the set at `k`, all of its rows where there is none.
+fn rows_of_k(owner: &Owner, place: usize) -> usize {
+    match owner.set(b"k") {
+        None => usize::MAX,
+        Some(set) => rows_around(set.column(), place),
+    }
+}
+
+/// A window of a long set leaves short pieces, so that the next one reads few rows.
+pub fn expect_short_pieces(alloc: Global, owner: &mut Owner) -> Result<(), Fail>
+    requires { owner.old.next ≡ None }
+{
+    fill(alloc, owner)?;
+    expect_reply(alloc, owner, "ZCOUNT k -inf +inf", ":4500~")?;
+    expect_that(rows_of_k(owner, 2000) == 4500, "one long piece")?;
+    let window = "ZRANGEBYSCORE k -inf +inf LIMIT 2000 2";
+    expect_reply(alloc, owner, window, "*2~$5~m2000~$5~m2001~")?;
+    expect_that(rows_of_k(owner, 2000) <= 1024, "a short piece")
+}
+
+const SHORT_PIECES: &[Trial] = &[Trial::ShortPieces];
+
+#[test]
+fn a_window_leaves_short_pieces(rt: HostRuntime) -> Result<(), Fail> {
+    expect_of_owners(&rt, SHORT_PIECES)
+}
+
+// Adds a member, with one of a million scores by its number (the generator of Park and Miller).
+fn add(alloc: Global, set: &mut Set, member: u64) -> Result<(), Fail>
+    requires { set.old.next ≡ None }
+    ensures { set.new.next ≡ None }
+{
+    let score = member.wrapping_add(1).wrapping_mul(48271) % 2147483647 % 1_000_000;
+    let text = format!(in alloc; "ZADD k {score} m{member}")?;
+    run(alloc, set, text.as_str())?;
+    Ok(())
+}
+
+// Adds three thousand members.
+fn add_many(alloc: Global, set: &mut Set) -> Result<(), Fail>
+    requires { set.old.next ≡ None }
+    ensures { set.new.next ≡ None }
+{
+    for member in 0..3_000u64 {
+        add(alloc, set, member)?;
+    }
+    Ok(())
+}
+
+// Whether a listing of the ten lowest would read many rows of a set that is ready for it.
+fn is_wide(alloc: Global, set: &Set) -> Result<bool, Fail>
+    requires { set.now.next ≡ None }
+{
+    let command = command(alloc, "ZRANGEBYSCORE k -inf +inf LIMIT 0 10")?;
+    if command.key().is_none() {
+        Err("no key")?;
+    }
+    Ok(set.ready(&command).is_some() && set.ready_by_few(&command).is_none())
+}
+
+// Runs a command: a listing of the ten lowest is wide then, or is not.
+fn expect_wide(alloc: Global, set: &mut Set, text: &str, wide: bool) -> Result<(), Fail>
+    requires { set.old.next ≡ None }
+    ensures { set.new.next ≡ None }
+{
+    run(alloc, set, text)?;
+    expect_that(is_wide(alloc, set)? == wide, text)
+}
+
+// Commands on them, and whether a listing of the ten lowest is wide then.
+const NARROWED: [(&str, bool); 3] = [
+    ("ZCOUNT k -inf +inf", true),
+    ("ZRANGEBYSCORE k -inf +inf", true),
+    ("ZRANGEBYSCORE k -inf +inf LIMIT 0 10", false),
+];
+
+pub fn expect_narrowed(alloc: Global, set: &mut Set) -> Result<(), Fail>
+    requires { set.old.next ≡ None }
+{
+    add_many(alloc, set)?;
+    for (text, wide) in NARROWED {
+        expect_wide(alloc, set, text, wide)?;
+    }
+    Ok(())
+}
+
+const NARROWING: &[SetTrial] = &[SetTrial::Narrowed];
+
+#[test]
+fn a_window_of_a_long_piece_narrows_it(rt: HostRuntime) -> Result<(), Fail> {
+    expect_of_sets(&rt, NARROWING)
+}
