@@ -174,7 +174,7 @@ def windows_of_twenty_members_are_those_of_a_plain_set():
 
 @test
 def random_commands_on_few_members_are_answered_as_by_a_plain_set():
-    """Twelve members with twenty scores: three thousand changes, each with a listing and a count behind it, and that four times."""
+    """Twelve members with twenty scores: four times three thousand changes, each with a listing and a count behind it."""
     for first in range(1, 5):
         texts, number = [], first
         for _ in range(3_000):

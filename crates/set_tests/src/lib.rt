@@ -1,4 +1,4 @@
-//! The tests of sets, of scores and of cracks, over public calls. They stand apart from the
+//! The tests of sets, of bounds and of cracks, over public calls. They stand apart from the
 //! crates that they test, since a crate with tests is proved twice. This crate has nothing but tests.
 #![tactic(auto)]
 
