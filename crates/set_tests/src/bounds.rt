@@ -18,14 +18,6 @@ fn name_of(text: &[u8]) -> &str {
     }
 }
 
-#[test]
-fn texts_of_integers_are_read(_rt: HostRuntime) -> Result<(), Fail> {
-    for (text, integer) in &INTEGERS {
-        expect_that(read_integer(text) == *integer, name_of(text))?;
-    }
-    Ok(())
-}
-
 // Texts of bounds, and the bounds that they spell as both ends of a range.
 const BOUNDS: [(&[u8], Option<Bound>); 17] = [
     (b"5", Some(Bound::Incl(5))),
@@ -117,7 +109,10 @@ fn is_range(min: &[u8], max: &[u8], score: i64, is_in: bool, cuts: (Cut, Cut)) -
 }
 
 #[test]
-fn bounds_are_read_and_ranges_are_cut(rt: HostRuntime) -> Result<(), Fail> {
+fn integers_and_bounds_are_read_and_ranges_are_cut(rt: HostRuntime) -> Result<(), Fail> {
+    for (text, integer) in &INTEGERS {
+        expect_that(read_integer(text) == *integer, name_of(text))?;
+    }
     for (text, bound) in &BOUNDS {
         expect_that(is_read_as(text, *bound), name_of(text))?;
     }
