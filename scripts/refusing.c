@@ -11,7 +11,7 @@
    further calls.
 
    What is refused or fails makes the file that REFUSED_MARK names, so that a run that met it is told from one that did
-   not. Threads count together. */
+   not. Each write or sync of another file behind the one that fails puts a byte into it. Threads count together. */
 #define _GNU_SOURCE
 #include <dlfcn.h>
 #include <errno.h>
@@ -83,6 +83,20 @@ static ssize_t counted(struct calls *calls, ssize_t moved)
     return -1;
 }
 
+/* The same of a call on a file that is no stream. */
+static ssize_t counted_on_file(void)
+{
+    ssize_t result = counted(&file, 0);
+    const char *number = getenv(file.failing), *mark = getenv("REFUSED_MARK");
+    if (result == 0 && number && mark && __atomic_load_n(&file.count, __ATOMIC_RELAXED) > atol(number)) {
+        int marked = open(mark, O_WRONLY | O_APPEND | O_CLOEXEC);
+        ssize_t (*next)(int, const void *, size_t) = dlsym(RTLD_NEXT, "write");
+        next(marked, "!", 1);
+        close(marked);
+    }
+    return result;
+}
+
 static int is_file(int descriptor)
 {
     struct stat found;
@@ -117,7 +131,8 @@ ssize_t write(int descriptor, const void *bytes, size_t length)
     if (!calls)
         return next(descriptor, bytes, length);
     size_t most = at_most(calls, length);
-    return counted(calls, 0) < 0 ? -1 : next(descriptor, bytes, most);
+    ssize_t result = calls == &file ? counted_on_file() : counted(calls, 0);
+    return result < 0 ? -1 : next(descriptor, bytes, most);
 }
 
 ssize_t send(int descriptor, const void *bytes, size_t length, int flags)
@@ -130,7 +145,7 @@ ssize_t send(int descriptor, const void *bytes, size_t length, int flags)
 int fdatasync(int descriptor)
 {
     int (*next)(int) = dlsym(RTLD_NEXT, "fdatasync");
-    return counted(&file, 0) < 0 ? -1 : next(descriptor);
+    return counted_on_file() < 0 ? -1 : next(descriptor);
 }
 
 static long allocations = 0;
