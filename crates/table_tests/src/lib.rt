@@ -19,19 +19,9 @@ mod gates;
 #[cfg(test)]
 mod last_run;
 #[cfg(test)]
-mod opening;
-#[cfg(test)]
 mod runs;
 #[cfg(test)]
-mod settled;
-#[cfg(test)]
-mod sink_sweeps;
-#[cfg(test)]
 mod tables;
-#[cfg(test)]
-mod two_adders;
-#[cfg(test)]
-mod two_workers;
 #[cfg(test)]
 mod windows;
 #[cfg(test)]
