@@ -1,4 +1,4 @@
-//! Tests of tables over their public calls: worked examples on one thread, and on two.
+//! Tests of tables over their public calls: places, runs and counts on one thread, locks that are held on two.
 //! This crate has nothing but tests.
 #![tactic(auto)]
 
