@@ -148,6 +148,19 @@ def each_failing_call_leaves_the_accepted_commands():
             is_as_accepted(day, failure, 0)
 
 
+@test
+def a_file_that_fails_at_once_leaves_the_totals():
+    """What changes nothing is answered, and nothing was changed."""
+    write("kept", HEADER)
+    env = {"LD_PRELOAD": refusing(), "FAILING_FILE": "2", "MOST_FILE": "64", "REFUSED_MARK": os.path.abspath("mark")}
+    with Server("--places", 4, "--workers", 2, "--connections", 1, "--file", "kept", env=env) as server:
+        client = server.connect()
+        told = in_turn(client, ["ZADD a 1 x", "ZADD b 1 x", "ZADD b XX 1 x", "ZCARD a"])
+        same((told, client.finish()), ([FAILED, FAILED_EARLIER, b":0\r\n", b":0\r\n"], b""))
+        same(server.ends(), (0, totals(1, 0, 0, 0, 0, 0), b""))
+    same((read("kept"), calls_behind(env)), (HEADER, 0))
+
+
 @contextmanager
 def stopped(server):
     """What a server is sent meanwhile, it finds when it goes on."""
