@@ -136,7 +136,8 @@ def what_was_read_is_synced_and_its_folder():
 
 @test
 def a_failed_rewrite_leaves_nothing():
-    for kind, cause in [("write", WRITE_FAULT), ("fdatasync", WRITE_FAULT), ("link", NOT_NAMED), ("fsync", FOLDER_NOT_SYNCED)]:
+    causes = {"write": WRITE_FAULT, "fdatasync": WRITE_FAULT, "link": NOT_NAMED, "fsync": FOLDER_NOT_SYNCED}
+    for kind, cause in causes.items():
         is_not_written_anew("made", cause, FAILING_KIND=kind)
         has()
     is_written_anew("made")
@@ -174,8 +175,13 @@ def a_draft_that_lost_its_name_is_anothers():
 # becomes.
 OLD = b"".join(
     [
-        request(*"ZADD k 1 a 2 b".split()), b"*0\r\n", request(*"zadd k INCR +5 a".split()), request(*"ZADD k GT CH 1 b 9 c".split()),
-        request(*"ZADD j -1.0 x".split()), request(*"ZREM k b z".split()), request(*"ZREMRANGEBYSCORE k (6 +inf".split()),
+        request(*"ZADD k 1 a 2 b".split()),
+        b"*0\r\n",
+        request(*"zadd k INCR +5 a".split()),
+        request(*"ZADD k GT CH 1 b 9 c".split()),
+        request(*"ZADD j -1.0 x".split()),
+        request(*"ZREM k b z".split()),
+        request(*"ZREMRANGEBYSCORE k (6 +inf".split()),
         b"*4\r\n$4\r\nZADD\r\n$1\r\nk\r\n",
     ]
 )

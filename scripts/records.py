@@ -52,7 +52,8 @@ FAILING = {
     "the sync fails": Case(["ZADD k 1 a", "ZCARD k"], FAILED + ":0~", 2, RECORD, fails_at=2),
     # A removal whose record is not appended is not made, and one that removes nothing needs none.
     "a removal is refused": Case(
-        ["ZADD k 1 a", "ZREMRANGEBYSCORE k 1 1", "ZCARD k", "ZREMRANGEBYSCORE k 2 2"], ":1~" + FAILED + ":1~:0~", 3, RECORD, fails_at=3
+        ["ZADD k 1 a", "ZREMRANGEBYSCORE k 1 1", "ZCARD k", "ZREMRANGEBYSCORE k 2 2"],
+        ":1~" + FAILED + ":1~:0~", 3, RECORD, fails_at=3,
     ),
 }
 
@@ -148,12 +149,21 @@ def without_a_file(*commands):
     return out
 
 
+@functools.cache
+def listed_in(kept):
+    """What a session on a file with these bytes lists, and its line."""
+    path = tempfile.mktemp(dir=".")
+    write(path, kept)
+    return run("stdio", "--file", path, given=asked(*LISTINGS))
+
+
 def are_of_the_accepted(out):
     """The first refusal is that of the call that failed, each behind it that of a broken log, and each reply that is no
-    refusal that of a session which was sent the accepted commands alone."""
+    refusal that of a session which was sent the accepted commands alone. Gives the number of the command that is refused
+    first, None where none is."""
     replies, listed = parted(out, len(COMMANDS))
     refused = [it for it in replies if it in (bytes_of(FAILED), bytes_of(FAILED_EARLIER))]
-    same(refused, [bytes_of(FAILED), *[bytes_of(FAILED_EARLIER)] * (len(refused) - 1)][: len(refused)])
+    same(refused, [bytes_of(FAILED)][: len(refused)] + [bytes_of(FAILED_EARLIER)] * (len(refused) - 1))
     accepted = [words for words, reply in zip(COMMANDS, replies) if reply not in refused]
     same(b"".join(it for it in replies if it not in refused) + listed, without_a_file(*accepted))
     return replies.index(refused[0]) if refused else None
@@ -180,7 +190,7 @@ def each_failing_call_of_a_session_leaves_what_came_before():
             env = {**env, "FAILING_FILE": str(int(env["FAILING_FILE"]) + 1), "MOST_FILE": str(most)}
             ended = run("stdio", "--file", f"{room}/kept", given=asked(*COMMANDS, *LISTINGS), env=env)
             kept = read(f"{room}/kept")
-            return ended, kept, run("stdio", "--file", f"{room}/kept", given=asked(*LISTINGS))
+            return ended, kept, listed_in(kept)
 
         *found, (ended, whole, again) = each_refused("FAILING_FILE", attempt)
         same((ended, are_of_the_accepted(ended[1])), ((0, without_a_file(*COMMANDS), b""), None))
@@ -201,8 +211,7 @@ def each_failing_call_of_a_rewrite_leaves_no_new_file():
         def attempt(room, env):
             write(f"{room}/old", TWO_SETS)
             ended = run("rewrite", f"{room}/old", f"{room}/new", env={**env, "MOST_FILE": str(most)})
-            files = {it: read(f"{room}/{it}") for it in os.listdir(room) if it != "mark"}
-            return ended, files
+            return ended, {it: read(f"{room}/{it}") for it in os.listdir(room) if it != "mark"}
 
         *found, last = each_refused("FAILING_FILE", attempt)
         same((most, found), (most, [((1, b"", b"zcrackd: write fault\n"), {"old": TWO_SETS})] * calls))

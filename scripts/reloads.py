@@ -4,6 +4,7 @@ or no header. They are read in pieces, by reads that fail, and by reads that a s
 A session tells what is wrong with a file, or lists its sets. Then a file of version 2 has its whole bytes, and one of
 version 1 is renewed. A rewrite makes a file of the same sets, whatever the version.
 """
+import os
 import tempfile
 from concurrent.futures import ThreadPoolExecutor
 
@@ -174,8 +175,11 @@ class File:
     def is_served(self, path, most):
         """A session reads it in pieces of so many bytes."""
         write(path, self.data)
+        before = os.stat(path).st_ino
         env = {"LD_PRELOAD": refusing(), "MOST_READ": str(most)}
         ended, kept = run("stdio", "--file", path, given=ASKED, env=env), read(path)
+        # One of version 1 is another file then.
+        same((self.data, most, os.stat(path).st_ino != before), (self.data, most, self.found == 1))
         if self.found in (1, 2):
             same((self.data, most, ended, kept), (self.data, most, (0, self.answers, self.told), self.after()))
         else:
