@@ -90,11 +90,16 @@ const WITH_A_READING: &[u8] =
 /// What stands for no request: it is no record, and counts among the whole bytes.
 const SKIPS: &[u8] = b"*0\r\n*-1\r\n";
 
+/// Commands with options, a removal of more than one, what stands for no request, and a torn end: 310 bytes.
+const OLD: &[u8] =
+    b"*6\r\n$4\r\nZADD\r\n$1\r\nk\r\n$1\r\n1\r\n$1\r\na\r\n$1\r\n2\r\n$1\r\nb\r\n*0\r\n*5\r\n$4\r\nzadd\r\n$1\r\nk\r\n$4\r\nINCR\r\n$2\r\n+5\r\n$1\r\na\r\n*8\r\n$4\r\nZADD\r\n$1\r\nk\r\n$2\r\nGT\r\n$2\r\nCH\r\n$1\r\n1\r\n$1\r\nb\r\n$1\r\n9\r\n$1\r\nc\r\n*4\r\n$4\r\nZADD\r\n$1\r\nj\r\n$4\r\n-1.0\r\n$1\r\nx\r\n*4\r\n$4\r\nZREM\r\n$1\r\nk\r\n$1\r\nb\r\n$1\r\nz\r\n*4\r\n$16\r\nZREMRANGEBYSCORE\r\n$1\r\nk\r\n$2\r\n(6\r\n$4\r\n+inf\r\n*4\r\n$4\r\nZADD\r\n$1\r\nk\r\n";
+
 /// A file in pieces, what it is reloaded as, and the listing of k then.
 pub type Reload = (&'static [&'static [u8]], Found, &'static str);
 
-const RELOADS: [Reload; 8] = [
+const RELOADS: [Reload; 9] = [
     (&[THREE_RECORDS], Ok((1, 3, 98, 0)), "*2~$1~b~$1~2~ "),
+    (&[OLD], Ok((1, 6, 289, 21)), "*2~$1~a~$1~6~ "),
     (
         &[TWO_SETS_REWRITTEN],
         Ok((2, 2, 123, 0)),

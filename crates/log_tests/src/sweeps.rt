@@ -1,6 +1,6 @@
 //! Sources of which each read fails once: what was read before stays, which no run of the program shows.
 
-ghost use Rattle.std.specs.Prelude.◌≤◌;
+ghost use Rattle.std.specs.Prelude.{◌≤◌};
 
 use crate::owners::{Reads, WHOLE_READS, reloads_to};
 use crate::records::{LISTING, THREE_RECORDS};
