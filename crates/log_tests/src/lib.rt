@@ -1,15 +1,9 @@
-//! Tests of append files: records in memory, and files on a file system some of whose calls fail.
+//! Tests of logs and of reloads over memory: what only a library call shows.
 //! This crate has nothing but tests.
 #![tactic(auto)]
 
 #[cfg(test)]
 mod deferred;
-#[cfg(test)]
-mod effects;
-#[cfg(test)]
-mod failing;
-#[cfg(test)]
-mod files;
 #[cfg(test)]
 mod interrupted;
 #[cfg(test)]
@@ -19,11 +13,7 @@ mod records;
 #[cfg(test)]
 mod removals;
 #[cfg(test)]
-mod renewals;
-#[cfg(test)]
 mod room;
-#[cfg(test)]
-mod steps;
 #[cfg(test)]
 mod sweeps;
 #[cfg(test)]

@@ -1,6 +1,6 @@
 //! Owners of sets that are asked by words, with a log in memory and without one.
 
-ghost use Rattle.std.specs.Prelude.{◌≡◌, ◌≤◌, ◌^◌, None, IfOk};
+ghost use Rattle.std.specs.Prelude.{◌≡◌, ◌≤◌, ◌^◌, None};
 
 use append_log::{FuseSink, Log, LogSink, LoggedOwner, MemorySink, ReloadFault, reload};
 use resp_wire::{Bytes, BytesList, FuseSource, MemorySource, Reply, Request, write_reply};
@@ -186,21 +186,6 @@ pub fn play(rt: &HostRuntime, limits: Limits, commands: &[&str]) -> Result<Playe
     requires limited { limits.max_records ≤ 2 ^ 40 }
 {
     play_with::<Brand>(rt, Blank::new(2), limits, commands)
-}
-
-/// The owner of the sets that records replay to.
-pub fn owner_of(rt: &HostRuntime, records: &[u8]) -> Result<Owner<Global>, Fail>
-    ensures { IfOk result (λ owner. owner.next ≡ None) }
-{
-    let mut owner = OneOwner::new(rt.alloc(), RandomState::new(rt)?);
-    let mut source = MemorySource::new(records, 65_536);
-    match reload(rt.alloc(), &mut source, &mut owner, 35, 1000) {
-        Ok(_) => Ok(owner),
-        Err(fault) => {
-            drop(owner);
-            Err(fault)?
-        }
-    }
 }
 
 /// The version of a file, its records, its whole bytes and its torn ones, or why it is not reloaded.

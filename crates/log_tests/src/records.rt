@@ -1,11 +1,10 @@
-//! Logs over memory: what commands come to, the records that they append, and how these are reloaded.
+//! Logs over memory: what a full one refuses, how records are reloaded, and what threads may share of a log.
 
 ghost use Rattle.std.specs.Prelude.{◌≡◌};
 
-use crate::owners::{AMPLE, Found, Limits, WHOLE_READS, play, reloads_to, request};
-use crate::{effects, versions};
+use crate::owners::{AMPLE, Found, Limits, WHOLE_READS, play, reloads_to};
+use crate::versions;
 use append_log::{Log, MemorySink, ReloadFault};
-use resp_wire::write_request;
 use std::alloc::Global;
 use std::marker::Brand;
 use std::sync::ledger::{Blank, Ledger};
@@ -14,105 +13,38 @@ use std::test::*;
 /// Commands over a log of such limits: the replies, the records that were appended, whether the log is broken then, how
 /// often its sink was called and the bytes that it has.
 #[derive(Clone, Copy)]
-pub struct Case {
-    pub name: &'static str,
-    pub limits: Limits,
-    pub commands: &'static [&'static str],
-    pub replies: &'static str,
-    pub appended: u64,
-    pub is_broken: bool,
-    pub calls: u64,
-    pub bytes: &'static [u8],
+struct Case {
+    limits: Limits,
+    commands: &'static [&'static str],
+    replies: &'static str,
+    appended: u64,
+    is_broken: bool,
+    calls: u64,
+    bytes: &'static [u8],
 }
 
-const CASES: [Case; 5] = [
-    // a prefix of a record stands in the sink, the sets stay, and the log is broken for good
-    Case {
-        name: "the second write fails",
-        limits: Limits {
-            chunk: 7,
-            fails_at: 2,
-            ..AMPLE
-        },
-        commands: &["ZADD k 1 a", "ZCARD k", "ZADD k 1 a", "ZREM k z"],
-        replies: "-ERR 16 append file failed~ :0~ -ERR 14 append file failed earlier~ :0~ ",
-        appended: 0,
-        is_broken: true,
-        calls: 2,
-        bytes: b"*4\r\n$4\r",
+/// One record alone may be appended. What the full log refuses then leaves the sets, and what changes nothing is answered.
+const FULL: Case = Case {
+    limits: Limits {
+        max_records: 1,
+        ..AMPLE
     },
-    // the refused record stands there whole
-    Case {
-        name: "the sync fails",
-        limits: Limits {
-            fails_at: 2,
-            ..AMPLE
-        },
-        commands: &["ZADD k 1 a", "ZCARD k"],
-        replies: "-ERR 16 append file failed~ :0~ ",
-        appended: 0,
-        is_broken: true,
-        calls: 2,
-        bytes: RECORD,
-    },
-    // a removal whose record is not appended is not made, and one that removes nothing needs none
-    Case {
-        name: "a removal is refused",
-        limits: Limits {
-            fails_at: 3,
-            ..AMPLE
-        },
-        commands: &[
-            "ZADD k 1 a",
-            "ZREMRANGEBYSCORE k 1 1",
-            "ZCARD k",
-            "ZREMRANGEBYSCORE k 2 2",
-        ],
-        replies: ":1~ -ERR 16 append file failed~ :1~ :0~ ",
-        appended: 1,
-        is_broken: true,
-        calls: 3,
-        bytes: RECORD,
-    },
-    // a removal is recorded as it was asked for, and one that removes nothing is not
-    Case {
-        name: "removals",
-        limits: AMPLE,
-        commands: &[
-            "ZADD k 1 a 2 b 3 c",
-            "ZREMRANGEBYSCORE k 4 +inf",
-            "ZREMRANGEBYSCORE k (1 2",
-        ],
-        replies: ":3~ :0~ :1~ ",
-        appended: 2,
-        is_broken: false,
-        calls: 4,
-        bytes: THREE_AND_A_REMOVAL,
-    },
-    // what a full log refuses leaves the sets
-    Case {
-        name: "one record alone may be appended",
-        limits: Limits {
-            max_records: 1,
-            ..AMPLE
-        },
-        commands: &[
-            "ZADD k 1 a",
-            "ZADD k 2 b",
-            "ZADD k 1 a",
-            "ZREM k a",
-            "ZCARD k",
-        ],
-        replies: ":1~ -ERR 15 append file is full~ :0~ -ERR 15 append file is full~ :1~ ",
-        appended: 1,
-        is_broken: false,
-        calls: 2,
-        bytes: RECORD,
-    },
-];
+    commands: &[
+        "ZADD k 1 a",
+        "ZADD k 2 b",
+        "ZADD k 1 a",
+        "ZREM k a",
+        "ZCARD k",
+    ],
+    replies: ":1~ -ERR 15 append file is full~ :0~ -ERR 15 append file is full~ :1~ ",
+    appended: 1,
+    is_broken: false,
+    calls: 2,
+    bytes: RECORD,
+};
 
 /// Whether commands come to what their case says.
-pub fn goes_so(rt: &HostRuntime, case: &Case) -> Result<bool, Fail> {
+fn goes_so(rt: &HostRuntime, case: &Case) -> Result<bool, Fail> {
     let limits = case.limits;
     if limits.chunk == 0 || limits.max_records == 0 || limits.max_records > 10 {
         return Err("no limits of a log")?;
@@ -125,13 +57,8 @@ pub fn goes_so(rt: &HostRuntime, case: &Case) -> Result<bool, Fail> {
 }
 
 #[test]
-fn commands_over_a_log_go_as_told(rt: HostRuntime) -> Result<(), Fail> {
-    for case in CASES.iter() {
-        assert!(rt; goes_so(&rt, case)?, "{}", case.name);
-    }
-    for case in effects::CASES.iter() {
-        assert!(rt; goes_so(&rt, case)?, "{}", case.name);
-    }
+fn a_full_log_refuses_changes(rt: HostRuntime) -> Result<(), Fail> {
+    assert!(rt; goes_so(&rt, &FULL)?);
     Ok(())
 }
 
@@ -142,33 +69,11 @@ pub const THREE_RECORDS: &[u8] =
     b"*4\r\n$4\r\nZADD\r\n$1\r\nk\r\n$1\r\n1\r\n$1\r\na\r\n*4\r\n$4\r\nZADD\r\n$1\r\nk\r\n$1\r\n2\r\n$1\r\nb\r\n*3\r\n$4\r\nZREM\r\n$1\r\nk\r\n$1\r\na\r\n";
 
 /// ZADD k 1 a.
-pub const RECORD: &[u8] = b"*4\r\n$4\r\nZADD\r\n$1\r\nk\r\n$1\r\n1\r\n$1\r\na\r\n";
-
-/// ZADD k 1 a 2 b 3 c and ZREMRANGEBYSCORE k (1 2: records of 63 and 49 bytes.
-const THREE_AND_A_REMOVAL: &[u8] =
-    b"*8\r\n$4\r\nZADD\r\n$1\r\nk\r\n$1\r\n1\r\n$1\r\na\r\n$1\r\n2\r\n$1\r\nb\r\n$1\r\n3\r\n$1\r\nc\r\n*4\r\n$16\r\nZREMRANGEBYSCORE\r\n$1\r\nk\r\n$2\r\n(1\r\n$1\r\n2\r\n";
-
-/// ZADD j -3 x and ZADD k 1 B 1 a 1 b: records of 36 and 63 bytes.
-pub const TWO_SETS: &[u8] =
-    b"*4\r\n$4\r\nZADD\r\n$1\r\nj\r\n$2\r\n-3\r\n$1\r\nx\r\n*8\r\n$4\r\nZADD\r\n$1\r\nk\r\n$1\r\n1\r\n$1\r\nB\r\n$1\r\n1\r\n$1\r\na\r\n$1\r\n1\r\n$1\r\nb\r\n";
+const RECORD: &[u8] = b"*4\r\n$4\r\nZADD\r\n$1\r\nk\r\n$1\r\n1\r\n$1\r\na\r\n";
 
 /// The header, of 24 bytes, and behind it ZADD j -3 x and ZADD k 1 B 1 a 1 b.
 pub const TWO_SETS_REWRITTEN: &[u8] =
     b"*2\r\n$7\r\nZCRACKD\r\n$1\r\n2\r\n*4\r\n$4\r\nZADD\r\n$1\r\nj\r\n$2\r\n-3\r\n$1\r\nx\r\n*8\r\n$4\r\nZADD\r\n$1\r\nk\r\n$1\r\n1\r\n$1\r\nB\r\n$1\r\n1\r\n$1\r\na\r\n$1\r\n1\r\n$1\r\nb\r\n";
-
-/// ZADD k 1 a, ZADD k 2 b and ZREM k a.
-const THREE_COMMANDS: [&str; 3] = ["ZADD k 1 a", "ZADD k 2 b", "ZREM k a"];
-
-// A record is the request.
-#[test]
-fn records_are_requests(rt: HostRuntime) -> Result<(), Fail> {
-    let mut bytes = Vec::new(rt.alloc());
-    for text in THREE_COMMANDS {
-        write_request(&request(rt.alloc(), text)?, &mut bytes)?;
-    }
-    assert_eq!(rt; bytes.as_slice(), THREE_RECORDS);
-    Ok(())
-}
 
 /// The first 80 bytes of the three records.
 const CUT: &[u8] =
@@ -185,17 +90,16 @@ const WITH_A_READING: &[u8] =
 /// What stands for no request: it is no record, and counts among the whole bytes.
 const SKIPS: &[u8] = b"*0\r\n*-1\r\n";
 
+/// Commands with options, a removal of more than one, what stands for no request, and a torn end: 310 bytes.
+const OLD: &[u8] =
+    b"*6\r\n$4\r\nZADD\r\n$1\r\nk\r\n$1\r\n1\r\n$1\r\na\r\n$1\r\n2\r\n$1\r\nb\r\n*0\r\n*5\r\n$4\r\nzadd\r\n$1\r\nk\r\n$4\r\nINCR\r\n$2\r\n+5\r\n$1\r\na\r\n*8\r\n$4\r\nZADD\r\n$1\r\nk\r\n$2\r\nGT\r\n$2\r\nCH\r\n$1\r\n1\r\n$1\r\nb\r\n$1\r\n9\r\n$1\r\nc\r\n*4\r\n$4\r\nZADD\r\n$1\r\nj\r\n$4\r\n-1.0\r\n$1\r\nx\r\n*4\r\n$4\r\nZREM\r\n$1\r\nk\r\n$1\r\nb\r\n$1\r\nz\r\n*4\r\n$16\r\nZREMRANGEBYSCORE\r\n$1\r\nk\r\n$2\r\n(6\r\n$4\r\n+inf\r\n*4\r\n$4\r\nZADD\r\n$1\r\nk\r\n";
+
 /// A file in pieces, what it is reloaded as, and the listing of k then.
 pub type Reload = (&'static [&'static [u8]], Found, &'static str);
 
-const RELOADS: [Reload; 10] = [
+const RELOADS: [Reload; 9] = [
     (&[THREE_RECORDS], Ok((1, 3, 98, 0)), "*2~$1~b~$1~2~ "),
-    (&[RECORD], Ok((1, 1, 35, 0)), "*2~$1~a~$1~1~ "),
-    (
-        &[THREE_AND_A_REMOVAL],
-        Ok((1, 2, 112, 0)),
-        "*4~$1~a~$1~1~$1~c~$1~3~ ",
-    ),
+    (&[OLD], Ok((1, 6, 289, 21)), "*2~$1~a~$1~6~ "),
     (
         &[TWO_SETS_REWRITTEN],
         Ok((2, 2, 123, 0)),
