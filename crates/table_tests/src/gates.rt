@@ -1,8 +1,8 @@
 //! A run that is held inside its place's lock while another is asked for: one of another place is
 //! answered meanwhile, one of the same place waits unless both read.
 
-use crate::tables::FOUR_PLACES;
-use crate::workers::{AtOnce, Lists, MANY_TURNS, Manner, Race, commands, race_of};
+use crate::tables::Day;
+use crate::workers::{AtOnce, FREE, Lists, MANY_TURNS, Manner, Race, commands, race_of};
 use set_table::Totals;
 use std::process::Abort;
 use std::sync::Wait;
@@ -28,7 +28,7 @@ fn told_to<R: Threads + Wait + AllocGlobal + Sync>(
     rt: &HostRuntime,
     locks: &R,
     pair: &Pair,
-) -> Result<(AtOnce, Totals), Fail> {
+) -> Result<(AtOnce, Day), Fail> {
     let before = commands(rt.alloc(), pair.before)?;
     let held = commands(rt.alloc(), &[pair.held])?;
     let beside = commands(rt.alloc(), &[pair.beside])?;
@@ -38,8 +38,8 @@ fn told_to<R: Threads + Wait + AllocGlobal + Sync>(
         FEW_TURNS
     };
     let workers = Race {
-        plan: FOUR_PLACES,
         manner: Manner::Held(turns),
+        ..FREE
     };
     let lists = Lists {
         before: &before,
@@ -55,7 +55,7 @@ fn expect_pair<R: Abort + Threads + Wait + AllocGlobal + Sync>(
     locks: &R,
     pair: &Pair,
 ) -> Result<Totals, Fail> {
-    let (told, totals) = told_to(rt, locks, pair)?;
+    let (told, day) = told_to(rt, locks, pair)?;
     let replies = told.text(rt.alloc())?;
     assert!(locks;
         (replies.as_str(), !told.ran_out) == (pair.replies, pair.is_beside),
@@ -63,7 +63,7 @@ fn expect_pair<R: Abort + Threads + Wait + AllocGlobal + Sync>(
         pair.held,
         pair.beside
     );
-    Ok(totals)
+    Ok(day.closed.totals)
 }
 
 // One Mutex for each set would let the wait run out.

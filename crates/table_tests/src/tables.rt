@@ -5,7 +5,7 @@ ghost use Rattle.set_table.specs.ClosingAudit.{pass_at};
 ghost use Rattle.set_table.specs.TableAndPassViews.{IsPassOf};
 
 use crate::exchange::{Owner, SetsOver, answers, owner_of};
-use append_log::{Log, MemorySink};
+use append_log::{FuseSink, Log, MemorySink};
 use set_table::{NoGate, Pass, Table, TestGate, Totals};
 use std::alloc::Global;
 use std::marker::Brand;
@@ -14,22 +14,27 @@ use std::sync::Wait;
 use std::sync::ledger::{Blank, Ledger};
 use std::test::*;
 
-type Sink = MemorySink<Global>;
+pub type Sink = FuseSink<MemorySink<Global>>;
 
 pub type Sets<L> = SetsOver<Sink, L>;
 
-/// How a table is opened, and whether appends to its log leave their syncs to later.
+/// How a table is opened, and its log: how many bytes a call of the sink takes at most, which call fails, 0 for none,
+/// and whether appends leave their syncs to later.
 #[derive(Clone, Copy)]
 pub struct Plan {
     pub places: usize,
     pub max_runs: u64,
+    pub chunk: usize,
+    pub fails_at: u64,
     pub is_deferred: bool,
 }
 
-/// Four places with as many runs as a test needs.
+/// Four places with as many runs as a test needs, and a sink that never fails.
 pub const FOUR_PLACES: Plan = Plan {
     places: 4,
     max_runs: 10_000,
+    chunk: 4096,
+    fails_at: 0,
     is_deferred: false,
 };
 
@@ -44,10 +49,11 @@ impl Plan {
     fn is_sound(&self) -> bool
         ensures places { IsTrue result → (1 ≤ self.now.places) × (self.now.places ≤ 4096) }
         ensures max_runs { IsTrue result → (1 ≤ self.now.max_runs) × (self.now.max_runs ≤ 2 ^ 40) }
+        ensures chunk { IsTrue result → 1 ≤ self.now.chunk }
     {
         let has_places = 1 <= self.places && self.places <= 4096;
         let has_runs = 1 <= self.max_runs && self.max_runs <= 1 << 40;
-        has_places && has_runs
+        has_places && has_runs && 1 <= self.chunk
     }
 }
 
@@ -94,7 +100,8 @@ pub fn opened<L: Ledger>(
     if !plan.is_sound() {
         return Err("no such table")?;
     }
-    let log = log_of::<L>(blank, MemorySink::new(alloc, 4096), plan.is_deferred);
+    let sink = FuseSink::new(MemorySink::new(alloc, plan.chunk), plan.fails_at);
+    let log = log_of::<L>(blank, sink, plan.is_deferred);
     match Table::open(alloc, owner, log, plan.places, 2, plan.max_runs) {
         Ok((table, passes)) => {
             let (first, second) = pair(passes)?;
@@ -104,23 +111,37 @@ pub fn opened<L: Ledger>(
     }
 }
 
-/// Closes a table by its passes, the second before the first. Gives what it tells then.
+/// What a closed table tells, whether its log was broken, and where it wrote.
+#[derive(Drop)]
+pub struct Closed {
+    pub totals: Totals,
+    pub is_broken: bool,
+    pub sink: Sink,
+}
+
+/// Closes a table by its passes, the second before the first.
 pub fn close<L: Ledger>(
     alloc: Global,
     table: Sets<L>,
     first: Pass<Global>,
     second: Pass<Global>,
-) -> Result<Totals, Fail>
+) -> Result<Closed, Fail>
     requires first { IsPassOf table first }
     requires second { IsPassOf table second }
 {
     let passes = Vec::from_array(alloc, [second, first])?;
     match table.close(passes) {
-        Ok((totals, log)) => {
-            drop(log);
-            Ok(totals)
-        }
+        Ok((totals, log)) => Ok(ending(totals, log)),
         Err(_) => Err("not closed")?,
+    }
+}
+
+/// What a closed table told, and its log.
+fn ending<L: Ledger>(totals: Totals, log: Log<Sink, L>) -> Closed {
+    Closed {
+        totals,
+        is_broken: log.is_broken(),
+        sink: log.into_sink(),
     }
 }
 
@@ -141,8 +162,15 @@ pub const SILENCE: Talk<'static> = Talk {
     second: &[],
 };
 
+/// What both were told, the first before the second, and what the table told when it was closed.
+#[derive(Drop)]
+pub struct Day {
+    pub told: String,
+    pub closed: Closed,
+}
+
 /// What two workers are told, one after the other.
-fn told_to_both<L: Ledger, R: Wait, G: TestGate>(
+pub fn told_to_both<L: Ledger, R: Wait, G: TestGate>(
     rt: &R,
     alloc: Global,
     table: &Sets<L>,
@@ -162,8 +190,8 @@ fn told_to_both<L: Ledger, R: Wait, G: TestGate>(
     Ok(told)
 }
 
-/// What both workers of a table of an owner's sets are told until it is closed, the first before the second.
-fn day_with<L: Ledger, R: Wait + AllocGlobal, G: TestGate>(
+/// A day of a table of an owner's sets.
+pub fn day_with<L: Ledger, R: Wait + AllocGlobal, G: TestGate>(
     rt: &R,
     blank: Blank,
     owner: Owner,
@@ -171,7 +199,7 @@ fn day_with<L: Ledger, R: Wait + AllocGlobal, G: TestGate>(
     first_texts: &[&str],
     second_texts: &[&str],
     gate: &G,
-) -> Result<String, Fail>
+) -> Result<Day, Fail>
     requires idle { owner.next ≡ None }
     requires name { blank.name ≡ L.name }
     requires parts { blank.parts ≡ L.parts }
@@ -189,17 +217,17 @@ fn day_with<L: Ledger, R: Wait + AllocGlobal, G: TestGate>(
         second_texts,
         gate,
     )?;
-    close(alloc, table, first, second)?;
-    Ok(told)
+    let closed = close(alloc, table, first, second)?;
+    Ok(Day { told, closed })
 }
 
-/// The same of a table whose runs call a gate. `locks` waits for the table's locks.
+/// A day of a table whose runs call a gate. `locks` waits for the table's locks.
 pub fn gated_day<R: Wait + AllocGlobal, G: TestGate>(
     rt: &HostRuntime,
     locks: &R,
     talk: &Talk<'_>,
     gate: &G,
-) -> Result<String, Fail> {
+) -> Result<Day, Fail> {
     let owner = owner_of(rt, talk.sets)?;
     let blank = Blank::new(4098);
     day_with::<Brand, _, _>(
@@ -213,23 +241,23 @@ pub fn gated_day<R: Wait + AllocGlobal, G: TestGate>(
     )
 }
 
-/// What both workers of a table are told.
-fn day_of<R: Wait + AllocGlobal>(
+/// A day of a table.
+pub fn day_of<R: Wait + AllocGlobal>(
     rt: &HostRuntime,
     locks: &R,
     talk: &Talk<'_>,
-) -> Result<String, Fail> {
+) -> Result<Day, Fail> {
     gated_day(rt, locks, talk, &NoGate)
 }
 
-/// The same of a table that is empty at opening, of which texts are asked that a constant can't hold.
+/// A day of a table that is empty at opening, of which texts are asked that a constant can't hold.
 pub fn day_of_texts<R: Wait + AllocGlobal>(
     rt: &HostRuntime,
     locks: &R,
     plan: Plan,
     first_texts: &[&str],
     second_texts: &[&str],
-) -> Result<String, Fail> {
+) -> Result<Day, Fail> {
     let owner = owner_of(rt, &[])?;
     let blank = Blank::new(4098);
     day_with::<Brand, _, _>(
@@ -251,8 +279,8 @@ fn expect<R: Abort + Wait + AllocGlobal>(
     talk: &Talk<'_>,
     wanted: &str,
 ) -> Result<(), Fail> {
-    let told = day_of(rt, locks, talk)?;
-    assert_eq!(locks; told.as_str(), wanted, "{name}");
+    let day = day_of(rt, locks, talk)?;
+    assert_eq!(locks; day.told.as_str(), wanted, "{name}");
     Ok(())
 }
 

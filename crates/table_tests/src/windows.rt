@@ -40,7 +40,7 @@ fn a_window_takes_one_run(rt: HostRuntime) -> Result<(), Fail> {
         "ZADD k 1000 m1000",
         "ZADD k 1000 m1000",
     ];
-    let told = day_of_texts(&rt, &rt, FIVE_RUNS, &texts, &[])?;
+    let told = day_of_texts(&rt, &rt, FIVE_RUNS, &texts, &[])?.told;
     let wanted = ":510~ :510~ :1020~ :1020~ *1~$4~m500~ *1~$4~m500~ *1~$4~m500~ :0~ r12 ";
     assert_eq!(rt; told.as_str(), wanted);
     Ok(())

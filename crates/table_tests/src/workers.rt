@@ -4,10 +4,10 @@ ghost use Rattle.std.specs.Prelude.{◌≡◌, ◌≤◌, None, IfOk};
 ghost use Rattle.set_table.specs.TableAndPassViews.{IsPassOf};
 
 use crate::exchange::{Owner, SetsOver, command, owner_of, text_of};
-use crate::tables::{Plan, Sets, close, opened};
+use crate::tables::{Day, SILENCE, Sets, Talk, close, opened, told_to_both};
 use append_log::LogSink;
 use resp_wire::write_reply;
-use set_table::{Answered, NoGate, Pass, TestGate, Totals};
+use set_table::{Answered, NoGate, Pass, TestGate};
 use std::alloc::Global;
 use std::marker::Brand;
 use std::sync::Wait;
@@ -24,6 +24,8 @@ pub const MANY_TURNS: u64 = 1_000_000_000;
 /// How two workers wait for one another.
 #[derive(Clone, Copy)]
 pub enum Manner {
+    /// Not at all.
+    Free,
     /// The second begins when a run of the first is inside its lock. This one is held there until the second is through,
     /// or for so many turns.
     Held(u64),
@@ -75,7 +77,7 @@ impl Post<'_> {
     fn begin(&self) -> bool {
         match self.signals.manner {
             Manner::Held(_) => self.is_first || wait_for(&self.signals.inside, 1, MANY_TURNS),
-            Manner::Together => true,
+            _ => true,
         }
     }
 
@@ -97,12 +99,29 @@ impl TestGate for Post<'_> {
     fn inside(&self, _place: usize) {
         self.signals.inside.fetch_add(1, Ordering::SeqCst);
         match self.signals.manner {
+            Manner::Free => {}
             Manner::Held(turns) => self.hold(turns),
             Manner::Together => {
                 wait_for(&self.signals.inside, 2, MANY_TURNS);
             }
         }
     }
+}
+
+/// Claims a key, and appends its place.
+fn note_claim<S: LogSink, L: Ledger>(
+    alloc: Global,
+    table: &SetsOver<S, L>,
+    pass: &mut Pass<Global>,
+    key: &[u8],
+    bytes: &mut Vec<u8>,
+) -> Option<()>
+    requires { IsPassOf table.now pass.old }
+    ensures { IsPassOf table.now pass.new }
+{
+    let place = table.claim(pass, key).ok()?;
+    let text = format!(in alloc; "{place}").ok()?;
+    bytes.extend_from_slice(text.as_bytes()).ok()
 }
 
 /// Runs a command, and appends its reply.
@@ -124,20 +143,30 @@ fn note_reply<S: LogSink, L: Ledger, R: Wait, G: TestGate>(
     write_reply(&reply, bytes).ok()
 }
 
-/// The replies to a worker's commands, or None where one was refused.
+/// The keys that a worker claims, each of one byte, and the commands that it runs then.
+#[derive(Clone, Copy)]
+struct Shift<'s> {
+    keys: &'s [u8],
+    commands: &'s [Command<Global>],
+}
+
+/// What a worker is told of its keys and commands, or None where one was refused.
 fn told_on<S: LogSink, L: Ledger, R: Wait, G: TestGate>(
     rt: &R,
     alloc: Global,
     table: &SetsOver<S, L>,
     pass: &mut Pass<Global>,
-    commands: &[Command<Global>],
+    shift: Shift<'_>,
     gate: &G,
 ) -> Option<Vec<u8>>
     requires { IsPassOf table.now pass.old }
     ensures { IsPassOf table.now pass.new }
 {
     let mut bytes = Vec::new(alloc);
-    for command in commands {
+    for key in shift.keys {
+        note_claim(alloc, table, pass, &[*key], &mut bytes)?;
+    }
+    for command in shift.commands {
         note_reply(rt, table, pass, command, gate, &mut bytes)?;
     }
     Some(bytes)
@@ -150,7 +179,7 @@ fn work<S: LogSink, L: Ledger, R: Wait + AllocGlobal>(
     rt: &R,
     table: &SetsOver<S, L>,
     pass: Pass<Global>,
-    commands: &[Command<Global>],
+    shift: Shift<'_>,
     post: Post<'_>,
 ) -> (Option<Vec<u8>>, Pass<Global>)
     requires { IsPassOf table.now pass }
@@ -160,17 +189,17 @@ fn work<S: LogSink, L: Ledger, R: Wait + AllocGlobal>(
         return (None, pass);
     }
     let mut pass = pass;
-    let told = told_on(rt, rt.alloc(), table, &mut pass, commands, &post);
+    let told = told_on(rt, rt.alloc(), table, &mut pass, shift, &post);
     post.end();
     (told, pass)
 }
 
-/// Both, each on a thread of its own.
+/// Both shifts, each on a thread of its own.
 fn work_at_once<S: LogSink + Send, L: Ledger + Send + Sync, R: Threads + Wait + AllocGlobal + Sync>(
     rt: &R,
     table: &SetsOver<S, L>,
     passes: (Pass<Global>, Pass<Global>),
-    lists: (&[Command<Global>], &[Command<Global>]),
+    shifts: (Shift<'_>, Shift<'_>),
     signals: &Signals,
 ) -> (Worked, Worked)
     requires first { IsPassOf table.now passes.0 }
@@ -179,36 +208,54 @@ fn work_at_once<S: LogSink + Send, L: Ledger + Send + Sync, R: Threads + Wait + 
     ensures second { IsPassOf table.now result.1.1 }
 {
     let (first, second) = passes;
-    let (commands, other_commands) = lists;
+    let Shift { keys, commands } = shifts.0;
+    let Shift {
+        keys: other_keys,
+        commands: other_commands,
+    } = shifts.1;
     let one = move || -> (Option<Vec<u8>>, Pass<Global>)
         requires { IsPassOf table.now first }
         ensures { IsPassOf table.entry.now result.1 }
     {
+        let shift = Shift { keys, commands };
         let post = Post {
             signals,
             is_first: true,
         };
-        work(rt, table, first, commands, post)
+        work(rt, table, first, shift, post)
     };
     let other = move || -> (Option<Vec<u8>>, Pass<Global>)
         requires { IsPassOf table.now second }
         ensures { IsPassOf table.entry.now result.1 }
     {
+        let shift = Shift {
+            keys: other_keys,
+            commands: other_commands,
+        };
         let post = Post {
             signals,
             is_first: false,
         };
-        work(rt, table, second, other_commands, post)
+        work(rt, table, second, shift, post)
     };
     thread::join(rt, one, other)
 }
 
-/// How a table is opened of which two workers ask at once, and how they wait for one another.
+/// A table of which two workers ask at once: the keys of one byte that each claims first, how they wait for one another,
+/// and what both ask one after the other then.
 #[derive(Clone, Copy)]
-pub struct Race {
-    pub plan: Plan,
+pub struct Race<'t> {
+    pub keys: (&'t [u8], &'t [u8]),
     pub manner: Manner,
+    pub talk: Talk<'t>,
 }
+
+/// Two workers that run commands alone, and do not wait.
+pub const FREE: Race<'static> = Race {
+    keys: (b"", b""),
+    manner: Manner::Free,
+    talk: SILENCE,
+};
 
 /// The commands that the second worker runs before, and those that both run at once.
 #[derive(Clone, Copy)]
@@ -218,11 +265,20 @@ pub struct Lists<'c> {
     pub second: &'c [Command<Global>],
 }
 
+/// Commands that both run at once, and none before.
+pub fn lists_of<'c>(first: &'c [Command<Global>], second: &'c [Command<Global>]) -> Lists<'c> {
+    Lists {
+        before: &[],
+        first,
+        second,
+    }
+}
+
 /// What two workers are told at once, and whether the first was held for all of its turns.
 #[derive(Drop)]
 pub struct AtOnce {
-    one: Option<Vec<u8>>,
-    other: Option<Vec<u8>>,
+    pub one: Option<Vec<u8>>,
+    pub other: Option<Vec<u8>>,
     pub ran_out: bool,
 }
 
@@ -240,7 +296,7 @@ fn told_at_once<S: LogSink + Send, L: Ledger + Send + Sync, R: Threads + Wait + 
     rt: &R,
     table: &SetsOver<S, L>,
     passes: (Pass<Global>, Pass<Global>),
-    manner: Manner,
+    race: &Race<'_>,
     lists: Lists<'_>,
 ) -> (AtOnce, Pass<Global>, Pass<Global>)
     requires first { IsPassOf table.now passes.0 }
@@ -248,8 +304,16 @@ fn told_at_once<S: LogSink + Send, L: Ledger + Send + Sync, R: Threads + Wait + 
     ensures first { IsPassOf table.now result.1 }
     ensures second { IsPassOf table.now result.2 }
 {
-    let signals = Signals::new(manner);
-    let told = work_at_once(rt, table, passes, (lists.first, lists.second), &signals);
+    let signals = Signals::new(race.manner);
+    let low = Shift {
+        keys: race.keys.0,
+        commands: lists.first,
+    };
+    let high = Shift {
+        keys: race.keys.1,
+        commands: lists.second,
+    };
+    let told = work_at_once(rt, table, passes, (low, high), &signals);
     let ((one, first), (other, second)) = told;
     let ran_out = signals.ran_out.load(Ordering::SeqCst) == 1;
     (
@@ -281,14 +345,14 @@ fn run_all<S: LogSink, L: Ledger, R: Wait>(
     Ok(())
 }
 
-/// What two workers are told at once of a table in which the second ran its commands before, and their passes.
+/// What two workers are told at once of a table, and one after the other then; and their passes.
 fn told_in_race<L: Ledger + Send + Sync, R: Threads + Wait + AllocGlobal + Sync>(
     rt: &R,
     table: &Sets<L>,
     passes: (Pass<Global>, Pass<Global>),
-    manner: Manner,
+    race: &Race<'_>,
     lists: Lists<'_>,
-) -> Result<(AtOnce, Pass<Global>, Pass<Global>), Fail>
+) -> Result<((AtOnce, String), Pass<Global>, Pass<Global>), Fail>
     requires first { IsPassOf table.now passes.0 }
     requires second { IsPassOf table.now passes.1 }
     ensures first { IfOk result (λ told. IsPassOf table.now told.1) }
@@ -296,37 +360,50 @@ fn told_in_race<L: Ledger + Send + Sync, R: Threads + Wait + AllocGlobal + Sync>
 {
     let (first, mut second) = passes;
     run_all(rt, table, &mut second, lists.before)?;
-    Ok(told_at_once(rt, table, (first, second), manner, lists))
+    let told = told_at_once(rt, table, (first, second), race, lists);
+    let (at_once, mut first, mut second) = told;
+    let told = told_to_both(
+        rt,
+        rt.alloc(),
+        table,
+        &mut first,
+        &mut second,
+        race.talk.first,
+        race.talk.second,
+        &NoGate,
+    )?;
+    Ok(((at_once, told), first, second))
 }
 
-/// A race on a table of an owner's sets, and what the table tells when it is closed.
+/// A race on a table of an owner's sets, and its day.
 fn race_with<L: Ledger + Send + Sync, R: Threads + Wait + AllocGlobal + Sync>(
     rt: &R,
     blank: Blank,
     owner: Owner,
-    race: &Race,
+    race: &Race<'_>,
     lists: Lists<'_>,
-) -> Result<(AtOnce, Totals), Fail>
+) -> Result<(AtOnce, Day), Fail>
     requires idle { owner.next ≡ None }
     requires name { blank.name ≡ L.name }
     requires parts { blank.parts ≡ L.parts }
     requires many { 4098 ≤ blank.parts }
 {
     let alloc = rt.alloc();
-    let (table, first, second) = opened::<L>(alloc, blank, owner, race.plan)?;
-    let told = told_in_race(rt, &table, (first, second), race.manner, lists)?;
-    let (at_once, first, second) = told;
-    Ok((at_once, close(alloc, table, first, second)?))
+    let (table, first, second) = opened::<L>(alloc, blank, owner, race.talk.plan)?;
+    let (told, first, second) = told_in_race(rt, &table, (first, second), race, lists)?;
+    let closed = close(alloc, table, first, second)?;
+    let (at_once, told) = told;
+    Ok((at_once, Day { told, closed }))
 }
 
-/// The same of a table that is empty at opening. `locks` waits for the table's locks.
+/// A race, and the day of its table. `locks` waits for the table's locks.
 pub fn race_of<R: Threads + Wait + AllocGlobal + Sync>(
     rt: &HostRuntime,
     locks: &R,
-    race: &Race,
+    race: &Race<'_>,
     lists: Lists<'_>,
-) -> Result<(AtOnce, Totals), Fail> {
-    let owner = owner_of(rt, &[])?;
+) -> Result<(AtOnce, Day), Fail> {
+    let owner = owner_of(rt, race.talk.sets)?;
     race_with::<Brand, _>(locks, Blank::new(4098), owner, race, lists)
 }
 
