@@ -265,6 +265,30 @@ def a_quiet_client_does_not_wait_for_each_busy_one():
         same(min(answered) < 10, True)
 
 
+def yields_beside(at_once):
+    """How often a server's only worker yields its processor while two clients send so many requests at once, again and again;
+    None where that can't be traced."""
+    with Server("--connections", 2, "--workers", 1) as server, connected(server, 2) as clients:
+        tracer = traced(server, "-e", "trace=sched_yield")
+        if tracer is None:
+            return None
+        for client in clients * 50:
+            client.send(request("PING") * at_once)
+            same(client.file.read(len(PONG) * at_once), PONG * at_once)
+        for client in clients:
+            same(client.finish(), b"")
+        same(server.ends(), (0, totals(2, 0, 0, 0, 0, 0), b""))
+        tracer.communicate(timeout=SECONDS)
+    return read("trace").count(b"sched_yield()")
+
+
+@test
+def a_worker_yields_its_processor_beside_busy_clients_alone():
+    yields = [yields_beside(at_once) for at_once in (1, 4, 40)]
+    if None not in yields:
+        same((yields[:2], yields[2] > 0), ([0, 0], True))
+
+
 @test
 def idle_clients_take_no_processor_time():
     with Server("--workers", 2) as server, connected(server, 500) as idle:

@@ -218,8 +218,8 @@ fn main() -> io::Result<()> {
             thread::spawn(move || plan.drive(thread + 1, own, rounds, &start))
         })
         .collect();
-    let quiet = given.map(|_| Quiet::start(&plan)).transpose()?;
     start.wait();
+    let quiet = given.map(|_| Quiet::start(&plan)).transpose()?;
     let (began, before) = (Instant::now(), processor_time(pid)?);
     for client in clients {
         client.join().expect("a client ends")?;

@@ -3,7 +3,7 @@
 //! A worker goes from one ready connection to the next. The turn of each is bounded, so that none
 //! holds up the others: one read, [`MOST_REQUESTS`] requests, [`MOST_HELD`] bytes of replies and
 //! [`MOST_MILLIS`] milliseconds. What a peer does not take is held, and meanwhile nothing is read from it nor run
-//! for it.
+//! for it. Behind the turns of those that ask much it lets others have its processor ([`Yields`]).
 //!
 //! A reply may tell of a record that was appended to a file and is not settled there, as synced. It waits, and at the
 //! end of the round a [`Settle`] settles the records of all that wait.
@@ -20,6 +20,7 @@ mod slots;
 mod turn_limits;
 mod turn_lists;
 mod watch;
+mod yields;
 
 pub use buffers::Buffers;
 pub use connection_in_turns::{Next, Stage, Visit};
@@ -28,3 +29,4 @@ pub use many::Connections;
 pub use settle_records::{AtOnce, Settle};
 pub use turn_limits::{MOST_HELD, MOST_MILLIS, MOST_REQUESTS};
 pub use watch::{Ringer, Watched};
+pub use yields::Yields;

@@ -15,6 +15,7 @@ use crate::settle_records::{Settle, settle_to};
 use crate::slots::Slots;
 use crate::turn_lists::{begin, queue, queue_again};
 use crate::watch::{Ringer, Watch, Watched};
+use crate::yields::Yields;
 use resp_wire::{PolledDrain, PolledSource};
 use session_core::{Exec, takes_turns};
 use std::alloc::{AllocError, Allocator};
@@ -49,6 +50,7 @@ pub struct Connections<S: PolledSource, D: PolledDrain, A: Allocator> {
     /// When it was looked for such last.
     looked: Option<Instant>,
     waiting_reads: WaitingReads,
+    yields: Yields,
 }
 
 /// Seen as the connections at their places, and how many records are known to be settled.
@@ -83,6 +85,7 @@ impl<S: PolledSource + Watched + Drop, D: PolledDrain + Drop, A: Allocator + Cop
             ends_silent: false,
             looked: None,
             waiting_reads: WaitingReads::new(),
+            yields: Yields::new(),
         })
     }
 
@@ -241,6 +244,19 @@ impl<S: PolledSource + Watched + Drop, D: PolledDrain + Drop, A: Allocator + Cop
         self.woken = woken;
     }
 
+    /// Yields the processor behind the turn of a busy connection.
+    fn yield_behind<C: Clock>(&mut self, clock: &C, place: usize)
+        ensures same { self.new ≡ self.old }
+    {
+        let is_busy = match self.slots.get(place) {
+            Some(held) => held.is_busy(),
+            None => false,
+        };
+        if is_busy {
+            self.yields.yield_now(clock);
+        }
+    }
+
     /// A turn for each that can go on, or is busy. Before each of them the quiet ones come that have become ready
     /// meanwhile, so that a quiet client does not wait for all busy ones.
     fn serve_ready<R, C: Clock, E: Exec<R, A>>(
@@ -258,6 +274,7 @@ impl<S: PolledSource + Watched + Drop, D: PolledDrain + Drop, A: Allocator + Cop
             self.wait(Some(Duration::ZERO));
             self.serve_woken(rt, moment, exec);
             self.serve(rt, moment, *place, exec);
+            self.yield_behind(moment.clock, *place);
         }
         round.clear();
         self.round = round;

@@ -104,6 +104,8 @@ pub enum Pace {
     Runs,
     /// Each look is half a millisecond after the look before.
     Walks,
+    /// Each look is 50 microseconds after the look before.
+    Creeps,
     /// It can't be told.
     Fails,
 }
@@ -137,6 +139,7 @@ impl Clock for TestClock {
             Pace::Stands => Ok(Duration::ZERO),
             Pace::Runs => Ok(Duration::from_millis(self.count_look())),
             Pace::Walks => Ok(Duration::from_micros(self.count_look().saturating_mul(500))),
+            Pace::Creeps => Ok(Duration::from_micros(self.count_look().saturating_mul(50))),
             Pace::Fails => Err(IoError::from(ErrorKind::Unsupported)),
         }
     }

@@ -16,3 +16,5 @@ mod scripts;
 mod settling;
 #[cfg(test)]
 mod turns;
+#[cfg(test)]
+mod yields;

@@ -44,7 +44,7 @@ fn outcome(device: Device, number: u64, bytes: usize) -> Call {
 /// first, and is over a millisecond after the first look, or where it can't be told.
 fn most_of(pace: Pace) -> u32 {
     match pace {
-        Pace::Stands => MOST_REQUESTS,
+        Pace::Stands | Pace::Creeps => MOST_REQUESTS,
         Pace::Runs => 2,
         Pace::Walks => 9,
         Pace::Fails => 1,

@@ -17,4 +17,5 @@ loop-place-preserved g c =
     let allows = g.E.Exec.allows in
     let settled = g.E.Exec.settled in
     let woken = rw c.wait.ensures.same at c.serve_woken.ensures in
-    turns_trans allows settled _ _ _ _ _ _ (turns_trans allows settled _ _ _ _ _ _ c.loop-place.invariant woken) c.serve.ensures
+    let served = turns_trans allows settled _ _ _ _ _ _ (turns_trans allows settled _ _ _ _ _ _ c.loop-place.invariant woken) c.serve.ensures in
+    rw c.yield_behind.ensures.same served
