@@ -166,12 +166,16 @@ struct Quiet {
 }
 
 impl Quiet {
-    fn start(plan: &Plan) -> io::Result<Self> {
+    /// One that has been answered once, and goes on asking from the start on.
+    fn new(plan: &Plan, start: Arc<Barrier>) -> io::Result<Self> {
         let (mut connection, is_over) = (plan.connect()?, Arc::new(AtomicBool::new(false)));
         let ends = is_over.clone();
         let client = thread::spawn(move || {
             let (mut ping, mut waits) = (Vec::new(), Vec::new());
             request(&["PING"], &mut ping);
+            connection.stream.write_all(&ping)?;
+            connection.skip_reply()?;
+            start.wait();
             while !ends.load(Ordering::Relaxed) {
                 thread::sleep(REST);
                 let began = Instant::now();
@@ -209,7 +213,7 @@ fn main() -> io::Result<()> {
     plan.load()?;
     let given = words.get(7).map(|_| number(7));
     let threads = connections.min(given.unwrap_or(THREADS));
-    let start = Arc::new(Barrier::new(threads as usize + 1));
+    let start = Arc::new(Barrier::new(threads as usize + 1 + usize::from(given.is_some())));
     let rounds = requests / connections / plan.pipelined;
     let clients: Vec<_> = (0..threads)
         .map(|thread| {
@@ -218,8 +222,8 @@ fn main() -> io::Result<()> {
             thread::spawn(move || plan.drive(thread + 1, own, rounds, &start))
         })
         .collect();
+    let quiet = given.map(|_| Quiet::new(&plan, start.clone())).transpose()?;
     start.wait();
-    let quiet = given.map(|_| Quiet::start(&plan)).transpose()?;
     let (began, before) = (Instant::now(), processor_time(pid)?);
     for client in clients {
         client.join().expect("a client ends")?;
