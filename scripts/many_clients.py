@@ -241,28 +241,70 @@ def those_that_only_connect_cost_nothing():
 
 
 def answered_before(server, quiet, busy, data, reply):
-    """How many busy clients, whose requests are there first, are sent replies before a quiet one has its own."""
+    """How many busy clients, whose requests are there first, are sent replies before a quiet one has three of its own, one
+    behind the other."""
     server.process.send_signal(signal.SIGSTOP)
     for client in busy:
         client.send(data)
     quiet.send(request("PING"))
     server.process.send_signal(signal.SIGCONT)
-    same(quiet.reply(), PONG)
+    same([quiet.reply(), quiet.ask("PING"), quiet.ask("PING")], [PONG] * 3)
     answered = len(select.select([client.socket for client in busy], [], [], 0)[0])
     same([client.file.read(len(reply)) == reply for client in busy], [True] * len(busy))
     return answered
 
 
+def answered_before_new(server, busy, data, reply):
+    """How many busy clients are sent replies before one that was just accepted has its own."""
+    with connected(server, 1) as (new,):
+        time.sleep(0.05)
+        return answered_before(server, new, busy, data, reply)
+
+
 @test
 def a_quiet_client_does_not_wait_for_each_busy_one():
     members = [b"m%d" % number for number in range(100, 200)]
-    listing = flat([b"$4\r\n%s\r\n" % member for member in members])
-    with Server("--workers", 1) as server, connected(server, 41) as clients:
-        quiet, *busy = clients
+    reply = flat([b"$4\r\n%s\r\n" % member for member in members]) * 40
+    data = request("ZRANGEBYSCORE", "k", 1, 1) * 40
+    with Server("--workers", 1) as server, connected(server, 1) as (quiet,):
         same(quiet.ask("ZADD", "k", *(word for member in members for word in (1, member))), b":100\r\n")
-        # the first time nobody is known to be busy
-        answered = [answered_before(server, quiet, busy, request("ZRANGEBYSCORE", "k", 1, 1) * 40, listing * 40) for _ in range(6)]
-        same(min(answered) < 10, True)
+        with connected(server, 40) as busy:
+            same(min(answered_before(server, quiet, busy, data, reply) for _ in range(6)) < 10, True)
+            # one that was just accepted is no busy one
+            same(min(answered_before_new(server, busy, data, reply) for _ in range(6)) < 10, True)
+        # of the others nobody asked before: they were just accepted, or it was seen already that nothing had come of them
+        for seconds in (0, 0.05):
+            newcomers = []
+            for _ in range(6):
+                with connected(server, 40) as busy:
+                    time.sleep(seconds)
+                    newcomers.append(answered_before(server, quiet, busy, data, reply))
+            same((seconds, min(newcomers) < 10), (seconds, True))
+
+
+def most_served_behind_a_look(rounds):
+    """How many of eight clients, which send 40 requests at once so many times, a server's only worker serves at most before it
+    looks again who else is ready; None where that can't be traced."""
+    with Server("--connections", 8, "--workers", 1) as server, connected(server, 8) as clients:
+        tracer = traced(server, "-e", "trace=epoll_wait,sendto")
+        if tracer is None:
+            return None
+        for _ in range(rounds):
+            server.process.send_signal(signal.SIGSTOP)
+            for client in clients:
+                client.send(request("PING") * 40)
+            server.process.send_signal(signal.SIGCONT)
+            same([client.file.read(len(PONG) * 40) for client in clients], [PONG * 40] * 8)
+        for client in clients:
+            same(client.finish(), b"")
+        same(server.ends(), (0, totals(8, 0, 0, 0, 0, 0), b""))
+        tracer.communicate(timeout=SECONDS)
+    return max(text.count(b"sendto(") for text in read("trace").split(b"epoll_wait("))
+
+
+@test
+def a_worker_looks_who_is_ready_before_each_new_or_busy_client():
+    same([most_served_behind_a_look(rounds) in (None, 1) for rounds in (1, 10)], [True, True])
 
 
 def yields_beside(at_once):

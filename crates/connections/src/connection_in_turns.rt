@@ -8,7 +8,7 @@ ghost use Rattle.connections.specs.ConnectionTurnState.{VisitIsSound, IsTaken, G
 
 use crate::buffers::Buffers;
 use crate::replies::Replies;
-use crate::turn_limits::{MOST_HELD, MOST_REQUESTS, is_followed_by_look, is_over};
+use crate::turn_limits::{MOST_HELD, MOST_REQUESTS, TurnTime};
 use crate::watch::Watched;
 use resp_wire::{ByteDrain, ByteSource, MAX_READS, PolledDrain, PolledSource};
 use session_core::{Ended, Exec, Session, SessionFault, takes_turns};
@@ -59,6 +59,8 @@ pub struct Visit<S, D, A: Allocator> {
     is_closed: bool,
     /// Bytes came or went since that was last asked.
     has_moved: bool,
+    /// Its requests may be long, as [`TurnTime`] says.
+    may_be_long: bool,
     ghost sound: { VisitIsSound stage session.decoder session.progress pieces },
 }
 
@@ -82,6 +84,7 @@ impl<S: PolledSource, D: PolledDrain, A: Allocator + Copy> Visit<S, D, A> {
             is_drained: false,
             is_closed: false,
             has_moved: false,
+            may_be_long: true,
         }
     }
 
@@ -193,7 +196,7 @@ impl<S: PolledSource, D: PolledDrain, A: Allocator + Copy> Visit<S, D, A> {
     }
 
     /// Runs requests, as many as a turn may have.
-    fn run<R, C: Clock, E: Exec<R, A>>(&mut self, rt: &R, clock: &C, exec: &mut E)
+    fn run<R, C: Clock, E: Exec<R, A>>(&mut self, rt: &R, time: &mut TurnTime<'_, C>, exec: &mut E)
         requires settled { E.settled exec.old }
         requires runs { self.old.stage ≡ Runs }
         ensures settled { E.settled exec.new }
@@ -203,7 +206,6 @@ impl<S: PolledSource, D: PolledDrain, A: Allocator + Copy> Visit<S, D, A> {
             (⟦<Replies<D, A> as ByteDrain>⟧.told self.new.replies) self.new.session.decoder self.new.session.progress) exec.new }
     {
         takes_turns::<R, A, E>();
-        let mut begun = None;
         for count in 0..MOST_REQUESTS {
             match self.session.turn(rt, 1, &mut self.replies, exec) {
                 Err(end) => {
@@ -217,8 +219,7 @@ impl<S: PolledSource, D: PolledDrain, A: Allocator + Copy> Visit<S, D, A> {
                     }
                 }
             }
-            let looks = is_followed_by_look(count);
-            if self.replies.len() >= MOST_HELD || (looks && is_over(clock, &mut begun)) {
+            if self.replies.len() >= MOST_HELD || time.is_over(count) {
                 return;
             }
         }
@@ -245,7 +246,9 @@ impl<S: PolledSource, D: PolledDrain, A: Allocator + Copy> Visit<S, D, A> {
             (⟦<Replies<D, A> as ByteDrain>⟧.told self.new.replies) self.new.session.decoder self.new.session.progress) exec.new }
     {
         if self.stage == Stage::Runs {
-            self.run(rt, clock, exec);
+            let mut time = TurnTime::new(clock, self.may_be_long);
+            self.run(rt, &mut time, exec);
+            self.may_be_long = time.next_may_be_long();
         }
     }
 

@@ -8,15 +8,13 @@ ghost use Rattle.connections.specs.ConnectionTurnState.{GoesOn, WaitsForTold, ne
 
 use crate::buffers::Buffers;
 use crate::connection_in_turns::{Next, Visit};
+use crate::traffic::Traffic;
 use crate::watch::Watched;
 use resp_wire::{PolledDrain, PolledSource};
 use session_core::Exec;
 use std::alloc::Allocator;
 use std::marker::Model;
 use std::time::{Clock, Duration, Instant};
-
-/// A connection of which more requests were run in a turn is busy: quiet ones come before it.
-const QUIET_REQUESTS: u64 = 4;
 
 /// When connections have their turns.
 #[derive(Drop)]
@@ -38,8 +36,7 @@ pub struct Held<S: PolledSource, D: PolledDrain, A: Allocator> {
     moved: Option<Instant>,
     /// In its last turn no byte came or went.
     is_still: bool,
-    /// In its last turn more than [`QUIET_REQUESTS`] were run.
-    is_busy: bool,
+    traffic: Traffic,
 }
 
 /// Seen as its visit shows itself, with what its replies wait for and what left.
@@ -75,7 +72,7 @@ impl<S: PolledSource, D: PolledDrain, A: Allocator + Copy> Held<S, D, A> {
             silence,
             moved,
             is_still: true,
-            is_busy: false,
+            traffic: Traffic::Unknown,
         }
     }
 
@@ -106,9 +103,9 @@ impl<S: PolledSource, D: PolledDrain, A: Allocator + Copy> Held<S, D, A> {
         }
     }
 
-    /// Whether many requests were run in its last turn.
-    pub fn is_busy(&self) -> bool {
-        self.is_busy
+    /// What is known of its traffic.
+    pub fn traffic(&self) -> Traffic {
+        self.traffic
     }
 
     /// Whether no byte came or went in its last turn.
@@ -161,7 +158,8 @@ impl<S: PolledSource, D: PolledDrain, A: Allocator + Copy> Held<S, D, A> {
     {
         let before = self.visit.requests();
         let next = self.visit.turn(rt, moment.clock, buffers, exec, settled);
-        self.is_busy = self.visit.requests().wrapping_sub(before) > QUIET_REQUESTS;
+        let ran = self.visit.requests().wrapping_sub(before);
+        self.traffic = self.traffic.behind(ran);
         self.note_moved(moment.now);
         next
     }

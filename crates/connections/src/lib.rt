@@ -2,7 +2,7 @@
 //!
 //! A worker goes from one ready connection to the next. The turn of each is bounded, so that none
 //! holds up the others: one read, [`MOST_REQUESTS`] requests, [`MOST_HELD`] bytes of replies and
-//! [`MOST_MILLIS`] milliseconds. What a peer does not take is held, and meanwhile nothing is read from it nor run
+//! [`MOST_MICROS`] microseconds. What a peer does not take is held, and meanwhile nothing is read from it nor run
 //! for it. Behind the turns of those that ask much it lets others have its processor ([`Yields`]).
 //!
 //! A reply may tell of a record that was appended to a file and is not settled there, as synced. It waits, and at the
@@ -17,6 +17,7 @@ mod many;
 mod replies;
 mod settle_records;
 mod slots;
+mod traffic;
 mod turn_limits;
 mod turn_lists;
 mod watch;
@@ -27,6 +28,6 @@ pub use connection_in_turns::{Next, Stage, Visit};
 pub use keep_alive_and_descriptors::{descriptor_limit, keep_alive};
 pub use many::Connections;
 pub use settle_records::{AtOnce, Settle};
-pub use turn_limits::{MOST_HELD, MOST_MILLIS, MOST_REQUESTS};
+pub use turn_limits::{MOST_HELD, MOST_MICROS, MOST_REQUESTS};
 pub use watch::{Ringer, Watched};
 pub use yields::Yields;

@@ -1,23 +1,24 @@
 //! All connections of one worker.
 
-ghost use Rattle.std.specs.Prelude.{◌≡◌, ◌<◌, length, IfOk};
+ghost use Rattle.std.specs.Prelude.{◌≡◌, IfOk};
 ghost use Rattle.session_core.specs.Interleaved.{StateMoves};
 ghost use Rattle.connections.specs.Places.{IsGrown};
-ghost use Rattle.connections.specs.HeldConnections.{AllGoOn, AllMayLeave, AllWait, HaveLeft, IsAdded, RisesBy, TurnsAreTaken, no_connections};
+ghost use Rattle.connections.specs.HeldConnections.{AllGoOn, AllMayLeave, AllWait, HaveLeft, IsAdded, RisesBy, no_connections};
 ghost use Rattle.connections.specs.ConnectionTurnState.{new_state};
 
 mod blocking_reads_when_alone;
+mod serving;
 
 use crate::buffers::Buffers;
 use crate::held_connection::{Held, Moment};
 use crate::many::blocking_reads_when_alone::WaitingReads;
 use crate::settle_records::{Settle, settle_to};
 use crate::slots::Slots;
-use crate::turn_lists::{begin, queue, queue_again};
+use crate::turn_lists::TurnLists;
 use crate::watch::{Ringer, Watch, Watched};
 use crate::yields::Yields;
 use resp_wire::{PolledDrain, PolledSource};
-use session_core::{Exec, takes_turns};
+use session_core::Exec;
 use std::alloc::{AllocError, Allocator};
 use std::marker::Model;
 use std::net::Net;
@@ -33,15 +34,7 @@ pub struct Connections<S: PolledSource, D: PolledDrain, A: Allocator> {
     alloc: A,
     watch: Watch<A>,
     slots: Slots<Box<Held<S, D, A>, A>, A>,
-    /// The places of quiet ones that waited and have become ready, each once.
-    woken: Vec<usize, A>,
-    /// The places of those that can go on behind their last turn, and of busy ones that waited and have become ready,
-    /// each once.
-    ready: Vec<usize, A>,
-    /// Those whose turn it is.
-    round: Vec<usize, A>,
-    /// The places of those whose replies wait until their records are settled, each once.
-    unsettled: Vec<usize, A>,
+    lists: TurnLists<A>,
     /// So many records are known to be settled.
     settled: u64,
     buffers: Buffers<A>,
@@ -76,10 +69,7 @@ impl<S: PolledSource + Watched + Drop, D: PolledDrain + Drop, A: Allocator + Cop
             alloc,
             watch: Watch::new(net, alloc)?,
             slots: Slots::new(alloc),
-            woken: Vec::new(alloc),
-            ready: Vec::new(alloc),
-            round: Vec::new(alloc),
-            unsettled: Vec::new(alloc),
+            lists: TurnLists::new(alloc),
             settled: 0,
             buffers: Buffers::new(alloc)?,
             ends_silent: false,
@@ -105,11 +95,7 @@ impl<S: PolledSource + Watched + Drop, D: PolledDrain + Drop, A: Allocator + Cop
         ensures settled { self.new.settled ≡ self.old.settled }
     {
         let place = self.slots.make_room()?;
-        let places = self.slots.len();
-        self.woken.reserve(places)?;
-        self.ready.reserve(places)?;
-        self.round.reserve(places)?;
-        self.unsettled.reserve(places)?;
+        self.lists.reserve(self.slots.len())?;
         Ok(place)
     }
 
@@ -139,7 +125,7 @@ impl<S: PolledSource + Watched + Drop, D: PolledDrain + Drop, A: Allocator + Cop
             moved,
         );
         let mut held = Box::new(self.alloc, visit)?;
-        let Some(is_queued) = begin(&self.watch, &mut self.ready, descriptor, place) else {
+        let Some(is_queued) = self.lists.begin(&self.watch, descriptor, place) else {
             return Ok(());
         };
         held.set_queued(is_queued);
@@ -167,15 +153,15 @@ impl<S: PolledSource + Watched + Drop, D: PolledDrain + Drop, A: Allocator + Cop
             return;
         };
         held.note(is_closed);
-        let (is_busy, is_queued) = (held.is_busy(), held.is_queued());
-        let is_queued = queue(&mut self.woken, &mut self.ready, place, is_busy, is_queued);
+        let (traffic, is_queued) = (held.traffic(), held.is_queued());
+        let is_queued = self.lists.queue(place, traffic, is_queued);
         held.set_queued(is_queued);
         self.slots.put_back(place, held);
     }
 
     /// For how long to wait for a connection that becomes ready: not at all where one can go on.
     fn patience(&self) -> Option<Duration> {
-        if !self.ready.is_empty() {
+        if self.lists.can_go_on() {
             Some(Duration::ZERO)
         } else if self.ends_silent {
             Some(Duration::from_secs(LOOKS_AFTER))
@@ -197,89 +183,6 @@ impl<S: PolledSource + Watched + Drop, D: PolledDrain + Drop, A: Allocator + Cop
         }
     }
 
-    /// One connection's turn.
-    fn serve<R, C: Clock, E: Exec<R, A>>(
-        &mut self,
-        rt: &R,
-        moment: &Moment<'_, C>,
-        place: usize,
-        exec: &mut E,
-    )
-        requires settled { E.settled exec.old }
-        ensures { TurnsAreTaken E.allows E.settled self.old exec.old self.new exec.new }
-    {
-        takes_turns::<R, A, E>();
-        if place >= self.slots.len() {
-            return;
-        }
-        let Some(mut held) = self.slots.take(place) else {
-            return;
-        };
-        self.waiting_reads.last = place;
-        let next = held.turn(rt, moment, &mut self.buffers, exec, self.settled);
-        match queue_again(&mut self.ready, &mut self.unsettled, place, next) {
-            Some(is_queued) => {
-                held.set_queued(is_queued);
-                self.slots.put_back(place, held);
-            }
-            None => self.slots.let_go(place),
-        }
-    }
-
-    /// A turn for each quiet one that waited and has become ready.
-    fn serve_woken<R, C: Clock, E: Exec<R, A>>(
-        &mut self,
-        rt: &R,
-        moment: &Moment<'_, C>,
-        exec: &mut E,
-    )
-        requires settled { E.settled exec.old }
-        ensures { TurnsAreTaken E.allows E.settled self.old exec.old self.new exec.new }
-    {
-        let mut woken = mem::replace(&mut self.woken, Vec::new(self.alloc));
-        for place in woken.iter() {
-            self.serve(rt, moment, *place, exec);
-        }
-        woken.clear();
-        self.woken = woken;
-    }
-
-    /// Yields the processor behind the turn of a busy connection.
-    fn yield_behind<C: Clock>(&mut self, clock: &C, place: usize)
-        ensures same { self.new ≡ self.old }
-    {
-        let is_busy = match self.slots.get(place) {
-            Some(held) => held.is_busy(),
-            None => false,
-        };
-        if is_busy {
-            self.yields.yield_now(clock);
-        }
-    }
-
-    /// A turn for each that can go on, or is busy. Before each of them the quiet ones come that have become ready
-    /// meanwhile, so that a quiet client does not wait for all busy ones.
-    fn serve_ready<R, C: Clock, E: Exec<R, A>>(
-        &mut self,
-        rt: &R,
-        moment: &Moment<'_, C>,
-        exec: &mut E,
-    )
-        requires settled { E.settled exec.old }
-        ensures { TurnsAreTaken E.allows E.settled self.old exec.old self.new exec.new }
-    {
-        let mut round = mem::replace(&mut self.round, Vec::new(self.alloc));
-        mem::swap(&mut round, &mut self.ready);
-        for place in round.iter() {
-            self.wait(Some(Duration::ZERO));
-            self.serve_woken(rt, moment, exec);
-            self.serve(rt, moment, *place, exec);
-            self.yield_behind(moment.clock, *place);
-        }
-        round.clear();
-        self.round = round;
-    }
-
     /// Sends the replies of one that waited for its records, where these are settled or can be; else it leaves.
     fn let_go<R, T: Settle<R>>(&mut self, rt: &R, now: Option<Instant>, place: usize, settler: &T)
         ensures leave { AllMayLeave self.new.settled self.old.held self.new.held }
@@ -293,7 +196,7 @@ impl<S: PolledSource + Watched + Drop, D: PolledDrain + Drop, A: Allocator + Cop
         };
         settle_to(rt, settler, &mut self.settled, held.awaited());
         let next = held.let_go(now, &mut self.buffers, self.settled);
-        match queue_again(&mut self.ready, &mut self.unsettled, place, next) {
+        match self.lists.queue_again(place, next) {
             Some(is_queued) => {
                 held.set_queued(is_queued);
                 self.slots.put_back(place, held);
@@ -308,12 +211,12 @@ impl<S: PolledSource + Watched + Drop, D: PolledDrain + Drop, A: Allocator + Cop
         ensures leave { AllMayLeave self.new.settled self.old.held self.new.held }
         ensures settled_by { RisesBy (T.settles settler.now) self.old.settled self.new.settled }
     {
-        let mut unsettled = mem::replace(&mut self.unsettled, Vec::new(self.alloc));
+        let mut unsettled = mem::replace(&mut self.lists.unsettled, Vec::new(self.alloc));
         for place in unsettled.iter() {
             self.let_go(rt, now, *place, settler);
         }
         unsettled.clear();
-        self.unsettled = unsettled;
+        self.lists.unsettled = unsettled;
     }
 
     /// Ends the connection at a place.
@@ -391,6 +294,7 @@ impl<S: PolledSource + Watched + Drop, D: PolledDrain + Drop, A: Allocator + Cop
         let moment = Moment { clock, now };
         self.serve_by_read(rt, &moment, exec);
         self.serve_woken(rt, &moment, exec);
+        self.serve_newcomers(rt, &moment, exec);
         self.serve_ready(rt, &moment, exec);
         self.let_go_settled(rt, now, settler);
         self.look_for_silent(clock);

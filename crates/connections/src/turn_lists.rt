@@ -1,64 +1,95 @@
 //! The lists in which the connections of a worker wait for their turns.
 
 use crate::connection_in_turns::Next;
+use crate::traffic::Traffic;
 use crate::watch::Watch;
-use std::alloc::Allocator;
+use std::alloc::{AllocError, Allocator};
+use std::collections::VecDeque;
 use std::os::fd::RawFd;
 
-/// Watches a connection that begins; one that can't be watched is always ready. None where there is no
-/// memory for that; else whether it is among those that are ready.
-pub fn begin<A: Allocator + Copy>(
-    watch: &Watch<A>,
-    ready: &mut Vec<usize, A>,
-    descriptor: Option<RawFd>,
-    place: usize,
-) -> Option<bool> {
-    match descriptor {
-        Some(descriptor) => {
-            watch.add(descriptor, place).ok()?;
-            Some(false)
-        }
-        None => {
-            ready.push(place).ok()?;
-            Some(true)
-        }
-    }
+/// The places of connections that wait for a turn or for their records, each once in one of these.
+#[derive(Drop)]
+pub struct TurnLists<A: Allocator> {
+    /// Quiet ones that waited and have become ready.
+    pub woken: VecDeque<usize, A>,
+    /// Those of which no request was run yet and that have become ready.
+    pub newcomers: VecDeque<usize, A>,
+    /// Those that can go on behind their last turn, and busy ones that waited and have become ready.
+    pub ready: VecDeque<usize, A>,
+    /// Those whose replies wait until their records are settled.
+    pub unsettled: Vec<usize, A>,
 }
 
-/// Puts the place of a connection that has become ready behind those of the quiet or of the busy ones, where it is not
-/// queued. Whether it is now.
-pub fn queue<A: Allocator>(
-    quiet: &mut Vec<usize, A>,
-    busy: &mut Vec<usize, A>,
-    place: usize,
-    is_busy: bool,
-    is_queued: bool,
-) -> bool {
-    if is_queued {
-        return true;
-    }
-    let list = if is_busy { busy } else { quiet };
-    list.push(place).is_ok()
-}
-
-/// What becomes of a connection after its turn: whether it is among those that are ready again, or that wait for
-/// records. None: it leaves.
-pub fn queue_again<A: Allocator>(
-    ready: &mut Vec<usize, A>,
-    unsettled: &mut Vec<usize, A>,
-    place: usize,
-    next: Next,
-) -> Option<bool> {
-    match next {
-        Next::Ends => None,
-        Next::Waits => Some(false),
-        Next::Again => {
-            ready.push(place).ok()?;
-            Some(true)
+impl<A: Allocator + Copy> TurnLists<A> {
+    pub fn new(alloc: A) -> Self {
+        TurnLists {
+            woken: VecDeque::new(alloc),
+            newcomers: VecDeque::new(alloc),
+            ready: VecDeque::new(alloc),
+            unsettled: Vec::new(alloc),
         }
-        Next::Settles => {
-            unsettled.push(place).ok()?;
-            Some(true)
+    }
+
+    /// Room for so many places in each.
+    pub fn reserve(&mut self, places: usize) -> Result<(), AllocError> {
+        self.woken.reserve(places)?;
+        self.newcomers.reserve(places)?;
+        self.ready.reserve(places)?;
+        self.unsettled.reserve(places)
+    }
+
+    /// Whether one that is known to be ready waits for its turn.
+    pub fn can_go_on(&self) -> bool {
+        !self.newcomers.is_empty() || !self.ready.is_empty()
+    }
+
+    /// Watches a connection that begins; one that can't be watched is always ready. None where there is no
+    /// memory for that; else whether it is in a list.
+    pub fn begin(
+        &mut self,
+        watch: &Watch<A>,
+        descriptor: Option<RawFd>,
+        place: usize,
+    ) -> Option<bool> {
+        match descriptor {
+            Some(descriptor) => {
+                watch.add(descriptor, place).ok()?;
+                Some(false)
+            }
+            None => {
+                self.ready.push_back(place).ok()?;
+                Some(true)
+            }
+        }
+    }
+
+    /// Puts the place of a connection that has become ready behind others of such traffic, where it is in no list. Whether
+    /// it is in one now.
+    pub fn queue(&mut self, place: usize, traffic: Traffic, is_queued: bool) -> bool {
+        if is_queued {
+            return true;
+        }
+        let list = match traffic {
+            Traffic::Unknown => &mut self.newcomers,
+            Traffic::Quiet => &mut self.woken,
+            Traffic::Busy => &mut self.ready,
+        };
+        list.push_back(place).is_ok()
+    }
+
+    /// What becomes of a connection after its turn: whether it is in a list again. None: it leaves.
+    pub fn queue_again(&mut self, place: usize, next: Next) -> Option<bool> {
+        match next {
+            Next::Ends => None,
+            Next::Waits => Some(false),
+            Next::Again => {
+                self.ready.push_back(place).ok()?;
+                Some(true)
+            }
+            Next::Settles => {
+                self.unsettled.push(place).ok()?;
+                Some(true)
+            }
         }
     }
 }

@@ -102,10 +102,16 @@ pub enum Pace {
     Stands,
     /// Each look is a millisecond after the look before.
     Runs,
-    /// Each look is half a millisecond after the look before.
+    /// Each look is 499 microseconds after the look before.
     Walks,
+    /// Each look is 125 microseconds after the look before.
+    Trots,
     /// Each look is 50 microseconds after the look before.
+    Ambles,
+    /// Each look is 49 microseconds after the look before.
     Creeps,
+    /// The look of this number, counted from 1, is 50 microseconds after the look before; it stands still else.
+    Trips(u64),
     /// It can't be told.
     Fails,
 }
@@ -125,23 +131,27 @@ impl TestClock {
         }
     }
 
-    /// The number of this look.
-    fn count_look(&self) -> u64 {
-        let looks = self.looks.get().saturating_add(1);
-        self.looks.set(looks);
-        looks
+    /// How often it was looked at.
+    pub fn looks(&self) -> u64 {
+        self.looks.get()
     }
 }
 
 impl Clock for TestClock {
     fn monotonic(&self) -> IoResult<Duration> {
-        match self.pace {
-            Pace::Stands => Ok(Duration::ZERO),
-            Pace::Runs => Ok(Duration::from_millis(self.count_look())),
-            Pace::Walks => Ok(Duration::from_micros(self.count_look().saturating_mul(500))),
-            Pace::Creeps => Ok(Duration::from_micros(self.count_look().saturating_mul(50))),
-            Pace::Fails => Err(IoError::from(ErrorKind::Unsupported)),
-        }
+        let looks = self.looks.get().saturating_add(1);
+        self.looks.set(looks);
+        let micros = match self.pace {
+            Pace::Stands => 0,
+            Pace::Runs => looks.saturating_mul(1_000),
+            Pace::Walks => looks.saturating_mul(499),
+            Pace::Trots => looks.saturating_mul(125),
+            Pace::Ambles => looks.saturating_mul(50),
+            Pace::Creeps => looks.saturating_mul(49),
+            Pace::Trips(number) => if looks < number { 0 } else { 50 },
+            Pace::Fails => return Err(IoError::from(ErrorKind::Unsupported)),
+        };
+        Ok(Duration::from_micros(micros))
     }
 
     fn since_1970(&self) -> IoResult<Duration> {

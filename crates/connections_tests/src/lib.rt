@@ -5,6 +5,8 @@
 #[cfg(test)]
 mod devices;
 #[cfg(test)]
+mod looks;
+#[cfg(test)]
 mod model;
 #[cfg(test)]
 mod orders;

@@ -40,14 +40,32 @@ fn outcome(device: Device, number: u64, bytes: usize) -> Call {
     }
 }
 
-/// How many requests a turn may run. The time is looked at behind the first two and behind each eighth after the
-/// first, and is over a millisecond after the first look, or where it can't be told.
-fn most_of(pace: Pace) -> u32 {
+/// How many requests a turn may run: until half a millisecond is over, by looks behind each where they may be long, and
+/// else behind the second and each eighth after the first. From a look that comes 50 microseconds behind the one before
+/// on they are long. Where the time can't be told one is run.
+fn most_of(pace: Pace, may_be_long: bool) -> u32 {
+    match (pace, may_be_long) {
+        (Pace::Stands | Pace::Trips(_), _) => MOST_REQUESTS,
+        (Pace::Creeps, true) => 11,
+        (Pace::Creeps, false) => 81,
+        (Pace::Ambles, true) => 10,
+        (Pace::Ambles, false) => 11,
+        (Pace::Trots, true) => 4,
+        (Pace::Trots, false) => 5,
+        (Pace::Walks, true) => 2,
+        (Pace::Walks, false) => 3,
+        (Pace::Runs, true) => 1,
+        (Pace::Runs, false) => 2,
+        (Pace::Fails, _) => 1,
+    }
+}
+
+/// Whether requests between two looks are long; None where that can't be told of all.
+fn are_long(pace: Pace) -> Option<bool> {
     match pace {
-        Pace::Stands | Pace::Creeps => MOST_REQUESTS,
-        Pace::Runs => 2,
-        Pace::Walks => 9,
-        Pace::Fails => 1,
+        Pace::Stands | Pace::Creeps => Some(false),
+        Pace::Ambles | Pace::Trots | Pace::Walks | Pace::Runs => Some(true),
+        Pace::Trips(_) | Pace::Fails => None,
     }
 }
 
@@ -67,6 +85,8 @@ struct Modelled<'c> {
     run: usize,
     /// Some that were read may be left to run.
     is_running: bool,
+    /// They may be long.
+    may_be_long: bool,
     has_failed: bool,
     has_ended: bool,
 }
@@ -83,6 +103,7 @@ impl<'c> Modelled<'c> {
             reads: 0,
             run: 0,
             is_running: false,
+            may_be_long: true,
             has_failed: false,
             has_ended: false,
         }
@@ -132,26 +153,35 @@ impl<'c> Modelled<'c> {
         }
     }
 
-    /// Runs requests that were read, so many at most.
+    /// Runs requests that were read, so many at most. How many were run.
     fn run_due<R, E: Exec<R, Global>>(
         &mut self,
         rt: &R,
         alloc: Global,
         exec: &mut E,
         most: u32,
-    ) -> Result<(), Fail>
+    ) -> Result<u32, Fail>
         requires { E.settled exec.old }
         ensures { E.settled exec.new }
     {
-        for _ in 0..most {
+        for ran in 0..most {
             let Some(text) = self.script.due(self.run, self.read) else {
                 self.is_running = false;
-                return Ok(());
+                return Ok(ran);
             };
             ask(rt, alloc, exec, text, &mut self.replies)?;
             self.run = self.run.saturating_add(1);
         }
-        Ok(())
+        Ok(most)
+    }
+
+    /// Notes whether requests are long, where so many were run in a turn: where they may be, it is seen behind the first,
+    /// and else behind the second.
+    fn note_time(&mut self, pace: Pace, ran: u32) {
+        let looks_from = if self.may_be_long { 1 } else { 2 };
+        if let (Some(are_long), true) = (are_long(pace), ran >= looks_from) {
+            self.may_be_long = are_long;
+        }
     }
 
     /// A turn: what waits is sent, then a piece is read or what is left of the last one is run, and the
@@ -161,7 +191,7 @@ impl<'c> Modelled<'c> {
         rt: &R,
         alloc: Global,
         exec: &mut E,
-        most: u32,
+        pace: Pace,
     ) -> Result<(), Fail>
         requires { E.settled exec.old }
         ensures { E.settled exec.new }
@@ -171,7 +201,9 @@ impl<'c> Modelled<'c> {
         }
         self.read_due();
         if !self.has_ended {
-            self.run_due(rt, alloc, exec, most)?;
+            let most = most_of(pace, self.may_be_long);
+            let ran = self.run_due(rt, alloc, exec, most)?;
+            self.note_time(pace, ran);
             self.send();
         }
         Ok(())
@@ -214,7 +246,6 @@ fn play<R, E: Exec<R, Global>>(
 ) -> Result<Vec<usize>, Fail>
     requires { E.settled exec.old }
 {
-    let most = most_of(case.pace);
     let mut order = case.order;
     let mut ends = vec![in alloc; 0; clients.len()]?;
     for turn in 0..MOST_TURNS {
@@ -224,7 +255,7 @@ fn play<R, E: Exec<R, Global>>(
         let place = order.next();
         let client = clients.get_mut(place).ok_or("no client")?;
         if !client.has_ended {
-            client.turn(rt, alloc, exec, most)?;
+            client.turn(rt, alloc, exec, case.pace)?;
             *ends.get_mut(place).ok_or("no client")? = turn;
         }
     }

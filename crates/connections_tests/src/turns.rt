@@ -249,13 +249,23 @@ const FEW_ORDERS: [Order; 3] = [
     Order::Seed(1),
 ];
 
-// Where the time stands still, a turn ends with its last request or with the 128th. Most of the other turns end
-// before what was read is answered.
+/// How the time goes in turns that end before what was read is answered.
+const PACES: [Pace; 7] = [
+    Pace::Stands,
+    Pace::Creeps,
+    Pace::Ambles,
+    Pace::Trots,
+    Pace::Walks,
+    Pace::Runs,
+    Pace::Fails,
+];
+
+// Where the time stands still or creeps, a turn ends with its last request or with the 128th.
 #[test]
 fn what_a_turn_leaves_is_answered_in_the_next(rt: HostRuntime) -> Result<(), Fail> {
     let scripts = scripts_of(rt.alloc(), MIXED, 40)?;
     for order in FEW_ORDERS {
-        for pace in [Pace::Stands, Pace::Runs, Pace::Walks, Pace::Fails] {
+        for pace in PACES {
             for devices in [client(16_384, 65_536, false), client(1000, 100, true)] {
                 let case = Case {
                     scripts: &scripts,

@@ -45,7 +45,7 @@ impl<S: PolledSource + Watched + Drop, D: PolledDrain + Drop, A: Allocator + Cop
 > {
     /// Whether it is to be waited in a read of the only connection, which has no requests left to run.
     fn reads_wait(&self) -> bool {
-        self.waiting_reads.is_on && self.ready.is_empty()
+        self.waiting_reads.is_on && !self.lists.can_go_on()
     }
 
     /// Has reads of the connection that had the last turn wait for bytes, or no longer, as [`Watched::set_waiting`] says.

@@ -1,16 +1,14 @@
-use Rattle.std.proofs.Common.{subst, box_value}
+use Rattle.std.proofs.Common.{subst}
 use Rattle.connections.specs.HeldConnections.{HeldConnections, TurnsAreTaken}
-use Rattle.connections.proofs.PlaceLemmas.{all_shown}
 use Rattle.connections.proofs.HeldLemmas.{turns_refl, turns_trans}
 use Rattle.connections.proofs.many.Connections.serve_woken.Goals as goal
 
-pub loop-place-init : goal.loop-place-init
-loop-place-init g c =
-    let allows = g.E.Exec.allows in
-    let settled = g.E.Exec.settled in
-    let here = c.args.exec.now in
-    let held : HeldConnections = record { held = all_shown box_value c.self.inside.slots; settled = c.self.inside.settled } in
-    subst (λ (before : HeldConnections). TurnsAreTaken allows settled before here held here) c.self.view_is (turns_refl allows settled held here c.requires.settled)
+pub loop-init : goal.loop-init
+loop-init g c = turns_refl g.E.Exec.allows g.E.Exec.settled _ _ c.requires.settled
 
-pub loop-place-preserved : goal.loop-place-preserved
-loop-place-preserved g c = turns_trans g.E.Exec.allows g.E.Exec.settled _ _ _ _ _ _ c.loop-place.invariant c.serve.ensures
+pub loop-preserved : goal.loop-preserved
+loop-preserved g c =
+    let allows = g.E.Exec.allows in
+    let known = g.E.Exec.settled in
+    let served = subst (λ (before : HeldConnections). TurnsAreTaken allows known before c.loop.exec c.serve.new.self c.serve.new.exec) c.self-in-loop.view_is c.serve.ensures in
+    turns_trans allows known _ _ _ _ _ _ c.loop.invariant served

@@ -1,0 +1,81 @@
+//! How often the clock is looked at.
+
+use crate::devices::{Device, Pace, Sender, Taker, TestClock};
+use crate::model::MOST_TURNS;
+use crate::scripts::Script;
+use connections::{Buffers, Next, Visit};
+use resp_wire::{PolledDrain, PolledSource, Reading, Writing};
+use session_core::Exec;
+use std::alloc::Global;
+use std::hash::RandomState;
+use std::test::*;
+use zset_core::OneOwner;
+
+/// Gives a connection turns until it has ended.
+fn serve<R, S: PolledSource, D: PolledDrain, E: Exec<R, Global>>(
+    rt: &R,
+    clock: &TestClock,
+    visit: &mut Visit<S, D, Global>,
+    buffers: &mut Buffers<Global>,
+    exec: &mut E,
+) -> Result<(), Fail>
+    requires { E.settled exec.old }
+{
+    for _ in 0..MOST_TURNS {
+        if visit.turn(rt, clock, buffers, exec, u64::MAX) == Next::Ends {
+            return Ok(());
+        }
+    }
+    Err("no end")?
+}
+
+/// How often the clock is looked at while a connection that sends so many PINGs at once is served.
+fn looks_behind(rt: &HostRuntime, pace: Pace, requests: usize) -> Result<u64, Fail> {
+    let alloc = rt.alloc();
+    let script = Script::new(alloc, &["PING"], requests)?;
+    let device = Device {
+        chunk: 65_536,
+        fails_at: 0,
+        is_slow: false,
+    };
+    let mut taken = Vec::new(alloc);
+    let source = Reading::new(Sender::new(&script.bytes, device));
+    let drain = Writing::new(Taker::new(&mut taken, device));
+    let mut visit = Visit::new(alloc, source, drain, false);
+    let mut owner = OneOwner::new(alloc, RandomState::new(rt)?);
+    let clock = TestClock::new(pace);
+    serve(
+        rt,
+        &clock,
+        &mut visit,
+        &mut Buffers::new(alloc)?,
+        &mut owner,
+    )?;
+    Ok(clock.looks())
+}
+
+/// Paces, PINGs, and how often the clock is looked at: in each turn of 128 once at its beginning; behind each request of
+/// the first turn, and of one behind a turn that had long requests; else behind the second and each eighth after the first, up
+/// to a long one, and behind each that follows.
+const LOOKS: [(Pace, usize, u64); 5] = [
+    (Pace::Stands, 1, 1 + 1),
+    (Pace::Stands, 128, (1 + 128) + 1),
+    (Pace::Stands, 300, (1 + 128) + (1 + 1 + 15) + (1 + 1 + 5)),
+    (Pace::Trips(4), 300, (1 + 128) + (1 + 128) + (1 + 1 + 5)),
+    (
+        Pace::Trips(132),
+        300,
+        (1 + 128) + (1 + 1 + 1 + 119) + (1 + 44),
+    ),
+];
+
+#[test]
+fn the_clock_is_looked_at_behind_each_request_that_may_be_long(
+    rt: HostRuntime,
+) -> Result<(), Fail> {
+    for (pace, requests, wanted) in LOOKS {
+        let looks = looks_behind(&rt, pace, requests)?;
+        assert!(rt; looks == wanted, "{pace:?}, {requests}: {looks} looks");
+    }
+    Ok(())
+}
