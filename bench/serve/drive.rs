@@ -7,157 +7,20 @@
 //! Prints the requests a second, and the processor time of the server a request in nanoseconds. Where THREADS are given, so
 //! many share the connections at most, and beside them a quiet client sends a PING every two milliseconds; how many
 //! microseconds it waited for the replies is printed too: the median, the 99th percentile, and the most.
-#[path = "../client.rs"]
-#[allow(dead_code)]
-mod client;
+mod work;
 
-use client::{read_reply, request, Random};
-use std::io::{self, BufRead, BufReader, Write};
-use std::net::TcpStream;
+use std::io::{self, Write};
 use std::sync::atomic::{AtomicBool, Ordering};
 use std::sync::{Arc, Barrier};
 use std::thread::{self, JoinHandle};
 use std::time::{Duration, Instant};
-
-/// Members of all sets together.
-const MEMBERS: u64 = 100_000;
-
-/// Scores lie below this.
-const SCORES: u64 = 10_000_000;
+use work::{request, Plan};
 
 /// The most threads of the clients, where none are given.
 const THREADS: u64 = 4;
 
 /// How long the quiet client rests before each PING.
 const REST: Duration = Duration::from_millis(2);
-
-/// A connection, and what came on it.
-struct Connection {
-    stream: TcpStream,
-    replies: BufReader<TcpStream>,
-    /// The line of a reply that was read last.
-    line: Vec<u8>,
-}
-
-impl Connection {
-    /// Reads one whole reply, and keeps nothing of it; it may be no error.
-    fn skip_reply(&mut self) -> io::Result<()> {
-        let mut left = 1;
-        while left > 0 {
-            left -= 1;
-            self.line.clear();
-            self.replies.read_until(b'\n', &mut self.line)?;
-            match self.line.first() {
-                None => return Err(io::ErrorKind::UnexpectedEof.into()),
-                Some(b'-') => panic!("{}", String::from_utf8_lossy(&self.line)),
-                Some(b'*') => left += self.number(),
-                Some(b'$') if self.line[1] != b'-' => self.skip(self.number() + 2)?,
-                Some(_) => (),
-            }
-        }
-        Ok(())
-    }
-
-    /// The number of the line: that of its digits.
-    fn number(&self) -> usize {
-        self.line[1..].iter().take_while(|it| it.is_ascii_digit()).fold(0, |n, it| n * 10 + usize::from(it - b'0'))
-    }
-
-    /// Reads so many bytes more.
-    fn skip(&mut self, mut len: usize) -> io::Result<()> {
-        while len > 0 {
-            let here = self.replies.fill_buf()?.len().min(len);
-            if here == 0 {
-                return Err(io::ErrorKind::UnexpectedEof.into());
-            }
-            self.replies.consume(here);
-            len -= here;
-        }
-        Ok(())
-    }
-}
-
-#[derive(Clone)]
-struct Plan {
-    work: String,
-    pipelined: u64,
-    keys: u64,
-    port: u16,
-}
-
-impl Plan {
-    fn connect(&self) -> io::Result<Connection> {
-        let stream = TcpStream::connect(("127.0.0.1", self.port))?;
-        stream.set_nodelay(true)?;
-        let replies = BufReader::with_capacity(1 << 16, stream.try_clone()?);
-        Ok(Connection { stream, replies, line: Vec::new() })
-    }
-
-    fn key(&self, random: &mut Random) -> String {
-        format!("board:{}", random.below(self.keys))
-    }
-
-    /// Appends a request of the work.
-    fn ask(&self, random: &mut Random, out: &mut Vec<u8>) {
-        let key = self.key(random);
-        let member = format!("member:{}", random.below(MEMBERS));
-        let low = random.below(SCORES);
-        let (from, to) = (low.to_string(), (low + SCORES / MEMBERS * self.keys * 100).to_string());
-        match self.work.as_str() {
-            "zadd" => request(&["ZADD", &key, &from, &member], out),
-            "zscore" => request(&["ZSCORE", &key, &member], out),
-            "zcard" => request(&["ZCARD", &key], out),
-            "zcount" => request(&["ZCOUNT", &key, &from, "+inf"], out),
-            "ten_lowest" => request(&["ZRANGEBYSCORE", &key, "-inf", "+inf", "LIMIT", "0", "10"], out),
-            "ranges_of_100" => request(&["ZRANGEBYSCORE", &key, &from, &to], out),
-            work => panic!("no work of the name {work}"),
-        }
-    }
-
-    fn load(&self) -> io::Result<()> {
-        let mut random = Random(7);
-        let mut connection = self.connect()?;
-        for first in (0..MEMBERS).step_by(100) {
-            let mut words = vec![String::from("ZADD"), format!("board:{}", first / 100 % self.keys)];
-            for member in first..first + 100 {
-                words.extend([random.below(SCORES).to_string(), format!("member:{member}")]);
-            }
-            let mut out = Vec::new();
-            request(&words, &mut out);
-            connection.stream.write_all(&out)?;
-            read_reply(&mut connection.replies)?;
-        }
-        Ok(())
-    }
-
-    /// The requests that are sent at once on one connection.
-    fn batch(&self, random: &mut Random) -> Vec<u8> {
-        let mut out = Vec::new();
-        for _ in 0..self.pipelined {
-            self.ask(random, &mut out);
-        }
-        out
-    }
-
-    /// So many rounds of requests and replies on so many connections.
-    fn drive(&self, seed: u64, connections: u64, rounds: u64, start: &Barrier) -> io::Result<()> {
-        let mut random = Random(seed);
-        let batches: Vec<_> = (0..rounds * connections).map(|_| self.batch(&mut random)).collect();
-        let mut connections = (0..connections).map(|_| self.connect()).collect::<io::Result<Vec<_>>>()?;
-        start.wait();
-        for round in batches.chunks(connections.len()) {
-            for (connection, batch) in connections.iter_mut().zip(round) {
-                connection.stream.write_all(batch)?;
-            }
-            for connection in &mut connections {
-                for _ in 0..self.pipelined {
-                    connection.skip_reply()?;
-                }
-            }
-        }
-        Ok(())
-    }
-}
 
 /// A client that asks seldom, until it is ended.
 struct Quiet {

@@ -3,7 +3,8 @@
 # one key and on 64, with 1, 2, 4, 50 and 200 connections, and as many workers, but 4 at most: requests a second (ours to
 # Redis's: above 1 is quicker) and processor time of the server a request (ours to Redis's: below 1 is less), medians over
 # the rounds. Behind them redis-benchmark. Use: bench/serve/run.sh [WORK..]. Redis is Debian's: apt-get install
-# redis-server redis-tools. ROUNDS is 5 if not given, REQUESTS 200000, CONNECTIONS "1 2 4 50 200", KEYS "1 64".
+# redis-server redis-tools. ROUNDS is 5 if not given, REQUESTS 200000, CONNECTIONS "1 2 4 50 200", KEYS "1 64", PIPELINED
+# "1 64"; with BENCHMARK= redis-benchmark is left out.
 set -eu
 source "$(dirname "$0")/../common.sh"
 compile drive
@@ -52,7 +53,7 @@ report() {
 names=
 for round in $(seq "${ROUNDS:-5}"); do
     for work_name in $works; do
-        for pipelined in 1 64; do
+        for pipelined in ${PIPELINED:-1 64}; do
             for keys in ${KEYS:-1 64}; do
                 for connections in $all_connections; do
                     workers=$((connections < most_workers ? connections : most_workers))
@@ -64,8 +65,8 @@ for round in $(seq "${ROUNDS:-5}"); do
         done
     done
     workers=$most_workers
-    for connections in $all_connections; do
-        for pipelined in 1 64; do
+    for connections in ${BENCHMARK-$all_connections}; do
+        for pipelined in ${PIPELINED:-1 64}; do
             end=":P$pipelined:connections$connections"
             both "benchmark:zadd$end" benchmark "$pipelined" PORT ZADD board __rand_int__ member:__rand_int__
             both "benchmark:zscore$end" benchmark "$pipelined" PORT ZSCORE board member:__rand_int__
