@@ -1,34 +1,16 @@
 """A part of serve_test: many clients at once, well-behaved and not, and how a server stops accepting."""
 import resource
-import select
 import selectors
-import signal
 import socket
 import threading
 import time
 from contextlib import ExitStack, contextmanager
 
-from harness import SECONDS, read, same, test
-from tcp import Server, flat, request, soon, totals, traced
+from harness import SECONDS, same, test
+from tcp import Server, flat, has_descriptors, raise_limit, request, soon, totals, traced
 
 PONG = b"+PONG\r\n"
 CLIENTS = 1_000
-# What the clients of one server may need, and this script beside it.
-DESCRIPTORS = 2_200
-
-
-def raise_limit():
-    """As many descriptors as the system lets this process have."""
-    most = resource.getrlimit(resource.RLIMIT_NOFILE)[1]
-    resource.setrlimit(resource.RLIMIT_NOFILE, (most, most))
-    return most
-
-
-def has_descriptors():
-    if raise_limit() >= DESCRIPTORS:
-        return True
-    print("skipped: this needs more descriptors than the system gives")
-    return False
 
 
 @contextmanager
@@ -156,7 +138,7 @@ def clients_that_misbehave_cost_the_others_little():
                 begun = time.monotonic()
                 same(client.ask("PING"), PONG)
                 slowest = max(slowest, time.monotonic() - begun)
-        same((slowest, slowest < 2), (slowest, True))
+        same((slowest, slowest < 1), (slowest, True))
         stop.set()
         for sender in senders:
             sender.join()
@@ -240,97 +222,6 @@ def those_that_only_connect_cost_nothing():
         same(server.connect().ask("PING"), PONG)
 
 
-def answered_before(server, quiet, busy, data, reply):
-    """How many busy clients, whose requests are there first, are sent replies before a quiet one has three of its own, one
-    behind the other."""
-    server.process.send_signal(signal.SIGSTOP)
-    for client in busy:
-        client.send(data)
-    quiet.send(request("PING"))
-    server.process.send_signal(signal.SIGCONT)
-    same([quiet.reply(), quiet.ask("PING"), quiet.ask("PING")], [PONG] * 3)
-    answered = len(select.select([client.socket for client in busy], [], [], 0)[0])
-    same([client.file.read(len(reply)) == reply for client in busy], [True] * len(busy))
-    return answered
-
-
-def answered_before_new(server, busy, data, reply):
-    """How many busy clients are sent replies before one that was just accepted has its own."""
-    with connected(server, 1) as (new,):
-        time.sleep(0.05)
-        return answered_before(server, new, busy, data, reply)
-
-
-@test
-def a_quiet_client_does_not_wait_for_each_busy_one():
-    members = [b"m%d" % number for number in range(100, 200)]
-    reply = flat([b"$4\r\n%s\r\n" % member for member in members]) * 40
-    data = request("ZRANGEBYSCORE", "k", 1, 1) * 40
-    with Server("--workers", 1) as server, connected(server, 1) as (quiet,):
-        same(quiet.ask("ZADD", "k", *(word for member in members for word in (1, member))), b":100\r\n")
-        with connected(server, 40) as busy:
-            same(min(answered_before(server, quiet, busy, data, reply) for _ in range(6)) < 10, True)
-            # one that was just accepted is no busy one
-            same(min(answered_before_new(server, busy, data, reply) for _ in range(6)) < 10, True)
-        # of the others nobody asked before: they were just accepted, or it was seen already that nothing had come of them
-        for seconds in (0, 0.05):
-            newcomers = []
-            for _ in range(6):
-                with connected(server, 40) as busy:
-                    time.sleep(seconds)
-                    newcomers.append(answered_before(server, quiet, busy, data, reply))
-            same((seconds, min(newcomers) < 10), (seconds, True))
-
-
-def most_served_behind_a_look(rounds):
-    """How many of eight clients, which send 40 requests at once so many times, a server's only worker serves at most before it
-    looks again who else is ready; None where that can't be traced."""
-    with Server("--connections", 8, "--workers", 1) as server, connected(server, 8) as clients:
-        tracer = traced(server, "-e", "trace=epoll_wait,sendto")
-        if tracer is None:
-            return None
-        for _ in range(rounds):
-            server.process.send_signal(signal.SIGSTOP)
-            for client in clients:
-                client.send(request("PING") * 40)
-            server.process.send_signal(signal.SIGCONT)
-            same([client.file.read(len(PONG) * 40) for client in clients], [PONG * 40] * 8)
-        for client in clients:
-            same(client.finish(), b"")
-        same(server.ends(), (0, totals(8, 0, 0, 0, 0, 0), b""))
-        tracer.communicate(timeout=SECONDS)
-    return max(text.count(b"sendto(") for text in read("trace").split(b"epoll_wait("))
-
-
-@test
-def a_worker_looks_who_is_ready_before_each_new_or_busy_client():
-    same([most_served_behind_a_look(rounds) in (None, 1) for rounds in (1, 10)], [True, True])
-
-
-def yields_beside(at_once):
-    """How often a server's only worker yields its processor while two clients send so many requests at once, again and again;
-    None where that can't be traced."""
-    with Server("--connections", 2, "--workers", 1) as server, connected(server, 2) as clients:
-        tracer = traced(server, "-e", "trace=sched_yield")
-        if tracer is None:
-            return None
-        for client in clients * 50:
-            client.send(request("PING") * at_once)
-            same(client.file.read(len(PONG) * at_once), PONG * at_once)
-        for client in clients:
-            same(client.finish(), b"")
-        same(server.ends(), (0, totals(2, 0, 0, 0, 0, 0), b""))
-        tracer.communicate(timeout=SECONDS)
-    return read("trace").count(b"sched_yield()")
-
-
-@test
-def a_worker_yields_its_processor_beside_busy_clients_alone():
-    yields = [yields_beside(at_once) for at_once in (1, 4, 40)]
-    if None not in yields:
-        same((yields[:2], yields[2] > 0), ([0, 0], True))
-
-
 @test
 def idle_clients_take_no_processor_time():
     with Server("--workers", 2) as server, connected(server, 500) as idle:
@@ -360,6 +251,52 @@ def idle_clients_take_little_memory():
         memory_of_each(server, 50, 5_000)
         same([memory_of_each(server, *it) < most for it, most in (((400, 0), 1_024), ((400, 1), 1_024), ((100, 5_000), 32_768))],
              [True, True, True])
+
+
+# As many bytes of replies wait for a client before no more of its requests are run, and so many are read at once.
+MOST_HELD, MOST_READ = 65_536, 16_384
+DEAF = 20
+
+
+def deaf_client(server, data):
+    """A socket with room for few replies, which sends this and takes nothing."""
+    deaf = socket.socket()
+    deaf.setsockopt(socket.SOL_SOCKET, socket.SO_RCVBUF, 4_096)
+    deaf.settimeout(SECONDS)
+    deaf.connect((server.address, server.port))
+    deaf.sendall(data)
+    return deaf
+
+
+def most_memory(server, others):
+    """The most memory that a server has in use until it stays the same for half a second, while others are answered."""
+    found = [server.memory()]
+    while len(found) < 50 or len(set(found[-50:])) > 1:
+        same([client.ask("PING") for client in others], [PONG] * len(others))
+        found.append(server.memory())
+        time.sleep(0.01)
+    return max(found)
+
+
+@test
+def clients_that_take_nothing_hold_few_replies():
+    listing = request("ZRANGEBYSCORE", "k", "-inf", "+inf", "WITHSCORES")
+    with Server("--workers", 2) as server, connected(server, 4) as others, ExitStack() as stack:
+        for score in range(16):
+            same(others[0].ask("ZADD", "k", score, "x" * 500 + f"{score}"), b":1\r\n")
+        others[0].send(listing)
+        reply = flat(others[0].reply())
+        # what the clients of a worker share is as long as it gets
+        same([client.flood(listing, 100, reply) for client in others], [100] * len(others))
+        before = server.memory()
+        # replies of 8 MB to each, far more than the system holds for it
+        deaf = [stack.enter_context(deaf_client(server, listing * 1_000)) for _ in range(DEAF)]
+        each = (most_memory(server, others) - before) / DEAF
+        # the last 16 KiB are for what memory is rounded up to
+        most = MOST_HELD + len(reply) + MOST_READ + 16_384
+        same((each, 32_768 < each < most), (each, True))
+        with deaf[0].makefile("rb") as file:
+            same(file.read(len(reply) * 1_000) == reply * 1_000, True)
 
 
 @test
@@ -414,3 +351,20 @@ def an_accept_fault_is_told_at_once():
         same(client.ask("ZADD", "k", 1, "a"), b":1\r\n")
         same(client.finish(), b"")
         same(server.ends(), (1, totals(1, 1, 1, 1, 0, 1), b""))
+
+
+@test
+def a_connection_that_can_not_be_watched_is_closed_alone():
+    for error in ("ENOSPC", "ENOMEM"):
+        with Server("--workers", 1, "--max-clients", 5, "--connections", 6) as server, connected(server, 2) as clients:
+            same([client.ask("PING") for client in clients], [PONG] * 2)
+            # of the next registrations the second one is refused
+            if traced(server, "-e", "trace=epoll_ctl", "-e", f"inject=epoll_ctl:error={error}:when=2") is None:
+                return
+            with connected(server, 2) as (third, refused):
+                same((error, refused.file.read()), (error, b""))
+                # its seat is free for the last one
+                with connected(server, 2) as last:
+                    others = [*clients, third, *last]
+                    same([client.ask("PING") for client in others * 2], [PONG] * 10)
+                    all_end(server, others, totals(6, 0, 0, 0, 0, 0))

@@ -1,5 +1,6 @@
 """A server on a port of its own, and clients that speak RESP2 to it over TCP."""
 import os
+import resource
 import select
 import socket
 import struct
@@ -10,6 +11,22 @@ from harness import PROGRAM, SECONDS, same, start
 
 LOOPBACK = ("--listen", "127.0.0.1:0")
 LISTENING = b"listening on "
+# What a server of a thousand clients may need, and the script beside it.
+DESCRIPTORS = 2_200
+
+
+def raise_limit():
+    """As many descriptors as the system lets this process have."""
+    most = resource.getrlimit(resource.RLIMIT_NOFILE)[1]
+    resource.setrlimit(resource.RLIMIT_NOFILE, (most, most))
+    return most
+
+
+def has_descriptors():
+    if raise_limit() >= DESCRIPTORS:
+        return True
+    print("skipped: this needs more descriptors than the system gives")
+    return False
 
 
 def request(*words):

@@ -106,6 +106,11 @@ module _ {S : Type 0} (allows : S → Asked → Result Response Refusal → S �
     known = other.known ∙ one.known;
   }
 
+  -- turns behind others, which are seen to begin where those ended
+  pub turns_on : (first second shown third : HeldConnections) (a b c : S) → TurnsAreTaken allows is_settled first a second b → shown ≡ second → TurnsAreTaken allows is_settled shown b third c → TurnsAreTaken allows is_settled first a third c
+  turns_on first second shown third a b c one same other =
+      turns_trans first second third a b c one (subst (λ (before : HeldConnections). TurnsAreTaken allows is_settled before b third c) same other)
+
 pub may_leave_refl : (settled : ℕ) (held : List (Option HeldState)) → AllMayLeave settled held held
 may_leave_refl settled held place connection at = (connection, at, (refl, λ behind. refl))
 

@@ -130,6 +130,11 @@ impl<S: PolledSource, D: PolledDrain, A: Allocator + Copy> Visit<S, D, A> {
         self.session.progress.requests
     }
 
+    /// Whether all its requests are answered, and no further one is there whole.
+    pub fn waits_for_requests(&self) -> bool {
+        self.stage == Stage::Reads && self.is_drained && self.replies.len() == 0
+    }
+
     /// Sends what is held. None where the drain failed.
     fn send(&mut self) -> Option<bool>
         ensures same { (visit_state self.new.stage (S.told self.new.source)

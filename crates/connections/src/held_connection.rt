@@ -37,6 +37,8 @@ pub struct Held<S: PolledSource, D: PolledDrain, A: Allocator> {
     /// In its last turn no byte came or went.
     is_still: bool,
     traffic: Traffic,
+    /// How many requests had been run when it waited for more last.
+    run_at_last_wait: u64,
 }
 
 /// Seen as its visit shows itself, with what its replies wait for and what left.
@@ -73,6 +75,7 @@ impl<S: PolledSource, D: PolledDrain, A: Allocator + Copy> Held<S, D, A> {
             moved,
             is_still: true,
             traffic: Traffic::Unknown,
+            run_at_last_wait: 0,
         }
     }
 
@@ -138,6 +141,18 @@ impl<S: PolledSource, D: PolledDrain, A: Allocator + Copy> Held<S, D, A> {
         }
     }
 
+    /// Notes how much it has asked since it waited for more last.
+    fn note_traffic(&mut self)
+        ensures same { self.new ≡ self.old }
+    {
+        let (run, waits) = (self.visit.requests(), self.visit.waits_for_requests());
+        let asked = run.wrapping_sub(self.run_at_last_wait);
+        self.traffic = self.traffic.behind(asked, waits);
+        if waits {
+            self.run_at_last_wait = run;
+        }
+    }
+
     /// The connection's turn, as [`Visit::turn`] says.
     pub fn turn<R, C: Clock, E: Exec<R, A>>(
         &mut self,
@@ -156,10 +171,8 @@ impl<S: PolledSource, D: PolledDrain, A: Allocator + Copy> Held<S, D, A> {
         ensures waits { result ≡ Settles → settled < self.new.awaited }
         ensures held { settled < self.old.awaited → self.new ≡ self.old }
     {
-        let before = self.visit.requests();
         let next = self.visit.turn(rt, moment.clock, buffers, exec, settled);
-        let ran = self.visit.requests().wrapping_sub(before);
-        self.traffic = self.traffic.behind(ran);
+        self.note_traffic();
         self.note_moved(moment.now);
         next
     }
@@ -171,6 +184,7 @@ impl<S: PolledSource, D: PolledDrain, A: Allocator + Copy> Held<S, D, A> {
         ensures ends { settled < self.old.awaited → result ≡ Ends }
     {
         let next = self.visit.let_go(buffers, settled);
+        self.note_traffic();
         self.note_moved(now);
         next
     }

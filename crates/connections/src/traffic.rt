@@ -1,28 +1,28 @@
 //! How much a connection asks.
 
-/// A connection of which more requests were run in a turn is busy.
+/// A connection that asks more requests than these before it waits again is busy.
 const QUIET_REQUESTS: u64 = 4;
 
 /// What is known of a connection's traffic. Quiet ones come first.
 #[derive(Clone, Copy, Debug)]
 pub enum Traffic {
-    /// No request of it was run yet.
+    /// Nothing: it has not waited yet with a request answered.
     Unknown,
-    /// In the last turn with requests at most [`QUIET_REQUESTS`] were run.
+    /// At most [`QUIET_REQUESTS`] were run from one wait to the next.
     Quiet,
-    /// In that turn more were.
+    /// More were, since it waited last.
     Busy,
 }
 
 impl Traffic {
-    /// What is known behind a turn in which so many requests were run.
-    pub fn behind(self, requests: u64) -> Self {
-        if requests == 0 {
-            self
-        } else if requests > QUIET_REQUESTS {
+    /// What is known after so many requests since the last wait, where it waits again or doesn't.
+    pub fn behind(self, requests: u64, waits: bool) -> Self {
+        if requests > QUIET_REQUESTS {
             Traffic::Busy
-        } else {
+        } else if waits && requests > 0 {
             Traffic::Quiet
+        } else {
+            self
         }
     }
 }

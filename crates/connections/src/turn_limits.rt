@@ -9,7 +9,7 @@ pub const MOST_REQUESTS: u32 = 128;
 pub const MOST_HELD: usize = 65_536;
 
 /// After so many microseconds a connection's turn ends, with the requests up to the next look at the clock.
-pub const MOST_MICROS: u64 = 500;
+pub const MOST_MICROS: u64 = 125;
 
 /// Requests are long that take so many microseconds from one look at the clock to the next.
 const LONG_MICROS: u64 = 50;

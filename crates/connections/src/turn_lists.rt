@@ -12,7 +12,7 @@ use std::os::fd::RawFd;
 pub struct TurnLists<A: Allocator> {
     /// Quiet ones that waited and have become ready.
     pub woken: VecDeque<usize, A>,
-    /// Those of which no request was run yet and that have become ready.
+    /// Those of which it is not known how much they ask, and that have become ready.
     pub newcomers: VecDeque<usize, A>,
     /// Those that can go on behind their last turn, and busy ones that waited and have become ready.
     pub ready: VecDeque<usize, A>,

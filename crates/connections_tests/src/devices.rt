@@ -103,9 +103,11 @@ pub enum Pace {
     /// Each look is a millisecond after the look before.
     Runs,
     /// Each look is 499 microseconds after the look before.
-    Walks,
+    Jogs,
     /// Each look is 125 microseconds after the look before.
     Trots,
+    /// Each look is 124 microseconds after the look before.
+    Walks,
     /// Each look is 50 microseconds after the look before.
     Ambles,
     /// Each look is 49 microseconds after the look before.
@@ -144,8 +146,9 @@ impl Clock for TestClock {
         let micros = match self.pace {
             Pace::Stands => 0,
             Pace::Runs => looks.saturating_mul(1_000),
-            Pace::Walks => looks.saturating_mul(499),
+            Pace::Jogs => looks.saturating_mul(499),
             Pace::Trots => looks.saturating_mul(125),
+            Pace::Walks => looks.saturating_mul(124),
             Pace::Ambles => looks.saturating_mul(50),
             Pace::Creeps => looks.saturating_mul(49),
             Pace::Trips(number) => if looks < number { 0 } else { 50 },

@@ -40,31 +40,26 @@ fn outcome(device: Device, number: u64, bytes: usize) -> Call {
     }
 }
 
-/// How many requests a turn may run: until half a millisecond is over, by looks behind each where they may be long, and
-/// else behind the second and each eighth after the first. From a look that comes 50 microseconds behind the one before
+/// How many requests a turn may run: until an eighth of a millisecond is over, by looks behind each where they may be long,
+/// and else behind the second and each eighth after the first. From a look that comes 50 microseconds behind the one before
 /// on they are long. Where the time can't be told one is run.
 fn most_of(pace: Pace, may_be_long: bool) -> u32 {
-    match (pace, may_be_long) {
-        (Pace::Stands | Pace::Trips(_), _) => MOST_REQUESTS,
-        (Pace::Creeps, true) => 11,
-        (Pace::Creeps, false) => 81,
-        (Pace::Ambles, true) => 10,
-        (Pace::Ambles, false) => 11,
-        (Pace::Trots, true) => 4,
-        (Pace::Trots, false) => 5,
-        (Pace::Walks, true) => 2,
-        (Pace::Walks, false) => 3,
-        (Pace::Runs, true) => 1,
-        (Pace::Runs, false) => 2,
-        (Pace::Fails, _) => 1,
-    }
+    let (of_long, of_short) = match pace {
+        Pace::Stands | Pace::Trips(_) => (MOST_REQUESTS, MOST_REQUESTS),
+        Pace::Creeps => (3, 17),
+        Pace::Ambles => (3, 4),
+        Pace::Walks => (2, 3),
+        Pace::Trots | Pace::Jogs | Pace::Runs => (1, 2),
+        Pace::Fails => (1, 1),
+    };
+    if may_be_long { of_long } else { of_short }
 }
 
 /// Whether requests between two looks are long; None where that can't be told of all.
 fn are_long(pace: Pace) -> Option<bool> {
     match pace {
         Pace::Stands | Pace::Creeps => Some(false),
-        Pace::Ambles | Pace::Trots | Pace::Walks | Pace::Runs => Some(true),
+        Pace::Ambles | Pace::Walks | Pace::Trots | Pace::Jogs | Pace::Runs => Some(true),
         Pace::Trips(_) | Pace::Fails => None,
     }
 }
@@ -179,8 +174,9 @@ impl<'c> Modelled<'c> {
     /// and else behind the second.
     fn note_time(&mut self, pace: Pace, ran: u32) {
         let looks_from = if self.may_be_long { 1 } else { 2 };
-        if let (Some(are_long), true) = (are_long(pace), ran >= looks_from) {
-            self.may_be_long = are_long;
+        match are_long(pace) {
+            Some(are_long) if ran >= looks_from => self.may_be_long = are_long,
+            _ => {}
         }
     }
 

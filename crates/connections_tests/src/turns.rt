@@ -250,17 +250,16 @@ const FEW_ORDERS: [Order; 3] = [
 ];
 
 /// How the time goes in turns that end before what was read is answered.
-const PACES: [Pace; 7] = [
+const PACES: [Pace; 6] = [
     Pace::Stands,
     Pace::Creeps,
     Pace::Ambles,
-    Pace::Trots,
     Pace::Walks,
-    Pace::Runs,
+    Pace::Trots,
     Pace::Fails,
 ];
 
-// Where the time stands still or creeps, a turn ends with its last request or with the 128th.
+// Where the time stands still, a turn ends with its last request or with the 128th.
 #[test]
 fn what_a_turn_leaves_is_answered_in_the_next(rt: HostRuntime) -> Result<(), Fail> {
     let scripts = scripts_of(rt.alloc(), MIXED, 40)?;

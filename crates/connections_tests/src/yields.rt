@@ -24,7 +24,7 @@ const YIELDS: [(Pace, u32, u32); 9] = [
     (Pace::Runs, 17, 2),
     (Pace::Runs, 32, 2),
     (Pace::Runs, 33, 3),
-    (Pace::Walks, 33, 33),
+    (Pace::Jogs, 33, 33),
     (Pace::Ambles, 5, 1),
     (Pace::Ambles, 6, 2),
     (Pace::Stands, 33, 1),

@@ -93,7 +93,7 @@ impl<S: PolledSource + Watched + Drop, D: PolledDrain + Drop, A: Allocator + Cop
         self.yield_behind(moment.clock, place);
     }
 
-    /// A turn for each of which no request was run yet and that has become ready.
+    /// A turn for each of which it is not known how much it asks, and that has become ready.
     pub fn serve_newcomers<R, C: Clock, E: Exec<R, A>>(
         &mut self,
         rt: &R,

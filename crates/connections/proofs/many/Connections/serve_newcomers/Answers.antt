@@ -1,14 +1,8 @@
-use Rattle.std.proofs.Common.{subst}
-use Rattle.connections.specs.HeldConnections.{HeldConnections, TurnsAreTaken}
-use Rattle.connections.proofs.HeldLemmas.{turns_refl, turns_trans}
+use Rattle.connections.proofs.HeldLemmas.{turns_refl, turns_on}
 use Rattle.connections.proofs.many.Connections.serve_newcomers.Goals as goal
 
 pub loop-init : goal.loop-init
 loop-init g c = turns_refl g.E.Exec.allows g.E.Exec.settled _ _ c.requires.settled
 
 pub loop-preserved : goal.loop-preserved
-loop-preserved g c =
-    let allows = g.E.Exec.allows in
-    let known = g.E.Exec.settled in
-    let served = subst (λ (before : HeldConnections). TurnsAreTaken allows known before c.loop.exec c.serve_behind_quiet.new.self c.serve_behind_quiet.new.exec) c.self-in-loop.view_is c.serve_behind_quiet.ensures in
-    turns_trans allows known _ _ _ _ _ _ c.loop.invariant served
+loop-preserved g c = turns_on g.E.Exec.allows g.E.Exec.settled _ _ _ _ _ _ _ c.loop.invariant c.self-in-loop.view_is c.serve_behind_quiet.ensures
