@@ -10,8 +10,12 @@ from harness import same, test
 from tcp import Server, request
 from wanting import EVERYTHING
 
+WORKERS = 4
 KILLS = 50
 CLIENTS = 4
+# A kill under many clients takes longer.
+FEW_KILLS = 5
+MANY_CLIENTS = 200
 SHARED = 3
 # A file is begun anew after so many rounds, so that a late one takes no longer than an early one.
 ROUNDS_OF_A_FILE = 10
@@ -45,9 +49,11 @@ class Changer(threading.Thread):
     def __init__(self, server):
         super().__init__(daemon=True)
         self.server, self.client = server, server.connect()
-        self.failure = None
+        self.begin, self.failure = None, None
 
     def run(self):
+        # to start many threads takes long where the first ones are at work
+        self.begin.wait()
         try:
             self.change()
         except ConnectionError as error:
@@ -124,10 +130,13 @@ def kept_by(keys):
 def run_and_end(make, number, seconds):
     """A server is ended by a signal after so many seconds, while each of the clients that `make` makes of it goes on. Every
     second server syncs many changes together."""
-    with Server("--workers", CLIENTS, "--file", "kept", "--sync", next(MODES)) as server:
+    with Server("--workers", WORKERS, "--file", "kept", "--sync", next(MODES)) as server:
         clients = make(server)
+        begin = threading.Event()
         for client in clients:
+            client.begin = begin
             client.start()
+        begin.set()
         time.sleep(seconds)
         server.end_by(number)
         for client in clients:
@@ -135,9 +144,9 @@ def run_and_end(make, number, seconds):
     return clients
 
 
-def rounds_on_own_keys(signals, seed):
-    """A server is ended by each of the signals in turn while each of four clients changes a key of its own."""
-    keys = [f"own:{it}" for it in range(CLIENTS)]
+def rounds_on_own_keys(signals, seed, clients=CLIENTS):
+    """A server is ended by each of the signals in turn while each of its clients changes a key of its own."""
+    keys = [f"own:{it}" for it in range(clients)]
     sets = [{} for _ in keys]
     chance = random.Random(seed)
     told = 0
@@ -152,8 +161,8 @@ def rounds_on_own_keys(signals, seed):
     return told
 
 
-def rounds_on_shared_keys(signals, seed):
-    """The same while four clients add members to keys that all share: each that was answered is there, and none else but
+def rounds_on_shared_keys(signals, seed, clients=CLIENTS):
+    """The same while the clients add members to keys that all share: each that was answered is there, and none else but
     those that were sent."""
     keys = [f"shared:{it}" for it in range(SHARED)]
     chance = random.Random(seed)
@@ -163,7 +172,7 @@ def rounds_on_shared_keys(signals, seed):
             acknowledged, sent = set(), set()
             if round_number > 0:
                 os.remove("kept")
-        make = lambda server: [Adder(server, it, round_number) for it in range(CLIENTS)]
+        make = lambda server: [Adder(server, it, round_number) for it in range(clients)]
         for adder in run_and_end(make, number, chance.uniform(0.01, 0.15)):
             acknowledged |= adder.acknowledged
             sent |= adder.sent
@@ -179,6 +188,11 @@ def fifty_kills(rounds, seed, what):
     print(f"{KILLS} kills under {what}: {told} were acknowledged and kept", flush=True)
 
 
+def few_kills(rounds, seed, what):
+    told = rounds([signal.SIGKILL] * FEW_KILLS, seed, MANY_CLIENTS)
+    print(f"{FEW_KILLS} kills under {what} by {MANY_CLIENTS} clients: {told} were acknowledged and kept", flush=True)
+
+
 @test
 def acknowledged_changes_outlive_fifty_kills():
     fifty_kills(rounds_on_own_keys, 1, "changes of own keys")
@@ -187,6 +201,16 @@ def acknowledged_changes_outlive_fifty_kills():
 @test
 def members_added_to_shared_keys_outlive_fifty_kills():
     fifty_kills(rounds_on_shared_keys, 3, "additions to shared keys")
+
+
+@test
+def acknowledged_changes_of_many_clients_outlive_kills():
+    few_kills(rounds_on_own_keys, 5, "changes of own keys")
+
+
+@test
+def members_added_by_many_clients_outlive_kills():
+    few_kills(rounds_on_shared_keys, 6, "additions to shared keys")
 
 
 @test

@@ -68,12 +68,19 @@ def has_ended(server):
     return True
 
 
+def begin(env, *words):
+    """Starts a server of one worker in which an allocation is refused; gives it and its port, 0 where it has none."""
+    words = [PROGRAM, "serve", *LOOPBACK, "--workers", "1", "--places", str(PLACES), *words]
+    server = start(words, stdout=subprocess.PIPE, stderr=subprocess.PIPE, env=env)
+    line = server.stdout.readline()
+    return server, int(line.rsplit(b":", 1)[1]) if line.startswith(LISTENING) else 0
+
+
 def serve_refused(env, words):
     """Serves connections with an allocation refused; gives what was asked with the replies, and how the server ended."""
-    words = [PROGRAM, "serve", *LOOPBACK, "--workers", "1", "--places", str(PLACES), "--connections", str(CONNECTIONS), *words]
-    with start(words, stdout=subprocess.PIPE, stderr=subprocess.PIPE, env=env) as server:
-        line = server.stdout.readline()
-        talk = Talk(int(line.rsplit(b":", 1)[1]) if line.startswith(LISTENING) else 0)
+    server, port = begin(env, "--connections", str(CONNECTIONS), *words)
+    with server:
+        talk = Talk(port)
         if talk.port:
             talk.go_on(server)
         out, lines = server.communicate(timeout=SECONDS)
@@ -130,6 +137,60 @@ def each_refused_allocation_of_a_server_is_told():
 @test
 def each_refused_allocation_of_a_server_without_a_file_is_told():
     judge_sweep(each_refused_allocation("a server without a file", without_a_file))
+
+
+# What a client asks that is held beside others, and the reply.
+OF_NEIGHBOUR, NOBODY = ("ZCARD", "third"), b":0\r\n"
+
+
+def answered_client(port):
+    """A client that was answered. It comes again where it was refused memory itself; None where the server ended."""
+    for _ in range(2):
+        try:
+            client = Client(("127.0.0.1", port))
+            if client.ask(*OF_NEIGHBOUR) == NOBODY:
+                return client
+            client.close()
+        except OSError:
+            pass
+    return None
+
+
+def ask_beside(neighbour, port):
+    """Others ask while a client is held that was answered before, and is answered behind them. Gives their replies."""
+    talk = Talk(port)
+    talk.left += LISTINGS
+    for _ in range(2):
+        talk.connect()
+    # one of the two was ended at most
+    same(talk.left, [])
+    follow([Sets(PLACES)], talk.asked)
+    # what it asked before it asks without further memory
+    same([neighbour.ask(*OF_NEIGHBOUR) for _ in range(2)], [NOBODY] * 2)
+    same(neighbour.finish(), b"")
+    return [reply for _, reply in talk.asked]
+
+
+def beside_a_neighbour(_room, env):
+    """One run of a server with a client that is held meanwhile; no replies where the server did not begin."""
+    server, port = begin(env)
+    with server:
+        try:
+            neighbour = answered_client(port)
+            if neighbour is not None:
+                return ask_beside(neighbour, port)
+            same((server.wait(SECONDS), server.stderr.read()) in ENDS, True)
+            return []
+        finally:
+            server.kill()
+
+
+@test
+def each_refused_allocation_of_a_connection_spares_its_neighbour():
+    given = each_refused_allocation("a server with a neighbour", beside_a_neighbour)
+    ended, refused = [it for it in given if None in it], [it for it in given if NO_MEMORY in it]
+    same((len(ended) > 0, len(refused) > 20, [] in given), (True, True, True))
+    same((len(given[-1]), given[-1] in ended + refused), (len(ASKED + LISTINGS), False))
 
 
 class Filling:
