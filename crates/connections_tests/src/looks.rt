@@ -4,25 +4,35 @@ use crate::devices::{Device, Pace, Sender, Taker, TestClock};
 use crate::model::MOST_TURNS;
 use crate::scripts::Script;
 use connections::{Buffers, Next, Visit};
-use resp_wire::{PolledDrain, PolledSource, Reading, Writing};
+use resp_wire::{Reading, Writing};
 use session_core::Exec;
 use std::alloc::Global;
 use std::hash::RandomState;
 use std::test::*;
 use zset_core::OneOwner;
 
-/// Gives a connection turns until it has ended.
-fn serve<R, S: PolledSource, D: PolledDrain, E: Exec<R, Global>>(
+/// Serves a client that sends these at once, by this clock, until its connection has ended.
+fn serve<R, E: Exec<R, Global>>(
     rt: &R,
+    alloc: Global,
     clock: &TestClock,
-    visit: &mut Visit<S, D, Global>,
-    buffers: &mut Buffers<Global>,
+    script: &Script<'_>,
     exec: &mut E,
 ) -> Result<(), Fail>
     requires { E.settled exec.old }
 {
+    let mut buffers = Buffers::new(alloc)?;
+    let device = Device {
+        chunk: 65_536,
+        fails_at: 0,
+        is_slow: false,
+    };
+    let mut taken = Vec::new(alloc);
+    let source = Reading::new(Sender::new(&script.bytes, device));
+    let drain = Writing::new(Taker::new(&mut taken, device));
+    let mut visit = Visit::new(alloc, source, drain, false);
     for _ in 0..MOST_TURNS {
-        if visit.turn(rt, clock, buffers, exec, u64::MAX) == Next::Ends {
+        if visit.turn(rt, clock, &mut buffers, exec, u64::MAX) == Next::Ends {
             return Ok(());
         }
     }
@@ -33,24 +43,9 @@ fn serve<R, S: PolledSource, D: PolledDrain, E: Exec<R, Global>>(
 fn looks_behind(rt: &HostRuntime, pace: Pace, requests: usize) -> Result<u64, Fail> {
     let alloc = rt.alloc();
     let script = Script::new(alloc, &["PING"], requests)?;
-    let device = Device {
-        chunk: 65_536,
-        fails_at: 0,
-        is_slow: false,
-    };
-    let mut taken = Vec::new(alloc);
-    let source = Reading::new(Sender::new(&script.bytes, device));
-    let drain = Writing::new(Taker::new(&mut taken, device));
-    let mut visit = Visit::new(alloc, source, drain, false);
     let mut owner = OneOwner::new(alloc, RandomState::new(rt)?);
     let clock = TestClock::new(pace);
-    serve(
-        rt,
-        &clock,
-        &mut visit,
-        &mut Buffers::new(alloc)?,
-        &mut owner,
-    )?;
+    serve(rt, alloc, &clock, &script, &mut owner)?;
     Ok(clock.looks())
 }
 

@@ -154,15 +154,22 @@ const SUMS: [&[&str]; 3] = [
     &["ZADD k INCR 4 a", "ZCARD k"],
 ];
 
-/// The orders of the turns, and the sums that the three are told.
-const WORKED: [([usize; 3], [&[u8]; 3]); 6] = [
-    ([0, 1, 2], [b"1", b"3", b"7"]),
-    ([0, 2, 1], [b"1", b"7", b"5"]),
-    ([1, 0, 2], [b"3", b"2", b"7"]),
-    ([1, 2, 0], [b"7", b"2", b"6"]),
-    ([2, 0, 1], [b"5", b"7", b"4"]),
-    ([2, 1, 0], [b"7", b"6", b"4"]),
+/// The orders of the turns, and the sums that the three are told, a digit each.
+const WORKED: [([usize; 3], [u8; 3]); 6] = [
+    ([0, 1, 2], [b'1', b'3', b'7']),
+    ([0, 2, 1], [b'1', b'7', b'5']),
+    ([1, 0, 2], [b'3', b'2', b'7']),
+    ([1, 2, 0], [b'7', b'2', b'6']),
+    ([2, 0, 1], [b'5', b'7', b'4']),
+    ([2, 1, 0], [b'7', b'6', b'4']),
 ];
+
+/// Whether a client was told this sum, and that the set has one member.
+fn is_told(told: &Told, sum: u8) -> bool {
+    let mut wanted = *b"$1\r\n0\r\n:1\r\n";
+    wanted[4] = sum;
+    told.bytes.as_slice() == wanted.as_slice()
+}
 
 #[test]
 fn the_order_of_the_turns_is_told(rt: HostRuntime) -> Result<(), Fail> {
@@ -177,10 +184,7 @@ fn the_order_of_the_turns_is_told(rt: HostRuntime) -> Result<(), Fail> {
         };
         let (told, _) = compared(&rt, &case)?;
         for (told, sum) in told.iter().zip(sums.iter()) {
-            let mut wanted = Vec::from_slice(alloc, b"$1\r\n")?;
-            wanted.extend_from_slice(sum)?;
-            wanted.extend_from_slice(b"\r\n:1\r\n")?;
-            assert_eq!(rt; told.bytes, wanted, "{cycle:?}");
+            assert!(rt; is_told(told, *sum), "{cycle:?}: {told:?}");
         }
     }
     Ok(())
