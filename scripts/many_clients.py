@@ -231,26 +231,27 @@ def idle_clients_take_no_processor_time():
         same(server.processor_time() - before < 0.05, True)
 
 
-def memory_of_each(server, count, requests):
+def memory_of_each(count, requests):
     """The bytes that a server takes for each of so many clients that send so many requests at once, and then nothing."""
-    before = server.memory()
-    with connected(server, count) as idle:
-        for client in idle:
-            same(client.flood(request("PING"), requests, PONG), requests)
-        # the last one is served, so all are held
-        with connected(server, 1) as (last,):
-            same(last.ask("PING"), PONG)
-            return (server.memory() - before) / count
+    ping = request("PING")
+    with Server("--workers", 2) as server, connected(server, 8) as warm:
+        # what all clients share is there already, and theirs stays theirs
+        same([client.flood(ping, 5_000, PONG) for client in warm], [5_000] * len(warm))
+        before = server.memory()
+        with connected(server, count) as idle:
+            same([client.flood(ping, requests, PONG) for client in idle], [requests] * count)
+            # the last one is served, so all are held
+            with connected(server, 1) as (last,):
+                same(last.ask("PING"), PONG)
+                return (server.memory() - before) / count
 
 
 @test
 def idle_clients_take_little_memory():
-    if not has_descriptors():
-        return
-    with Server("--workers", 2) as server:
-        memory_of_each(server, 50, 5_000)
-        same([memory_of_each(server, *it) < most for it, most in (((400, 0), 1_024), ((400, 1), 1_024), ((100, 5_000), 32_768))],
-             [True, True, True])
+    if has_descriptors():
+        for of_all, most in [((400, 0), 1_024), ((400, 1), 1_024), ((100, 5_000), 32_768)]:
+            each = memory_of_each(*of_all)
+            same((of_all, each, 256 < each < most), (of_all, each, True))
 
 
 # As many bytes of replies wait for a client before no more of its requests are run, and so many are read at once.
