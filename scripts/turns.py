@@ -39,6 +39,8 @@ def a_quiet_client_does_not_wait_for_each_busy_one():
         for first in range(40_000, 80_000, 500):
             members = range(first, first + 500)
             same(quiet.ask("ZADD", "k", *(word for member in members for word in (1, member))), b":500\r\n")
+        # who asked much is quiet again behind a request alone
+        same((quiet.flood(request("PING"), 10, PONG), quiet.ask("PING")), (10, PONG))
         with connected(server, 40) as busy:
             # behind its first requests it is known that a client is busy
             answered = [answered_before(server, quiet, busy, data, reply) for _ in range(7)]
