@@ -188,11 +188,6 @@ def fifty_kills(rounds, seed, what):
     print(f"{KILLS} kills under {what}: {told} were acknowledged and kept", flush=True)
 
 
-def few_kills(rounds, seed, what):
-    told = rounds([signal.SIGKILL] * FEW_KILLS, seed, MANY_CLIENTS)
-    print(f"{FEW_KILLS} kills under {what} by {MANY_CLIENTS} clients: {told} were acknowledged and kept", flush=True)
-
-
 @test
 def acknowledged_changes_outlive_fifty_kills():
     fifty_kills(rounds_on_own_keys, 1, "changes of own keys")
@@ -204,13 +199,11 @@ def members_added_to_shared_keys_outlive_fifty_kills():
 
 
 @test
-def acknowledged_changes_of_many_clients_outlive_kills():
-    few_kills(rounds_on_own_keys, 5, "changes of own keys")
-
-
-@test
-def members_added_by_many_clients_outlive_kills():
-    few_kills(rounds_on_shared_keys, 6, "additions to shared keys")
+def changes_of_many_clients_outlive_kills():
+    for rounds, seed in [(rounds_on_own_keys, 5), (rounds_on_shared_keys, 6)]:
+        told = rounds([signal.SIGKILL] * FEW_KILLS, seed, MANY_CLIENTS)
+        print(f"{FEW_KILLS} kills under {MANY_CLIENTS} clients: {told} were acknowledged and kept", flush=True)
+        os.remove("kept")
 
 
 @test
