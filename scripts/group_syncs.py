@@ -34,7 +34,7 @@ def changes_of_a_session_share_a_sync():
 
 
 def changes_of_a_client_share_a_sync():
-    # records are not traced: each of them would take most of a turn's eighth of a millisecond then
+    # records are not traced: a few of them would take a part's half a millisecond then
     few = "--seccomp-bpf -e trace=fsync,fdatasync,sendto"
     with Server(*GROUP, "--connections", 1, "--workers", 1, program=traced(few)) as server:
         client = server.connect()
@@ -42,7 +42,7 @@ def changes_of_a_client_share_a_sync():
         same(client.finish(), ANSWERED)
         same(server.ends()[0], 0)
     groups = calls().count("reply")
-    same((calls(), groups <= len(TOGETHER) // 4), (["sync", "reply"] * groups, True))
+    same((calls(), groups <= len(TOGETHER) // 8), (["sync", "reply"] * groups, True))
     same(read("kept"), HEADER + b"".join(TOGETHER))
 
 

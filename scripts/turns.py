@@ -29,16 +29,22 @@ def answered_before_new(server, busy, data, reply):
         return answered_before(server, new, busy, data, reply)
 
 
+# one such request reads all 40,000 members of one score, so it takes longer than a part of a turn, and than a PING of
+# this script
+LONG, LONG_REPLY = request("ZRANGEBYSCORE", "k", 1, 1, "LIMIT", 39_999, 1), flat([b"$5\r\n79999\r\n"])
+
+
+def load(client):
+    for first in range(40_000, 80_000, 500):
+        members = range(first, first + 500)
+        same(client.ask("ZADD", "k", *(word for member in members for word in (1, member))), b":500\r\n")
+
+
 @test
 def a_quiet_client_does_not_wait_for_each_busy_one():
-    # one request reads all 40,000 members of one score: so a turn runs one, which takes longer than a PING of this
-    # script
-    data = request("ZRANGEBYSCORE", "k", 1, 1, "LIMIT", 39_999, 1) * 6
-    reply = flat([b"$5\r\n79999\r\n"]) * 6
+    data, reply = LONG * 6, LONG_REPLY * 6
     with Server("--workers", 1) as server, connected(server, 1) as (quiet,):
-        for first in range(40_000, 80_000, 500):
-            members = range(first, first + 500)
-            same(quiet.ask("ZADD", "k", *(word for member in members for word in (1, member))), b":500\r\n")
+        load(quiet)
         # who asked much is quiet again behind a request alone
         same((quiet.flood(request("PING"), 10, PONG), quiet.ask("PING")), (10, PONG))
         with connected(server, 40) as busy:
@@ -80,6 +86,34 @@ def most_served_behind_a_look(rounds):
 @test
 def a_worker_looks_who_is_ready_before_each_new_or_busy_client():
     same([most_served_behind_a_look(rounds) in (None, 1) for rounds in (1, 10)], [True, True])
+
+
+def looks_and_sends(requests):
+    """How often a server's only worker looks who is ready, and how often it sends, while two clients send so many long requests
+    at once; None where that can't be traced."""
+    with Server("--connections", 2, "--workers", 1) as server, connected(server, 2) as clients:
+        load(clients[0])
+        tracer = traced(server, "-e", "trace=epoll_wait,sendto")
+        if tracer is None:
+            return None
+        for client in clients:
+            client.send(LONG * requests)
+        same([client.file.read(len(LONG_REPLY) * requests) for client in clients], [LONG_REPLY * requests] * 2)
+        for client in clients:
+            same(client.finish(), b"")
+        same(server.ends(), (0, totals(2, 1, 40_000, 40_000, 0, 80), b""))
+        tracer.communicate(timeout=SECONDS)
+    text = read("trace")
+    return text.count(b"epoll_wait("), text.count(b"sendto(")
+
+
+@test
+def a_worker_looks_who_is_ready_behind_each_long_request_of_a_turn():
+    counts = looks_and_sends(40)
+    if counts is not None:
+        looks, sends = counts
+        # a turn has five of them and sends once
+        same((looks >= 80, 16 <= sends <= 32), (True, True))
 
 
 def yields_beside(at_once):

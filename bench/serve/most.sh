@@ -2,13 +2,14 @@
 # The longest that a client waits for the reply to a PING, beside 49 that pipeline 64 requests each without end; and, to
 # compare, the longest wait of a client that alone asks those requests one at a time. In `zcrackd serve` with one worker on
 # a processor of its own, on 64 sets of 100,000 members together. Microseconds, one figure a round, in rising order.
-# Use: bench/serve/most.sh [WORK..]. ROUNDS is 5 if not given, REQUESTS of those that pipeline 1000000. The one alone asks
-# 1,000, some more than there are PINGs meanwhile; the first range of each set is among them.
+# Use: bench/serve/most.sh [WORK..]. ROUNDS is 5 if not given, REQUESTS of those that pipeline 300000, and ALONE of the one alone
+# 10000, so that both take about half a second: the machine holds up a longer run for longer. The first range of each set is
+# among them.
 set -eu
 source "$(dirname "$0")/../common.sh"
 compile most
 works=${*:-zcount ten_lowest zcard}
-requests=${REQUESTS:-1000000}
+requests=${REQUESTS:-300000}
 
 # most_of WORK alone|beside REQUESTS
 most_of() {
@@ -25,7 +26,7 @@ most_of() {
 for round in $(seq "${ROUNDS:-5}"); do
     for name in $works; do
         most_of "$name" beside "$requests"
-        most_of "$name" alone 1000
+        most_of "$name" alone "${ALONE:-10000}"
     done
 done
 for name in $works; do

@@ -6,9 +6,13 @@ ghost use Rattle.connections.specs.declared.connection_in_turns.Next.TheVariants
 ghost use Rattle.connections.specs.declared.connection_in_turns.Stage.TheVariants.{Reads, Runs};
 ghost use Rattle.connections.specs.ConnectionTurnState.{VisitIsSound, IsTaken, GoesOn, WaitsForTold, visit_state, new_state};
 
+mod sending;
+
 use crate::buffers::Buffers;
 use crate::replies::Replies;
-use crate::turn_limits::{MOST_HELD, MOST_REQUESTS, TurnTime};
+use crate::turn_limits::{
+    MOST_HELD, MOST_REQUESTS, Moment, PART_MICROS, PartTime, SETTLED_PART_MICROS, UNWAITED_PARTS,
+};
 use crate::watch::Watched;
 use resp_wire::{ByteDrain, ByteSource, MAX_READS, PolledDrain, PolledSource};
 use session_core::{Ended, Exec, Session, SessionFault, takes_turns};
@@ -31,6 +35,8 @@ pub enum Stage {
 pub enum Next {
     /// Nothing can be done before the device is ready again.
     Waits,
+    /// Its turn has a further part, which can follow at once. What is held waits for that.
+    Underway,
     /// More can be done at once.
     Again,
     /// Its replies wait until their records are settled.
@@ -59,8 +65,12 @@ pub struct Visit<S, D, A: Allocator> {
     is_closed: bool,
     /// Bytes came or went since that was last asked.
     has_moved: bool,
-    /// Its requests may be long, as [`TurnTime`] says.
+    /// How many requests were run in the turn that is under way. None: no turn is.
+    underway: Option<u32>,
+    /// Its requests may be long, as [`PartTime`] says.
     may_be_long: bool,
+    /// How many parts in a row were without replies that waited for records.
+    unwaited: u32,
     ghost sound: { VisitIsSound stage session.decoder session.progress pieces },
 }
 
@@ -84,7 +94,9 @@ impl<S: PolledSource, D: PolledDrain, A: Allocator + Copy> Visit<S, D, A> {
             is_drained: false,
             is_closed: false,
             has_moved: false,
+            underway: None,
             may_be_long: true,
+            unwaited: 0,
         }
     }
 
@@ -135,24 +147,6 @@ impl<S: PolledSource, D: PolledDrain, A: Allocator + Copy> Visit<S, D, A> {
         self.stage == Stage::Reads && self.is_drained && self.replies.len() == 0
     }
 
-    /// Sends what is held. None where the drain failed.
-    fn send(&mut self) -> Option<bool>
-        ensures same { (visit_state self.new.stage (S.told self.new.source)
-            (⟦<Replies<D, A> as ByteDrain>⟧.told self.new.replies) self.new.session.decoder self.new.session.progress)
-            ≡ (visit_state self.old.stage (S.told self.old.source)
-            (⟦<Replies<D, A> as ByteDrain>⟧.told self.old.replies) self.old.session.decoder self.old.session.progress) }
-    {
-        let before = self.replies.len();
-        if before == 0 {
-            return Some(true);
-        }
-        let sent = self.replies.pump();
-        if self.replies.len() < before {
-            self.has_moved = true;
-        }
-        sent.ok()
-    }
-
     /// Takes a piece that was read. Its requests are to be run, or the session has ended.
     fn take_piece(&mut self, piece: &[u8])
         requires stage { self.old.stage ≡ Reads }
@@ -200,8 +194,15 @@ impl<S: PolledSource, D: PolledDrain, A: Allocator + Copy> Visit<S, D, A> {
         }
     }
 
-    /// Runs requests, as many as a turn may have.
-    fn run<R, C: Clock, E: Exec<R, A>>(&mut self, rt: &R, time: &mut TurnTime<'_, C>, exec: &mut E)
+    /// Runs requests, as many as a part of a turn may have, whose first `ran` are run. How many are then, where the part's
+    /// time was over before the turn was.
+    fn run<R, C: Clock, E: Exec<R, A>>(
+        &mut self,
+        rt: &R,
+        ran: u32,
+        time: &mut PartTime<'_, C>,
+        exec: &mut E,
+    ) -> Option<u32>
         requires settled { E.settled exec.old }
         requires runs { self.old.stage ≡ Runs }
         ensures settled { E.settled exec.new }
@@ -211,23 +212,27 @@ impl<S: PolledSource, D: PolledDrain, A: Allocator + Copy> Visit<S, D, A> {
             (⟦<Replies<D, A> as ByteDrain>⟧.told self.new.replies) self.new.session.decoder self.new.session.progress) exec.new }
     {
         takes_turns::<R, A, E>();
-        for count in 0..MOST_REQUESTS {
+        for count in ran..MOST_REQUESTS {
             match self.session.turn(rt, 1, &mut self.replies, exec) {
                 Err(end) => {
                     self.stage = Stage::Ended(Err(end));
-                    return;
+                    return None;
                 }
                 Ok(is_all) => {
                     if is_all {
                         self.stage = Stage::Reads;
-                        return;
+                        return None;
                     }
                 }
             }
-            if self.replies.len() >= MOST_HELD || time.is_over(count) {
-                return;
+            if self.replies.len() >= MOST_HELD {
+                return None;
+            }
+            if time.is_over(count) {
+                return Some(count + 1);
             }
         }
+        None
     }
 
     /// Reads where all that was read is answered.
@@ -241,8 +246,17 @@ impl<S: PolledSource, D: PolledDrain, A: Allocator + Copy> Visit<S, D, A> {
         }
     }
 
-    /// Runs requests where some are held.
-    fn run_held<R, C: Clock, E: Exec<R, A>>(&mut self, rt: &R, clock: &C, exec: &mut E)
+    /// How many microseconds the next part of a turn takes.
+    fn part_micros<C>(&self, moment: &Moment<'_, C>) -> u64 {
+        if moment.settles_later && self.unwaited < UNWAITED_PARTS {
+            SETTLED_PART_MICROS
+        } else {
+            PART_MICROS
+        }
+    }
+
+    /// Runs requests where some are held, unless the turn is to end.
+    fn run_held<R, C: Clock, E: Exec<R, A>>(&mut self, rt: &R, moment: &Moment<'_, C>, exec: &mut E)
         requires settled { E.settled exec.old }
         ensures settled { E.settled exec.new }
         ensures moves { StateMoves E.allows exec.old exec.new }
@@ -250,10 +264,13 @@ impl<S: PolledSource, D: PolledDrain, A: Allocator + Copy> Visit<S, D, A> {
             (⟦<Replies<D, A> as ByteDrain>⟧.told self.old.replies) self.old.session.decoder self.old.session.progress) exec.old (visit_state self.new.stage (S.told self.new.source)
             (⟦<Replies<D, A> as ByteDrain>⟧.told self.new.replies) self.new.session.decoder self.new.session.progress) exec.new }
     {
-        if self.stage == Stage::Runs {
-            let mut time = TurnTime::new(clock, self.may_be_long);
-            self.run(rt, &mut time, exec);
+        let ran = self.underway.take().unwrap_or(0);
+        if self.stage == Stage::Runs && !moment.ends_turn {
+            let micros = self.part_micros(moment);
+            let mut time = PartTime::new(moment.clock, micros, ran, self.may_be_long);
+            let ran = self.run(rt, ran, &mut time, exec);
             self.may_be_long = time.next_may_be_long();
+            self.underway = ran.filter(|ran| *ran < MOST_REQUESTS);
         }
     }
 
@@ -280,38 +297,6 @@ impl<S: PolledSource, D: PolledDrain, A: Allocator + Copy> Visit<S, D, A> {
         buffers.take_back(self.session.take_memory(), self.replies.take_memory());
     }
 
-    /// What follows, where this is what the drain took.
-    fn next(&self, sent: Option<bool>) -> Next
-        ensures sent { result ≡ Settles → ⊥ }
-    {
-        match (sent, self.stage) {
-            (None, _) => Next::Ends,
-            (Some(false), _) => Next::Waits,
-            (Some(true), Stage::Ended(_)) => Next::Ends,
-            (Some(true), Stage::Reads) if self.is_drained => Next::Waits,
-            (Some(true), _) => Next::Again,
-        }
-    }
-
-    /// Sends what is held, where the last record is settled that it may tell of; else it waits for that.
-    fn send_settled(&mut self, told: u64, settled: u64) -> Next
-        ensures same { (visit_state self.new.stage (S.told self.new.source)
-            (⟦<Replies<D, A> as ByteDrain>⟧.told self.new.replies) self.new.session.decoder self.new.session.progress)
-            ≡ (visit_state self.old.stage (S.told self.old.source)
-            (⟦<Replies<D, A> as ByteDrain>⟧.told self.old.replies) self.old.session.decoder self.old.session.progress) }
-        ensures held { settled < told → self.new.replies ≡ self.old.replies }
-        ensures awaited { settled < told → (result ≡ Settles) × (self.new.awaited ≡ told) }
-        ensures waits { result ≡ Settles → settled < told }
-    {
-        if told > settled {
-            self.awaited = told;
-            return Next::Settles;
-        }
-        self.awaited = 0;
-        let sent = self.send();
-        self.next(sent)
-    }
-
     /// The number of the last record that the replies held wait for, 0 for none.
     pub fn awaited(&self) -> u64
         ensures awaited { result ≡ self.now.awaited }
@@ -319,13 +304,13 @@ impl<S: PolledSource, D: PolledDrain, A: Allocator + Copy> Visit<S, D, A> {
         self.awaited
     }
 
-    /// One turn: what was held is sent; then one piece is read, or requests that are left from the
-    /// last one are run, and their replies sent. They wait where they may tell of a record behind the first `settled`:
-    /// [`Visit::let_go`] sends them.
+    /// One turn, or a further part of one: what was held before it is sent; then one piece is read, or requests that are
+    /// left from the last one are run, and behind the last part their replies sent. They wait where they may tell of a
+    /// record behind the first `settled`: [`Visit::let_go`] sends them.
     pub fn turn<R, C: Clock, E: Exec<R, A>>(
         &mut self,
         rt: &R,
-        clock: &C,
+        moment: &Moment<'_, C>,
         buffers: &mut Buffers<A>,
         exec: &mut E,
         settled: u64,
@@ -349,13 +334,13 @@ impl<S: PolledSource, D: PolledDrain, A: Allocator + Copy> Visit<S, D, A> {
         if self.awaited > settled {
             return Next::Settles;
         }
-        let cleared = self.send();
+        let cleared = self.send_before_turn();
         if cleared != Some(true) || matches!(self.stage, Stage::Ended(_)) {
             return self.next(cleared);
         }
         self.lend(buffers);
         self.read_due::<R, E>(buffers, exec);
-        self.run_held(rt, clock, exec);
+        self.run_held(rt, moment, exec);
         let told = exec.take_told();
         let next = self.send_settled(told, settled);
         self.give_back(buffers);

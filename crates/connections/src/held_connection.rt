@@ -9,20 +9,13 @@ ghost use Rattle.connections.specs.ConnectionTurnState.{GoesOn, WaitsForTold, ne
 use crate::buffers::Buffers;
 use crate::connection_in_turns::{Next, Visit};
 use crate::traffic::Traffic;
+use crate::turn_limits::Moment;
 use crate::watch::Watched;
 use resp_wire::{PolledDrain, PolledSource};
 use session_core::Exec;
 use std::alloc::Allocator;
 use std::marker::Model;
 use std::time::{Clock, Duration, Instant};
-
-/// When connections have their turns.
-#[derive(Drop)]
-pub struct Moment<'c, C> {
-    pub clock: &'c C,
-    /// When these turns began, where that is asked for.
-    pub now: Option<Instant>,
-}
 
 /// A connection, and what its worker keeps of it beside.
 #[derive(Drop)]
@@ -153,7 +146,7 @@ impl<S: PolledSource, D: PolledDrain, A: Allocator + Copy> Held<S, D, A> {
         }
     }
 
-    /// The connection's turn, as [`Visit::turn`] says.
+    /// The connection's turn or a part of one, as [`Visit::turn`] says.
     pub fn turn<R, C: Clock, E: Exec<R, A>>(
         &mut self,
         rt: &R,
@@ -171,7 +164,7 @@ impl<S: PolledSource, D: PolledDrain, A: Allocator + Copy> Held<S, D, A> {
         ensures waits { result ≡ Settles → settled < self.new.awaited }
         ensures held { settled < self.old.awaited → self.new ≡ self.old }
     {
-        let next = self.visit.turn(rt, moment.clock, buffers, exec, settled);
+        let next = self.visit.turn(rt, moment, buffers, exec, settled);
         self.note_traffic();
         self.note_moved(moment.now);
         next

@@ -2,7 +2,8 @@
 //!
 //! A worker goes from one ready connection to the next. The turn of each is bounded, so that none
 //! holds up the others: one read, [`MOST_REQUESTS`] requests, [`MOST_HELD`] bytes of replies and
-//! [`MOST_MICROS`] microseconds. What a peer does not take is held, and meanwhile nothing is read from it nor run
+//! [`MOST_PARTS`] parts of [`PART_MICROS`] microseconds. Behind each part a turn ends where one that asks seldom has become
+//! ready. What a peer does not take is held, and meanwhile nothing is read from it nor run
 //! for it. Behind the turns of those that ask much it lets others have its processor ([`Yields`]).
 //!
 //! A reply may tell of a record that was appended to a file and is not settled there, as synced. It waits, and at the
@@ -28,6 +29,8 @@ pub use connection_in_turns::{Next, Stage, Visit};
 pub use keep_alive_and_descriptors::{descriptor_limit, keep_alive};
 pub use many::Connections;
 pub use settle_records::{AtOnce, Settle};
-pub use turn_limits::{MOST_HELD, MOST_MICROS, MOST_REQUESTS};
+pub use turn_limits::{
+    MOST_HELD, MOST_PARTS, MOST_REQUESTS, Moment, PART_MICROS, SETTLED_PART_MICROS,
+};
 pub use watch::{Ringer, Watched};
 pub use yields::Yields;

@@ -10,10 +10,11 @@ mod blocking_reads_when_alone;
 mod serving;
 
 use crate::buffers::Buffers;
-use crate::held_connection::{Held, Moment};
+use crate::held_connection::Held;
 use crate::many::blocking_reads_when_alone::WaitingReads;
 use crate::settle_records::{Settle, settle_to};
 use crate::slots::Slots;
+use crate::turn_limits::Moment;
 use crate::turn_lists::TurnLists;
 use crate::watch::{Ringer, Watch, Watched};
 use crate::yields::Yields;
@@ -35,6 +36,8 @@ pub struct Connections<S: PolledSource, D: PolledDrain, A: Allocator> {
     watch: Watch<A>,
     slots: Slots<Box<Held<S, D, A>, A>, A>,
     lists: TurnLists<A>,
+    /// Nothing was run since it was looked last which are ready.
+    has_looked: bool,
     /// So many records are known to be settled.
     settled: u64,
     buffers: Buffers<A>,
@@ -70,6 +73,7 @@ impl<S: PolledSource + Watched + Drop, D: PolledDrain + Drop, A: Allocator + Cop
             watch: Watch::new(net, alloc)?,
             slots: Slots::new(alloc),
             lists: TurnLists::new(alloc),
+            has_looked: false,
             settled: 0,
             buffers: Buffers::new(alloc)?,
             ends_silent: false,
@@ -181,6 +185,16 @@ impl<S: PolledSource + Watched + Drop, D: PolledDrain + Drop, A: Allocator + Cop
                 self.note(change.place, change.is_closed);
             }
         }
+        self.has_looked = true;
+    }
+
+    /// Notes which others have become ready, where there are others, without waiting.
+    fn look(&mut self)
+        ensures same { self.new ≡ self.old }
+    {
+        if !self.has_looked && self.slots.count() > 1 {
+            self.wait(Some(Duration::ZERO));
+        }
     }
 
     /// Sends the replies of one that waited for its records, where these are settled or can be; else it leaves.
@@ -291,7 +305,7 @@ impl<S: PolledSource + Watched + Drop, D: PolledDrain + Drop, A: Allocator + Cop
     {
         self.wait_due();
         let now = self.now(clock);
-        let moment = Moment { clock, now };
+        let moment = Moment::new(clock, now, settler.settles_later());
         self.serve_by_read(rt, &moment, exec);
         self.serve_woken(rt, &moment, exec);
         self.serve_newcomers(rt, &moment, exec);

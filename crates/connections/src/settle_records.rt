@@ -9,6 +9,10 @@ pub trait Settle<R> {
     /// So many records are settled: as far as contracts see how this settles them.
     ghost settles: { Self → ℕ → Type 0 };
 
+    /// Whether records are settled later than they are appended, so that replies may wait for them. How long turns are hangs
+    /// on this, and nothing else.
+    fn settles_later(&self) -> bool;
+
     /// Settles the record of this number and those before it. Gives how many records are settled: at least as many.
     /// None: they can't be settled, ever.
     fn settle(&self, rt: &R, number: u64) -> Option<u64>
@@ -23,6 +27,10 @@ pub struct AtOnce;
 impl<R> Settle<R> for AtOnce {
     // All are.
     ghost settles = { λ _ _. ⊤ };
+
+    fn settles_later(&self) -> bool {
+        false
+    }
 
     fn settle(&self, _rt: &R, _number: u64) -> Option<u64> {
         Some(u64::MAX)

@@ -40,7 +40,7 @@ impl<A: Allocator + Copy> TurnLists<A> {
 
     /// Whether one that is known to be ready waits for its turn.
     pub fn can_go_on(&self) -> bool {
-        !self.newcomers.is_empty() || !self.ready.is_empty()
+        self.has_first() || !self.ready.is_empty()
     }
 
     /// Watches a connection that begins; one that can't be watched is always ready. None where there is no
@@ -77,11 +77,18 @@ impl<A: Allocator + Copy> TurnLists<A> {
         list.push_back(place).is_ok()
     }
 
-    /// What becomes of a connection after its turn: whether it is in a list again. None: it leaves.
+    /// Whether one has become ready that comes before the turns of busy ones, and before the further parts of one.
+    pub fn has_first(&self) -> bool {
+        !self.woken.is_empty() || !self.newcomers.is_empty()
+    }
+
+    /// What becomes of a connection after its turn, or a part of one: whether it is in a list again or goes on. None: it
+    /// leaves.
     pub fn queue_again(&mut self, place: usize, next: Next) -> Option<bool> {
         match next {
             Next::Ends => None,
             Next::Waits => Some(false),
+            Next::Underway => Some(true),
             Next::Again => {
                 self.ready.push_back(place).ok()?;
                 Some(true)

@@ -104,15 +104,15 @@ pub enum Pace {
     Runs,
     /// Each look is 499 microseconds after the look before.
     Jogs,
-    /// Each look is 125 microseconds after the look before.
+    /// Each look is 25 microseconds after the look before.
     Trots,
-    /// Each look is 124 microseconds after the look before.
+    /// Each look is 24 microseconds after the look before.
     Walks,
-    /// Each look is 50 microseconds after the look before.
+    /// Each look is 12 microseconds after the look before.
     Ambles,
-    /// Each look is 49 microseconds after the look before.
+    /// Each look is 11 microseconds after the look before.
     Creeps,
-    /// The look of this number, counted from 1, is 50 microseconds after the look before; it stands still else.
+    /// The look of this number, counted from 1, is 12 microseconds after the look before; it stands still else.
     Trips(u64),
     /// It can't be told.
     Fails,
@@ -147,11 +147,11 @@ impl Clock for TestClock {
             Pace::Stands => 0,
             Pace::Runs => looks.saturating_mul(1_000),
             Pace::Jogs => looks.saturating_mul(499),
-            Pace::Trots => looks.saturating_mul(125),
-            Pace::Walks => looks.saturating_mul(124),
-            Pace::Ambles => looks.saturating_mul(50),
-            Pace::Creeps => looks.saturating_mul(49),
-            Pace::Trips(number) => if looks < number { 0 } else { 50 },
+            Pace::Trots => looks.saturating_mul(25),
+            Pace::Walks => looks.saturating_mul(24),
+            Pace::Ambles => looks.saturating_mul(12),
+            Pace::Creeps => looks.saturating_mul(11),
+            Pace::Trips(number) => if looks < number { 0 } else { 12 },
             Pace::Fails => return Err(IoError::from(ErrorKind::Unsupported)),
         };
         Ok(Duration::from_micros(micros))

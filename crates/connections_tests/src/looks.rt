@@ -3,7 +3,7 @@
 use crate::devices::{Device, Pace, Sender, Taker, TestClock};
 use crate::model::MOST_TURNS;
 use crate::scripts::Script;
-use connections::{Buffers, Next, Visit};
+use connections::{Buffers, Moment, Next, Visit};
 use resp_wire::{Reading, Writing};
 use session_core::Exec;
 use std::alloc::Global;
@@ -31,8 +31,9 @@ fn serve<R, E: Exec<R, Global>>(
     let source = Reading::new(Sender::new(&script.bytes, device));
     let drain = Writing::new(Taker::new(&mut taken, device));
     let mut visit = Visit::new(alloc, source, drain, false);
+    let moment = Moment::new(clock, None, false);
     for _ in 0..MOST_TURNS {
-        if visit.turn(rt, clock, &mut buffers, exec, u64::MAX) == Next::Ends {
+        if visit.turn(rt, &moment, &mut buffers, exec, u64::MAX) == Next::Ends {
             return Ok(());
         }
     }

@@ -40,19 +40,21 @@ fn outcome(device: Device, number: u64, bytes: usize) -> Call {
     }
 }
 
-/// How many requests a turn may run: until an eighth of a millisecond is over, by looks behind each where they may be long,
-/// and else behind the second and each eighth after the first. From a look that comes 50 microseconds behind the one before
-/// on they are long. Where the time can't be told one is run.
-fn most_of(pace: Pace, may_be_long: bool) -> u32 {
+/// How many requests a part may run of a turn that has run so many: until 25 microseconds are over, by looks behind each
+/// where they may be long, and else behind the part's second and each eighth after the turn's first. From a look that
+/// comes 12 microseconds behind the one before on they are long. Where the time can't be told one is run.
+fn most_of(pace: Pace, may_be_long: bool, ran: u32) -> u32 {
     let (of_long, of_short) = match pace {
         Pace::Stands | Pace::Trips(_) => (MOST_REQUESTS, MOST_REQUESTS),
-        Pace::Creeps => (3, 17),
+        // The third look is behind the second eighth from the second request on.
+        Pace::Creeps => (3, 18 - ran.wrapping_add(1) % 8),
         Pace::Ambles => (3, 4),
         Pace::Walks => (2, 3),
         Pace::Trots | Pace::Jogs | Pace::Runs => (1, 2),
         Pace::Fails => (1, 1),
     };
-    if may_be_long { of_long } else { of_short }
+    let most = if may_be_long { of_long } else { of_short };
+    most.min(MOST_REQUESTS.saturating_sub(ran))
 }
 
 /// Whether requests between two looks are long; None where that can't be told of all.
@@ -80,6 +82,8 @@ struct Modelled<'c> {
     run: usize,
     /// Some that were read may be left to run.
     is_running: bool,
+    /// How many the turn has run that goes on with a further part, 0 where none does.
+    ran: u32,
     /// They may be long.
     may_be_long: bool,
     has_failed: bool,
@@ -98,6 +102,7 @@ impl<'c> Modelled<'c> {
             reads: 0,
             run: 0,
             is_running: false,
+            ran: 0,
             may_be_long: true,
             has_failed: false,
             has_ended: false,
@@ -180,8 +185,14 @@ impl<'c> Modelled<'c> {
         }
     }
 
-    /// A turn: what waits is sent, then a piece is read or what is left of the last one is run, and the
-    /// replies are sent.
+    /// Whether a part that ran so many requests ends by its time before the turn does.
+    fn goes_on(&self, pace: Pace, ran: u32, most: u32) -> bool {
+        let is_timed = !matches!(pace, Pace::Stands | Pace::Trips(_));
+        is_timed && self.is_running && ran == most && self.ran.saturating_add(ran) < MOST_REQUESTS
+    }
+
+    /// A turn, or a further part of one: what waits before it is sent, then a piece is read or what is left of the last one
+    /// is run, and behind the last part the replies are sent.
     fn turn<R, E: Exec<R, Global>>(
         &mut self,
         rt: &R,
@@ -192,15 +203,20 @@ impl<'c> Modelled<'c> {
         requires { E.settled exec.old }
         ensures { E.settled exec.new }
     {
-        if !self.send() {
+        if self.ran == 0 && !self.send() {
             return Ok(());
         }
         self.read_due();
         if !self.has_ended {
-            let most = most_of(pace, self.may_be_long);
+            let most = most_of(pace, self.may_be_long, self.ran);
             let ran = self.run_due(rt, alloc, exec, most)?;
             self.note_time(pace, ran);
-            self.send();
+            if self.goes_on(pace, ran, most) {
+                self.ran = self.ran.saturating_add(ran);
+            } else {
+                self.ran = 0;
+                self.send();
+            }
         }
         Ok(())
     }

@@ -97,10 +97,16 @@ impl<'p> Write for Reader<'p> {
 pub struct Settler<'p> {
     pub page: &'p Page,
     pub most: Option<u64>,
+    /// It says that it settles them later.
+    pub settles_later: bool,
 }
 
 impl<'p, R> Settle<R> for Settler<'p> {
     ghost settles = { λ _ _. ⊤ };
+
+    fn settles_later(&self) -> bool {
+        self.settles_later
+    }
 
     fn settle(&self, _rt: &R, number: u64) -> Option<u64> {
         let digit = b'0' + (number % 10) as u8;

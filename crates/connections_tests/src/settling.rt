@@ -49,19 +49,22 @@ fn begun<'h>(
     Ok(held)
 }
 
-/// How many connections are held after some turns.
+/// How many connections are held after some turns, or fewer until none is, while the time goes so.
 fn left<E: Exec<HostRuntime, Global>>(
     rt: &HostRuntime,
     held: &mut Held<'_>,
     exec: &mut E,
     settler: &Settler<'_>,
-    turns: u32,
+    turns_at: (u32, Pace),
 ) -> usize
     requires { E.settled exec.old }
 {
-    let clock = TestClock::new(Pace::Stands);
+    let (turns, pace) = turns_at;
+    let clock = TestClock::new(pace);
     for _ in 0..turns {
-        held.turn(rt, &clock, exec, settler);
+        if held.count() > 0 {
+            held.turn(rt, &clock, exec, settler);
+        }
     }
     held.count()
 }
@@ -77,8 +80,13 @@ fn played(
 ) -> Result<(Vec<u8>, usize), Fail> {
     let page = Page::new(rt.alloc());
     let mut held = begun(rt, scripts, &page, chunk)?;
-    let settler = Settler { page: &page, most };
-    let left = left(rt, &mut held, &mut new_recorded(rt)?, &settler, turns);
+    let settler = Settler {
+        page: &page,
+        most,
+        settles_later: true,
+    };
+    let turns_at = (turns, Pace::Stands);
+    let left = left(rt, &mut held, &mut new_recorded(rt)?, &settler, turns_at);
     Ok((page.text(rt.alloc())?, left))
 }
 
@@ -137,6 +145,54 @@ fn a_fault_behind_a_change_waits_with_it(rt: HostRuntime) -> Result<(), Fail> {
         assert!(rt; text.starts_with(wanted), "{most:?}");
         assert_eq!(rt; text.len() > wanted.len(), most.is_some());
         assert_eq!(rt; left, 0);
+    }
+    Ok(())
+}
+
+/// PINGs and, behind them, 60 changes, all at once.
+fn pings_and_changes(alloc: Global, pings: usize) -> Result<Script<'static>, Fail> {
+    let mut script = Script::new(alloc, &["PING"], pings)?;
+    let changes = Script::new(alloc, &["ZADD k 1 a"], 60)?;
+    script.bytes.extend_from_slice(&changes.bytes)?;
+    Ok(script)
+}
+
+/// How many times records are settled while these are answered. Each look at the clock is 25 microseconds after the look
+/// before.
+fn settled_times(rt: &HostRuntime, settles_later: bool, pings: usize) -> Result<usize, Fail> {
+    let scripts = [pings_and_changes(rt.alloc(), pings)?];
+    let page = Page::new(rt.alloc());
+    let mut held = begun(rt, &scripts, &page, 65_536)?;
+    let settler = Settler {
+        page: &page,
+        most: Some(0),
+        settles_later,
+    };
+    let turns_at = (100, Pace::Trots);
+    left(rt, &mut held, &mut new_recorded(rt)?, &settler, turns_at);
+    let text = page.text(rt.alloc())?;
+    let replies = text.iter().filter(|byte| **byte == b':').count();
+    if replies != 60 {
+        Err("not all were answered")?;
+    }
+    Ok(text.iter().filter(|byte| **byte == b'[').count())
+}
+
+/// Whether records are settled later, PINGs before 60 changes, and how many times records are settled. Half a millisecond
+/// has 20 requests, and a part of a turn else one. A turn of five parts without a change counts as six, since its end is one,
+/// and behind 16 a part is short, until a change comes.
+const SETTLED: [(bool, usize, usize); 4] = [
+    (true, 0, 3),
+    (true, 260, 3),
+    (true, 280, 4),
+    (false, 0, 60),
+];
+
+#[test]
+fn changes_that_are_settled_later_share_a_settlement(rt: HostRuntime) -> Result<(), Fail> {
+    for (settles_later, pings, wanted) in SETTLED {
+        let times = settled_times(&rt, settles_later, pings)?;
+        assert!(rt; times == wanted, "{settles_later}, {pings}: {times}");
     }
     Ok(())
 }

@@ -6,7 +6,7 @@ use crate::devices::{Device, Devices, Pace, Sender, Taker, TestClock};
 use crate::model::{Case, MOST_TURNS, Told, Wanted, expected};
 use crate::orders::{CYCLES, Order, SEEDS};
 use crate::scripts::Script;
-use connections::{Buffers, Next, Visit};
+use connections::{Buffers, Moment, Next, Visit};
 use resp_wire::{FuseDrain, FuseSource, Reading, Writing};
 use session_core::Exec;
 use std::alloc::Global;
@@ -58,6 +58,7 @@ fn play<R, E: Exec<R, Global>>(
     requires { E.settled exec.old }
 {
     let clock = TestClock::new(case.pace);
+    let moment = Moment::new(&clock, None, false);
     let mut buffers = Buffers::new(alloc)?;
     let mut order = case.order;
     let mut ends = vec![in alloc; 0; clients.len()]?;
@@ -68,7 +69,7 @@ fn play<R, E: Exec<R, Global>>(
         let place = order.next();
         let client = clients.get_mut(place).ok_or("no client")?;
         if !client.has_ended {
-            let next = client.visit.turn(rt, &clock, &mut buffers, exec, u64::MAX);
+            let next = client.visit.turn(rt, &moment, &mut buffers, exec, u64::MAX);
             client.has_ended = next == Next::Ends;
             *ends.get_mut(place).ok_or("no client")? = turn;
         }
@@ -253,7 +254,7 @@ const FEW_ORDERS: [Order; 3] = [
     Order::Seed(1),
 ];
 
-/// How the time goes in turns that end before what was read is answered.
+/// How the time goes in parts of turns that end before what was read is answered.
 const PACES: [Pace; 6] = [
     Pace::Stands,
     Pace::Creeps,

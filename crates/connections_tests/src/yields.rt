@@ -25,8 +25,8 @@ const YIELDS: [(Pace, u32, u32); 9] = [
     (Pace::Runs, 32, 2),
     (Pace::Runs, 33, 3),
     (Pace::Jogs, 33, 33),
-    (Pace::Ambles, 5, 1),
-    (Pace::Ambles, 6, 2),
+    (Pace::Trots, 10, 1),
+    (Pace::Trots, 11, 2),
     (Pace::Stands, 33, 1),
     (Pace::Fails, 33, 0),
 ];

@@ -1,6 +1,6 @@
 //! Byte strings, and lists of them.
 
-ghost use Rattle.std.specs.Prelude.{◌≡◌, ◌≤◌, ◌↔◌, [], length, nat_eq, IfOk, IsOk, IsTrue};
+ghost use Rattle.std.specs.Prelude.{◌≡◌, ◌≤◌, ◌↔◌, [], length, take, nat_eq, IfOk, IsOk, IsTrue};
 ghost use Rattle.std.specs.Cmp.{partial_equiv_from_equiv};
 ghost use Rattle.std.specs.Cmp.Lexicographic.{pointwise, nat_list_eq_equiv, lists_equiv};
 
@@ -63,6 +63,24 @@ impl<A: Allocator> Bytes<A> {
             Storage::Apart(Vec::from_slice(alloc, bytes)?)
         };
         Ok(Bytes { storage })
+    }
+
+    /// A copy of the first `len` of these bytes. With [`IN_PLACE`] bytes or more there, a short one takes least time.
+    ///
+    /// # Errors
+    ///
+    /// As [`Bytes::from_slice`].
+    pub(crate) fn from_first(alloc: A, bytes: &[u8], len: usize) -> Result<Self, AllocError>
+        requires { len ≤ length bytes.now }
+        ensures bytes { IfOk result (λ copy. copy ≡ take len bytes.now) }
+        ensures short { len ≤ IN_PLACE → IsOk result }
+    {
+        if len <= IN_PLACE && IN_PLACE <= bytes.len() {
+            return Ok(Bytes {
+                storage: Storage::InPlace(Inline::first(bytes, len)),
+            });
+        }
+        Bytes::from_slice(alloc, &bytes[..len])
     }
 
     pub fn as_slice(&self) -> &[u8]

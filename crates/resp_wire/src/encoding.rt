@@ -18,9 +18,7 @@ fn end_line<A: Allocator>(out: &mut Vec<u8, A>) -> Result<(), AllocError>
     ensures kept { take (length out.old.items) out.new.items ≡ out.old.items }
     ensures longer { length out.old.items ≤ length out.new.items }
 {
-    out.push(b'\r')?;
-    out.push(b'\n')?;
-    Ok(())
+    out.extend_from_slice(b"\r\n")
 }
 
 /// The digit of a number.

@@ -1,6 +1,6 @@
 //! Parsing at the start of a slice: a value and the bytes behind it, or where parsing stops.
 
-ghost use Rattle.std.specs.Prelude.{◌≡◌, ℕ, ◌+◌, ◌*◌, ◌≤◌, ◌<◌, ◌^◌, List, length, Ok};
+ghost use Rattle.std.specs.Prelude.{◌≡◌, ℕ, ◌+◌, ◌*◌, ◌≤◌, ◌<◌, ◌^◌, List, length, take, Ok, OnOk};
 ghost use Rattle.resp_wire.specs.ParserCodeAgreement.{Gives, GivesUnlessFull};
 ghost use Rattle.resp_wire.specs.Parser.{byte_at, line_end_at, digits_at, number_at, head_at, body_at, argument_at};
 
@@ -81,33 +81,27 @@ pub fn head(bytes: &[u8]) -> Result<(Option<usize>, &[u8]), Stop>
     }
 }
 
-/// So many bytes, and the bytes behind the line end after them.
+/// The bytes behind so many and the line end after them.
 #[tactic(auto, unfolding(crate::specs::Parser::body_at))]
-fn body(len: usize, bytes: &[u8]) -> Result<(&[u8], &[u8]), Stop>
-    ensures { Gives (λ found. (found.0.now, found.1.now)) result (body_at len bytes.now) }
+fn behind_body(len: usize, bytes: &[u8]) -> Result<&[u8], Stop>
+    ensures gives { Gives (λ rest. (take len bytes.now, rest.now)) result (body_at len bytes.now) }
+    ensures within { OnOk result (len ≤ length bytes.now) }
 {
     if bytes.len() < len {
         return Err(Stop::Short);
     }
-    let (text, behind) = bytes.split_at(len);
+    let (_, behind) = bytes.split_at(len);
     let rest = after_line_end(ProtocolFault::BadBulk, behind)?;
-    Ok((text, rest))
-}
-
-/// An argument where it stands, and the bytes behind it.
-#[tactic(auto, unfolding(crate::specs::Parser::argument_at))]
-fn argument_text(bytes: &[u8]) -> Result<(&[u8], &[u8]), Stop>
-    ensures { Gives (λ found. (found.0.now, found.1.now)) result (argument_at bytes.now) }
-{
-    let behind_dollar = after_byte(b'$', ProtocolFault::BadBulk, bytes)?;
-    let (len, behind_line) = number(MAX_LENGTH, ProtocolFault::TooLong, behind_dollar)?;
-    body(len, behind_line)
+    Ok(rest)
 }
 
 /// An argument as a value of its own, and the bytes behind it.
+#[tactic(auto, unfolding(crate::specs::Parser::argument_at))]
 pub fn argument<A: Allocator>(alloc: A, bytes: &[u8]) -> Result<(Bytes<A>, &[u8]), Failure>
     ensures { GivesUnlessFull (λ found. (found.0, found.1.now)) result (argument_at bytes.now) }
 {
-    let (text, rest) = argument_text(bytes)?;
-    Ok((Bytes::from_slice(alloc, text)?, rest))
+    let behind_dollar = after_byte(b'$', ProtocolFault::BadBulk, bytes)?;
+    let (len, behind_line) = number(MAX_LENGTH, ProtocolFault::TooLong, behind_dollar)?;
+    let rest = behind_body(len, behind_line)?;
+    Ok((Bytes::from_first(alloc, behind_line, len)?, rest))
 }

@@ -1,6 +1,6 @@
 //! Bytes that stand in place.
 
-ghost use Rattle.std.specs.Prelude.{◌≡◌, ◌≤◌, length};
+ghost use Rattle.std.specs.Prelude.{◌≡◌, ◌≤◌, length, take};
 
 use std::marker::Model;
 
@@ -35,6 +35,21 @@ impl Inline {
         all[..bytes.len()].copy_from_slice(bytes);
         Inline {
             len: bytes.len() as u8,
+            bytes: all,
+        }
+    }
+
+    /// A copy of the first `len` of at least [`IN_PLACE`] bytes. All of these are copied, though the others are not seen: a
+    /// copy of a length that is known takes a few moves.
+    pub fn first(bytes: &[u8], len: usize) -> Self
+        requires enough { IN_PLACE ≤ length bytes.now }
+        requires within { len ≤ IN_PLACE }
+        ensures { result ≡ take len bytes.now }
+    {
+        let mut all = [0; IN_PLACE];
+        all.copy_from_slice(&bytes[..IN_PLACE]);
+        Inline {
+            len: len as u8,
             bytes: all,
         }
     }

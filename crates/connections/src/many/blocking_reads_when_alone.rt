@@ -3,8 +3,8 @@
 ghost use Rattle.std.specs.Prelude.{◌≡◌};
 ghost use Rattle.connections.specs.HeldConnections.{TurnsAreTaken};
 
-use crate::held_connection::Moment;
 use crate::many::Connections;
+use crate::turn_limits::Moment;
 use crate::watch::Watched;
 use resp_wire::{PolledDrain, PolledSource};
 use session_core::Exec;

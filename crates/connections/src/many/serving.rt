@@ -3,21 +3,57 @@
 ghost use Rattle.std.specs.Prelude.{◌≡◌};
 ghost use Rattle.connections.specs.HeldConnections.{TurnsAreTaken};
 
-use crate::held_connection::Moment;
+use crate::connection_in_turns::Next;
 use crate::many::Connections;
 use crate::traffic::Traffic;
+use crate::turn_limits::{MOST_PARTS, Moment};
 use crate::watch::Watched;
 use resp_wire::{PolledDrain, PolledSource};
 use session_core::{Exec, takes_turns};
 use std::alloc::Allocator;
-use std::time::{Clock, Duration};
+use std::time::Clock;
 
 impl<S: PolledSource + Watched + Drop, D: PolledDrain + Drop, A: Allocator + Copy> Connections<
     S,
     D,
     A,
 > {
-    /// One connection's turn.
+    /// A part of one connection's turn. Whether another part may follow.
+    fn serve_part<R, C: Clock, E: Exec<R, A>>(
+        &mut self,
+        rt: &R,
+        moment: &Moment<'_, C>,
+        place: usize,
+        exec: &mut E,
+    ) -> bool
+        requires settled { E.settled exec.old }
+        ensures { TurnsAreTaken E.allows E.settled self.old exec.old self.new exec.new }
+    {
+        takes_turns::<R, A, E>();
+        if place >= self.slots.len() {
+            return false;
+        }
+        let Some(mut held) = self.slots.take(place) else {
+            return false;
+        };
+        self.waiting_reads.last = place;
+        self.has_looked = false;
+        let next = held.turn(rt, moment, &mut self.buffers, exec, self.settled);
+        let is_underway = next == Next::Underway;
+        match self.lists.queue_again(place, next) {
+            Some(is_queued) => {
+                held.set_queued(is_queued);
+                self.slots.put_back(place, held);
+                is_underway
+            }
+            None => {
+                self.slots.let_go(place);
+                false
+            }
+        }
+    }
+
+    /// One connection's turn. Where one comes first that becomes ready meanwhile, it ends behind the part that is under way.
     pub fn serve<R, C: Clock, E: Exec<R, A>>(
         &mut self,
         rt: &R,
@@ -28,21 +64,14 @@ impl<S: PolledSource + Watched + Drop, D: PolledDrain + Drop, A: Allocator + Cop
         requires settled { E.settled exec.old }
         ensures { TurnsAreTaken E.allows E.settled self.old exec.old self.new exec.new }
     {
-        takes_turns::<R, A, E>();
-        if place >= self.slots.len() {
-            return;
-        }
-        let Some(mut held) = self.slots.take(place) else {
-            return;
-        };
-        self.waiting_reads.last = place;
-        let next = held.turn(rt, moment, &mut self.buffers, exec, self.settled);
-        match self.lists.queue_again(place, next) {
-            Some(is_queued) => {
-                held.set_queued(is_queued);
-                self.slots.put_back(place, held);
+        let mut is_underway = self.serve_part(rt, moment, place, exec);
+        for part in 1..MOST_PARTS + 1 {
+            if !is_underway {
+                return;
             }
-            None => self.slots.let_go(place),
+            self.look();
+            let further = moment.further(part == MOST_PARTS || self.lists.has_first());
+            is_underway = self.serve_part(rt, &further, place, exec);
         }
     }
 
@@ -87,7 +116,7 @@ impl<S: PolledSource + Watched + Drop, D: PolledDrain + Drop, A: Allocator + Cop
         requires settled { E.settled exec.old }
         ensures { TurnsAreTaken E.allows E.settled self.old exec.old self.new exec.new }
     {
-        self.wait(Some(Duration::ZERO));
+        self.look();
         self.serve_woken(rt, moment, exec);
         self.serve(rt, moment, place, exec);
         self.yield_behind(moment.clock, place);

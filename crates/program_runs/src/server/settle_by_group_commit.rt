@@ -29,6 +29,10 @@ impl<'t, R: Wait, K: LogSink, L: Ledger, Y: SyncHandle> Settle<R> for Settling<'
     // What the syncer knows stands behind its lock, and no clause follows it from there.
     ghost settles = { λ _ _. ⊤ };
 
+    fn settles_later(&self) -> bool {
+        self.syncer.is_some()
+    }
+
     fn settle(&self, rt: &R, number: u64) -> Option<u64> {
         match self.syncer {
             Some(syncer) => self.table.settle(rt, syncer, number),

@@ -29,6 +29,12 @@ returns-then-len-ge-MOST_HELD-clause-moves g c = moves_on g.E.Exec.allows _ _ _ 
 pub returns-then-len-ge-MOST_HELD-clause-goes_on : goal.returns-then-len-ge-MOST_HELD-clause-goes_on
 returns-then-len-ge-MOST_HELD-clause-goes_on g c = runs_on g.E.Exec.allows c.takes_turns.ensures.law _ _ _ _ _ _ _ _ _ _ _ _ _ _ _ _ _ (Ok false) c.loop-count.invariant.runs c.loop-count.invariant.goes_on (c.in-Ok.ensures.half c.if-is_all.false) c.loop-count.invariant.runs
 
+pub returns-then-is_over-clause-moves : goal.returns-then-is_over-clause-moves
+returns-then-is_over-clause-moves g c = moves_on g.E.Exec.allows _ _ _ _ _ _ _ _ _ (Ok false) c.loop-count.invariant.moves (c.in-Ok.ensures.half c.if-is_all.false)
+
+pub returns-then-is_over-clause-goes_on : goal.returns-then-is_over-clause-goes_on
+returns-then-is_over-clause-goes_on g c = runs_on g.E.Exec.allows c.takes_turns.ensures.law _ _ _ _ _ _ _ _ _ _ _ _ _ _ _ _ _ (Ok false) c.loop-count.invariant.runs c.loop-count.invariant.goes_on (c.in-Ok.ensures.half c.if-is_all.false) c.loop-count.invariant.runs
+
 pub loop-count-preserved : goal.loop-count-preserved
 loop-count-preserved g c = record {
   settled = c.turn.ensures.settled;

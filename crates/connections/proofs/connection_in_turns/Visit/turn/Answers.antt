@@ -13,7 +13,7 @@ returns-clause-goes_on g c =
     let allows = g.E.Exec.allows in
     goes_still allows _ _ _ _ _ c.take_told-told.ensures.same
     (λ start source₀ drain₀ stands.
-    let cleared = same_goes allows _ _ c.send-cleared.ensures.same _ start source₀ drain₀ stands in
+    let cleared = same_goes allows _ _ c.send_before_turn-cleared.ensures.same _ start source₀ drain₀ stands in
     let lent = same_goes allows _ _ c.lend.ensures.same _ start source₀ drain₀ cleared in
     let ran = c.run_held.ensures.goes_on start source₀ drain₀ (c.read_due.ensures.goes_on start source₀ drain₀ lent) in
     same_goes allows _ _ c.give_back.ensures.same _ start source₀ drain₀ (same_goes allows _ _ c.send_settled-next.ensures.same _ start source₀ drain₀ ran))
