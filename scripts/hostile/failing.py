@@ -202,12 +202,16 @@ class Day:
 
 
 def worker_of(server, client):
-    """The thread that serves a client: it waits for each of its requests."""
-    before = server.waits()
+    """The thread that serves a client: it waits for each of its requests, or for most of them on a busy machine."""
     for _ in range(OFTEN):
-        same(client.ask("PING"), b"+PONG\r\n")
-    after = server.waits()
-    return max(after, key=lambda thread: after[thread] - before.get(thread, 0))
+        before = server.waits()
+        for _ in range(OFTEN):
+            same(client.ask("PING"), b"+PONG\r\n")
+        waited = {thread: waits - before.get(thread, waits) for thread, waits in server.waits().items()}
+        worker = max(waited, key=waited.get)
+        if waited[worker] > OFTEN // 2:
+            return worker
+    raise AssertionError("no thread waits for the requests of a client")
 
 
 def of_two_workers(server, connections):
