@@ -87,6 +87,37 @@ EFFECTS = {
     ),
 }
 
+# Commands in turn, and the record of each. A member that is named again is recorded once, with its last score, in the order of
+# the first mention. Each key begins an example of its own.
+MOVES = [
+    ("ZADD plain CH 1 a 2 a", "ZADD plain 2 a"), ("ZADD plain INCR 5 a", "ZADD plain 7 a"),
+    ("ZADD plain +1.0 b", "ZADD plain 1 b"), ("ZADD plain 3 a 7 a", ""), ("ZADD plain 9 a 8 c 1 b", "ZADD plain 9 a 8 c"),
+    ("ZREM plain a a x", "ZREM plain a"), ("ZREM plain x", ""),
+    # the order is not that of the first score that is taken
+    ("ZADD gt 5 a 1 b", "ZADD gt 5 a 1 b"), ("ZADD gt GT 1 a 5 b 9 a", "ZADD gt 9 a 5 b"), ("ZADD gt GT 9 a 4 b", ""),
+    ("ZADD gt LT 10 b 9 c 3 b", "ZADD gt 3 b 9 c"),
+    # one comes back to the score that it had, and others move
+    ("ZADD back 1 a 2 b", "ZADD back 1 a 2 b"), ("ZADD back 5 a 3 b 1 a", "ZADD back 3 b"),
+    ("ZADD back 7 a 1 d 1 a 2 d", "ZADD back 2 d"), ("ZREM back d b d", "ZREM back d b"),
+    # new members before, between and behind one that was there
+    ("ZADD mixed 1 a", "ZADD mixed 1 a"), ("ZADD mixed 1 b 2 a 3 b 4 c 2 a", "ZADD mixed 3 b 2 a 4 c"),
+    ("ZADD mixed 2 a 1 e 1 f 5 e", "ZADD mixed 5 e 1 f"),
+    ("ZADD nx 1 a", "ZADD nx 1 a"), ("ZADD nx NX 2 a 3 b 4 b", "ZADD nx 3 b"), ("ZADD nx XX 5 c 6 a", "ZADD nx 6 a"),
+    ("ZADD nx XX CH 5 c 6 b 6 a", "ZADD nx 6 b"), ("ZADD nx NX INCR 1 a", ""), ("ZADD nx XX INCR 1 c", ""),
+    ("ZADD nx INCR 0 a", ""), ("ZADD nx INCR -1 d", "ZADD nx -1 d"), ("ZADD none XX 1 a", ""),
+]
+# The most pairs of a command, which are added, and then each get another score.
+MOST_PAIRS = ["ZADD many " + " ".join(f"{number + more} m{number}" for number in range(512)) for more in (0, 1)]
+
+
+@test
+def records_have_the_members_that_move():
+    write("kept", HEADER)
+    status, _, lines = run("stdio", "--file", "kept", given=asked(*(command for command, _ in MOVES), *MOST_PAIRS))
+    same((status, lines), (0, b""))
+    same(read("kept"), HEADER + asked(*(record for _, record in MOVES if record), *MOST_PAIRS))
+
+
 # The replies to two changes, each of one record, where a call fails, and how many bytes are written then. Five writes of 7
 # bytes and a sync make the record of 35 bytes.
 REFUSED_TWICE = FAILED + FAILED_EARLIER

@@ -1,4 +1,4 @@
-//! Logs whose appends leave their syncs to later: synced by themselves, and by a syncer beside them.
+//! Logs whose appends leave their syncs to later, settled by a syncer beside them.
 
 ghost use Rattle.std.specs.Prelude.{◌≡◌};
 
@@ -10,7 +10,6 @@ use std::marker::Brand;
 use std::sync::ledger::{Blank, Ledger};
 use std::sync::{Mutex, Wait};
 use std::test::*;
-use zset_core::Refusal;
 
 /// Appends three records, each by one call of the sink.
 fn append_three<L: Ledger>(alloc: Global, owner: &mut Logged<Sink, L, Global>) -> Result<(), Fail> {
@@ -21,18 +20,16 @@ fn append_three<L: Ledger>(alloc: Global, owner: &mut Logged<Sink, L, Global>) -
     Ok(())
 }
 
-/// An owner whose log syncs later and has three records, and whose sink fails at the call of this number.
+/// An owner whose log syncs later and has three records.
 fn owner_of_three<L: Ledger>(
     rt: &HostRuntime,
     blank: Blank,
-    fails_at: u64,
 ) -> Result<Logged<Sink, L, Global>, Fail>
     requires name { blank.name ≡ L.name }
     requires parts { blank.parts ≡ L.parts }
     requires two { blank.parts ≡ 2 }
 {
     let limits = Limits {
-        fails_at,
         is_deferred: true,
         ..AMPLE
     };
@@ -44,92 +41,6 @@ fn owner_of_three<L: Ledger>(
             Err(fail)
         }
     }
-}
-
-/// 0 where it went well, else the number of the refusal.
-fn outcome(synced: Result<(), Refusal>) -> u64 {
-    match synced {
-        Ok(()) => 0,
-        Err(refusal) => u64::from(refusal.number()),
-    }
-}
-
-/// How many records are settled before, between and behind two syncs, how these went, and how often the sink was called
-/// in all.
-fn synced_twice<L: Ledger>(rt: &HostRuntime, blank: Blank, fails_at: u64) -> Result<[u64; 6], Fail>
-    requires name { blank.name ≡ L.name }
-    requires parts { blank.parts ≡ L.parts }
-    requires two { blank.parts ≡ 2 }
-{
-    let (sets, mut log) = owner_of_three::<L>(rt, blank, fails_at)?.into_parts();
-    drop(sets);
-    let before = log.settled();
-    let first = outcome(log.sync());
-    let between = log.settled();
-    let second = outcome(log.sync());
-    let behind = log.settled();
-    Ok([
-        before,
-        first,
-        between,
-        second,
-        behind,
-        log.into_sink().calls(),
-    ])
-}
-
-/// Which call of the sink fails, 0 for none, and what [`synced_twice`] tells then.
-const SYNCED: [(u64, [u64; 6]); 2] = [(0, [0, 0, 3, 0, 3, 4]), (4, [0, 16, 0, 14, 0, 4])];
-
-// Three records have one sync. One that fails settles nothing, and the sink is not called again.
-#[test]
-fn one_sync_settles_all_records(rt: HostRuntime) -> Result<(), Fail> {
-    for (fails_at, wanted) in SYNCED {
-        let told = synced_twice::<Brand>(&rt, Blank::new(2), fails_at)?;
-        assert!(rt; told == wanted, "fails at {fails_at}");
-    }
-    Ok(())
-}
-
-/// What an owner's sync comes to: which call of the sink fails, 0 for none, whether the records are settled before and
-/// behind it, how it went, and what a change and a reading are answered then.
-type OwnerSync = (u64, [bool; 2], u64, &'static str);
-
-const OWNER_SYNCS: [OwnerSync; 2] = [
-    (0, [false, true], 0, ":1~ :2~ "),
-    (
-        4,
-        [false, false],
-        16,
-        "-ERR 14 append file failed earlier~ :1~ ",
-    ),
-];
-
-/// Whether it comes to that.
-fn is_synced_so<L: Ledger>(rt: &HostRuntime, blank: Blank, sync: OwnerSync) -> Result<bool, Fail>
-    requires name { blank.name ≡ L.name }
-    requires parts { blank.parts ≡ L.parts }
-    requires two { blank.parts ≡ 2 }
-{
-    let (fails_at, settled, synced, replies) = sync;
-    let mut owner = owner_of_three::<L>(rt, blank, fails_at)?;
-    let before = owner.is_settled();
-    let synced_then = outcome(owner.sync());
-    let settled_then = [before, owner.is_settled()];
-    let replies_then = replies_to(rt.alloc(), &mut owner, &["ZADD k 3 b", "ZCARD k"]);
-    drop(owner);
-    let replies_then = replies_then?;
-    Ok(settled_then == settled && synced_then == synced && replies_then.as_str() == replies)
-}
-
-// An owner syncs its log; behind a failure it changes nothing more, and still answers what it holds.
-#[test]
-fn an_owner_settles_its_records(rt: HostRuntime) -> Result<(), Fail> {
-    for sync in OWNER_SYNCS {
-        let is_so = is_synced_so::<Brand>(&rt, Blank::new(2), sync)?;
-        assert!(rt; is_so, "fails at {}", sync.0);
-    }
-    Ok(())
 }
 
 /// How many records are settled, 99 where they can't be.
@@ -149,7 +60,7 @@ fn settled_beside<L: Ledger, R: Wait>(
     requires parts { blank.parts ≡ L.parts }
     requires two { blank.parts ≡ 2 }
 {
-    let (sets, log) = owner_of_three::<L>(host, blank, 0)?.into_parts();
+    let (sets, log) = owner_of_three::<L>(host, blank)?.into_parts();
     drop(sets);
     let log = Mutex::new(log);
     let syncs = Cell::new(0);

@@ -1,13 +1,8 @@
-//! Logs over memory: what a full one refuses, how records are reloaded, and what threads may share of a log.
-
-ghost use Rattle.std.specs.Prelude.{◌≡◌};
+//! Logs over memory: what a full one refuses, and how records are reloaded.
 
 use crate::owners::{AMPLE, Found, Limits, WHOLE_READS, play, reloads_to};
 use crate::versions;
-use append_log::{Log, MemorySink, ReloadFault};
-use std::alloc::Global;
-use std::marker::Brand;
-use std::sync::ledger::{Blank, Ledger};
+use append_log::ReloadFault;
 use std::test::*;
 
 /// Commands over a log of such limits: the replies, the records that were appended, whether the log is broken then, how
@@ -141,26 +136,5 @@ fn files_are_reloaded_as_told(rt: HostRuntime) -> Result<(), Fail> {
             assert!(rt; is_reloaded(&rt, reload)?, "{theme}: case {at}");
         }
     }
-    Ok(())
-}
-
-// It takes only what threads may hold and share.
-fn is_shared<T: Send + Sync>(_value: &T) {}
-
-fn first_count<L: Ledger + Send + Sync>(blank: Blank, sink: MemorySink<Global>) -> u64
-    requires name { blank.name ≡ L.name }
-    requires parts { blank.parts ≡ L.parts }
-    requires two { blank.parts ≡ 2 }
-{
-    let mut log = Log::<_, L>::new(blank, sink, 10);
-    let share = log.split();
-    is_shared(&share);
-    share.count()
-}
-
-#[test]
-fn shared_counts(rt: HostRuntime) -> Result<(), Fail> {
-    let sink = MemorySink::new(rt.alloc(), 64);
-    assert_eq!(rt; first_count::<Brand>(Blank::new(2), sink), 0);
     Ok(())
 }

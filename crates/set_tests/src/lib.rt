@@ -9,11 +9,9 @@ mod columns;
 #[cfg(test)]
 mod cracks;
 #[cfg(test)]
-mod effects;
-#[cfg(test)]
 mod owners;
 #[cfg(test)]
-mod readings;
+mod refusals;
 #[cfg(test)]
 mod trials;
 #[cfg(test)]

@@ -1,16 +1,14 @@
-//! What owners of sets tell of a change before it is made, and list.
+//! What owners of sets list.
 
-ghost use Rattle.std.specs.Prelude.{◌≡◌, None, IfOk, IsSome, OnOk, OnErr, option_map};
-ghost use Rattle.zset_core.specs.AbstractCommand.{key_of};
+ghost use Rattle.std.specs.Prelude.{◌≡◌, None};
 
-use crate::effects::EFFECTS;
 use crate::trials::{Trial, expect_of_owners};
 use crack_kernel::Row;
 use resp_wire::{Bytes, BytesList, Reply, Request, write_reply};
 use std::alloc::Global;
 use std::hash::RandomState;
 use std::test::Fail;
-use zset_core::{Command, OneOwner, Outline};
+use zset_core::{Command, OneOwner};
 
 pub type Owner = OneOwner<RandomState, Global>;
 
@@ -78,67 +76,6 @@ fn expect_replies(alloc: Global, owner: &mut Owner, rows: &[(&str, &str)]) -> Re
     Ok(())
 }
 
-// How many members a command that changes sets is prepared to add and to take out, and whether it changes its set.
-fn outline_of(alloc: Global, owner: &mut Owner, text: &str) -> Result<(usize, usize, bool), Fail>
-    requires { owner.old.next ≡ None }
-    ensures { owner.new.next ≡ None }
-{
-    let command = command(alloc, text)?;
-    if !command.writes() {
-        Err("a reading command")?;
-    }
-    match owner.prepare(&command) {
-        Err(_) => Err("refused")?,
-        Ok(outline) => {
-            owner.drop_prepared(&command);
-            let Outline {
-                added,
-                removed,
-                changed,
-            } = outline;
-            Ok((added, removed, changed))
-        }
-    }
-}
-
-// Commands that change sets, in turn, each with how many members it adds and takes out, and whether it
-// changes its set. None is committed.
-const OUTLINES: [(&str, (usize, usize, bool)); 9] = [
-    ("ZADD k CH 1 c 2 c", (1, 0, true)),
-    ("ZADD k 5 a 1 a", (0, 0, false)),
-    ("ZADD k 5 a", (0, 0, true)),
-    ("ZADD other XX 5 a", (0, 0, false)),
-    ("ZREM k a a x", (0, 1, true)),
-    ("ZREM k x", (0, 0, false)),
-    ("ZREMRANGEBYSCORE k 1 2", (0, 2, true)),
-    ("ZREMRANGEBYSCORE k (1 +inf", (0, 1, true)),
-    ("ZREMRANGEBYSCORE k 3 9", (0, 0, false)),
-];
-
-// A command's outline is as wanted.
-fn expect_outline(
-    alloc: Global,
-    owner: &mut Owner,
-    text: &str,
-    want: (usize, usize, bool),
-) -> Result<(), Fail>
-    requires { owner.old.next ≡ None }
-    ensures { owner.new.next ≡ None }
-{
-    expect_that(outline_of(alloc, owner, text)? == want, text)
-}
-
-/// The outlines are those of a set with two members, which stays.
-pub fn expect_outlines(alloc: Global, owner: &mut Owner) -> Result<(), Fail>
-    requires { owner.old.next ≡ None }
-{
-    expect_reply(alloc, owner, "ZADD k 1 a 2 b", ":2~")?;
-    for (text, counts) in &OUTLINES {
-        expect_outline(alloc, owner, text, *counts)?;
-    }
-    expect_reply(alloc, owner, "ZCARD k", ":2~")
-}
-
 // Sets at two keys, and one that is gone again.
 const TWO_KEYS: [(&str, &str); 4] = [
     ("ZADD k 1 b 1 a 1 B", ":3~"),
@@ -197,11 +134,4 @@ const LISTED: &[Trial] = &[Trial::Listed];
 #[test]
 fn keys_and_pairs_are_listed_in_order(rt: HostRuntime) -> Result<(), Fail> {
     expect_of_owners(&rt, LISTED)
-}
-
-const TOLD: &[Trial] = &[Trial::Outlines, Trial::Effects(EFFECTS), Trial::ManyEffects];
-
-#[test]
-fn changes_are_told_before_they_are_made(rt: HostRuntime) -> Result<(), Fail> {
-    expect_of_owners(&rt, TOLD)
 }

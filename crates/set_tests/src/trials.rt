@@ -3,8 +3,7 @@
 ghost use Rattle.std.specs.Prelude.{◌≡◌, None};
 
 use crate::columns::{Set, expect, expect_few_pivots};
-use crate::effects::{expect_effects, expect_many};
-use crate::owners::{Owner, expect_listed, expect_outlines};
+use crate::owners::{Owner, expect_listed};
 use crate::windows::{expect_narrowed, expect_short_pieces};
 use std::alloc::Global;
 use std::hash::RandomState;
@@ -14,10 +13,6 @@ use zset_core::{OneOwner, ZSet};
 
 /// What is asked of an owner.
 pub enum Trial {
-    /// Commands in turn, with the members that they move.
-    Effects(&'static [(&'static str, &'static str)]),
-    ManyEffects,
-    Outlines,
     Listed,
     ShortPieces,
 }
@@ -26,9 +21,6 @@ fn expect_trial(alloc: Global, owner: &mut Owner, trial: &Trial) -> Result<(), F
     requires { owner.old.next ≡ None }
 {
     match trial {
-        Trial::Effects(rows) => expect_effects(alloc, owner, rows),
-        Trial::ManyEffects => expect_many(alloc, owner),
-        Trial::Outlines => expect_outlines(alloc, owner),
         Trial::Listed => expect_listed(alloc, owner),
         Trial::ShortPieces => expect_short_pieces(alloc, owner),
     }

@@ -4,7 +4,7 @@ use crate::tables::{DEFERRED, Example, FOUR_PLACES, Plan, SILENCE, Talk, expect_
 use std::test::*;
 
 // Places of which each set is run so often at most.
-const SPENT: [Example; 2] = [
+const SPENT: [Example; 3] = [
     (
         "a place that answered as many runs as it may still answers under the shared lock",
         Talk {
@@ -35,6 +35,25 @@ const SPENT: [Example; 2] = [
             ..SILENCE
         },
         ":2~ :1~ :1~ :0~ r12 r12 ",
+    ),
+    (
+        "the runs of both workers are counted at their place together, and those of another place apart",
+        Talk {
+            plan: Plan {
+                max_runs: 3,
+                ..FOUR_PLACES
+            },
+            first: &["ZADD k 1 a"],
+            second: &[
+                "ZADD k 1 a",
+                "ZADD k 1 a",
+                "ZADD k 1 a",
+                "ZADD j 1 x",
+                "ZCARD k",
+            ],
+            ..SILENCE
+        },
+        ":1~ :0~ :0~ r12 :1~ :1~ ",
     ),
 ];
 

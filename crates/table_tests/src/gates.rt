@@ -1,8 +1,8 @@
-//! A run that is held inside its place's lock while another is asked for: one of another place is
-//! answered meanwhile, one of the same place waits unless both read.
+//! A worker's run that is held inside its place's lock while another worker asks for one: of another place it is
+//! answered meanwhile, of the same place it waits unless both read.
 
-use crate::tables::Day;
-use crate::workers::{AtOnce, FREE, Lists, MANY_TURNS, Manner, Race, commands, race_of};
+use crate::tables::FOUR_PLACES;
+use crate::workers::{AtOnce, Lists, MANY_TURNS, Manner, commands, race_of};
 use set_table::Totals;
 use std::process::Abort;
 use std::sync::Wait;
@@ -23,12 +23,12 @@ struct Pair {
     is_beside: bool,
 }
 
-// What both are told. `locks` waits for the table's locks.
+// What both are told, and the totals of their table. `locks` waits for the table's locks.
 fn told_to<R: Threads + Wait + AllocGlobal + Sync>(
     rt: &HostRuntime,
     locks: &R,
     pair: &Pair,
-) -> Result<(AtOnce, Day), Fail> {
+) -> Result<(AtOnce, Totals), Fail> {
     let before = commands(rt.alloc(), pair.before)?;
     let held = commands(rt.alloc(), &[pair.held])?;
     let beside = commands(rt.alloc(), &[pair.beside])?;
@@ -37,16 +37,12 @@ fn told_to<R: Threads + Wait + AllocGlobal + Sync>(
     } else {
         FEW_TURNS
     };
-    let workers = Race {
-        manner: Manner::Held(turns),
-        ..FREE
-    };
     let lists = Lists {
         before: &before,
         first: &held,
         second: &beside,
     };
-    race_of(rt, locks, &workers, lists)
+    race_of(rt, locks, FOUR_PLACES, Manner::Held(turns), lists)
 }
 
 // Both are answered as wanted. Gives the totals of their table.
@@ -55,7 +51,7 @@ fn expect_pair<R: Abort + Threads + Wait + AllocGlobal + Sync>(
     locks: &R,
     pair: &Pair,
 ) -> Result<Totals, Fail> {
-    let (told, day) = told_to(rt, locks, pair)?;
+    let (told, totals) = told_to(rt, locks, pair)?;
     let replies = told.text(rt.alloc())?;
     assert!(locks;
         (replies.as_str(), !told.ran_out) == (pair.replies, pair.is_beside),
@@ -63,10 +59,19 @@ fn expect_pair<R: Abort + Threads + Wait + AllocGlobal + Sync>(
         pair.held,
         pair.beside
     );
-    Ok(day.closed.totals)
+    Ok(totals)
 }
 
-// One Mutex for each set would let the wait run out.
+// Commands of two places. One Mutex round all sets would let the wait run out.
+const OF_TWO_KEYS: Pair = Pair {
+    before: &["ZADD b 1 y", "ZREM b y"],
+    held: "ZADD a 1 x",
+    beside: "ZCARD b",
+    replies: ":1~ :0~",
+    is_beside: true,
+};
+
+// Two readers of one place. One Mutex for each set would let the wait run out.
 const READERS: Pair = Pair {
     before: &["ZADD k 1 a"],
     held: "ZCARD k",
@@ -75,18 +80,38 @@ const READERS: Pair = Pair {
     is_beside: true,
 };
 
-const TOTALS_OF_READERS: Totals = Totals {
-    sets: 1,
-    members: 1,
-    opened: 0,
-    added: 1,
-    removed: 0,
-    records: 1,
-};
+// Pairs with the totals of their tables.
+const COUNTED: [(Pair, Totals); 2] = [
+    (
+        OF_TWO_KEYS,
+        Totals {
+            sets: 1,
+            members: 1,
+            opened: 0,
+            added: 2,
+            removed: 1,
+            records: 3,
+        },
+    ),
+    (
+        READERS,
+        Totals {
+            sets: 1,
+            members: 1,
+            opened: 0,
+            added: 1,
+            removed: 0,
+            records: 1,
+        },
+    ),
+];
 
 #[test]
-fn readers_share_a_place(rt: HostRuntime) -> Result<(), Fail> {
-    assert_eq!(rt; expect_pair(&rt, &rt, &READERS)?, TOTALS_OF_READERS);
+fn what_pairs_change_is_in_the_totals(rt: HostRuntime) -> Result<(), Fail> {
+    for (pair, totals) in COUNTED {
+        let told = expect_pair(&rt, &rt, &pair)?;
+        assert_eq!(rt; told, totals, "of {} beside {}", pair.held, pair.beside);
+    }
     Ok(())
 }
 
@@ -108,15 +133,7 @@ const IN_TURN: Pair = Pair {
     is_beside: false,
 };
 
-const PAIRS: [Pair; 10] = [
-    // One Mutex round all sets would let the wait run out.
-    Pair {
-        before: &["ZADD b 1 y", "ZREM b y"],
-        held: "ZADD a 1 x",
-        beside: "ZCARD b",
-        replies: ":1~ :0~",
-        is_beside: true,
-    },
+const PAIRS: [Pair; 9] = [
     // A reading of a range that takes its set's lock alone would let the wait run out.
     OF_RANGES,
     Pair {
@@ -163,7 +180,7 @@ const PAIRS: [Pair; 10] = [
 ];
 
 #[test]
-fn a_held_place_leaves_others_and_readers(rt: HostRuntime) -> Result<(), Fail> {
+fn a_held_place_leaves_readers(rt: HostRuntime) -> Result<(), Fail> {
     for pair in PAIRS {
         expect_pair(&rt, &rt, &pair)?;
     }

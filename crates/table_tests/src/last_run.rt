@@ -1,20 +1,13 @@
 //! Two readers that find one run left at a place.
 
-use crate::tables::{FOUR_PLACES, Plan, SILENCE, Talk};
+use crate::tables::{FOUR_PLACES, Plan};
 use crate::windows::filling;
-use crate::workers::{FREE, Lists, Manner, Race, commands, race_of};
+use crate::workers::{Lists, Manner, commands, race_of};
 use std::test::*;
 
-const READERS: Race<'static> = Race {
-    manner: Manner::Together,
-    talk: Talk {
-        plan: Plan {
-            max_runs: 4,
-            ..FOUR_PLACES
-        },
-        ..SILENCE
-    },
-    ..FREE
+const FOUR_RUNS: Plan = Plan {
+    max_runs: 4,
+    ..FOUR_PLACES
 };
 
 // Two readers of a window for which their set is ready, but had better be run, where it has one run left: filling it and
@@ -32,7 +25,7 @@ fn the_last_run_is_taken_from_a_reader(rt: HostRuntime) -> Result<(), Fail> {
         first: &window,
         second: &window,
     };
-    let (told, _day) = race_of(&rt, &rt, &READERS, lists)?;
+    let (told, _totals) = race_of(&rt, &rt, FOUR_RUNS, Manner::Together, lists)?;
     assert_eq!(rt; told.text(rt.alloc())?.as_str(), "*1~$4~m500~ *1~$4~m500~");
     Ok(())
 }

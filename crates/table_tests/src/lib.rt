@@ -19,8 +19,6 @@ mod gates;
 #[cfg(test)]
 mod last_run;
 #[cfg(test)]
-mod runs;
-#[cfg(test)]
 mod tables;
 #[cfg(test)]
 mod windows;

@@ -170,7 +170,7 @@ pub struct Day {
 }
 
 /// What two workers are told, one after the other.
-pub fn told_to_both<L: Ledger, R: Wait, G: TestGate>(
+fn told_to_both<L: Ledger, R: Wait, G: TestGate>(
     rt: &R,
     alloc: Global,
     table: &Sets<L>,

@@ -4,11 +4,13 @@ ghost use Rattle.std.specs.Prelude.{◌≡◌, ◌≤◌, None, IfOk};
 ghost use Rattle.set_table.specs.TableAndPassViews.{IsPassOf};
 
 use crate::exchange::{Owner, SetsOver, command, owner_of, text_of};
-use crate::tables::{Day, SILENCE, Sets, Talk, close, opened, told_to_both};
+use crate::tables::{Plan, close, opened};
 use append_log::LogSink;
 use resp_wire::write_reply;
-use set_table::{Answered, NoGate, Pass, TestGate};
+use session_core::{Exec, Worker};
+use set_table::{NoGate, Pass, TestGate, Totals};
 use std::alloc::Global;
+use std::hash::RandomState;
 use std::marker::Brand;
 use std::sync::Wait;
 use std::sync::atomic::{AtomicU64, Ordering};
@@ -24,8 +26,6 @@ pub const MANY_TURNS: u64 = 1_000_000_000;
 /// How two workers wait for one another.
 #[derive(Clone, Copy)]
 pub enum Manner {
-    /// Not at all.
-    Free,
     /// The second begins when a run of the first is inside its lock. This one is held there until the second is through,
     /// or for so many turns.
     Held(u64),
@@ -52,6 +52,14 @@ impl Signals {
             ran_out: AtomicU64::new(0),
         }
     }
+
+    /// Whether the second worker may begin.
+    fn second_may_begin(&self) -> bool {
+        match self.manner {
+            Manner::Held(_) => wait_for(&self.inside, 1, MANY_TURNS),
+            Manner::Together => true,
+        }
+    }
 }
 
 /// Waits for a count. False where it was not reached in so many turns.
@@ -73,24 +81,10 @@ struct Post<'s> {
 }
 
 impl Post<'_> {
-    /// Whether the worker may begin.
-    fn begin(&self) -> bool {
-        match self.signals.manner {
-            Manner::Held(_) => self.is_first || wait_for(&self.signals.inside, 1, MANY_TURNS),
-            _ => true,
-        }
-    }
-
     /// Holds a run of the first worker.
     fn hold(&self, turns: u64) {
         if self.is_first && !wait_for(&self.signals.through, 1, turns) {
             self.signals.ran_out.store(1, Ordering::SeqCst);
-        }
-    }
-
-    fn end(&self) {
-        if !self.is_first {
-            self.signals.through.store(1, Ordering::SeqCst);
         }
     }
 }
@@ -99,7 +93,6 @@ impl TestGate for Post<'_> {
     fn inside(&self, _place: usize) {
         self.signals.inside.fetch_add(1, Ordering::SeqCst);
         match self.signals.manner {
-            Manner::Free => {}
             Manner::Held(turns) => self.hold(turns),
             Manner::Together => {
                 wait_for(&self.signals.inside, 2, MANY_TURNS);
@@ -108,98 +101,107 @@ impl TestGate for Post<'_> {
     }
 }
 
-/// Claims a key, and appends its place.
-fn note_claim<S: LogSink, L: Ledger>(
-    alloc: Global,
-    table: &SetsOver<S, L>,
-    pass: &mut Pass<Global>,
-    key: &[u8],
-    bytes: &mut Vec<u8>,
-) -> Option<()>
-    requires { IsPassOf table.now pass.old }
-    ensures { IsPassOf table.now pass.new }
-{
-    let place = table.claim(pass, key).ok()?;
-    let text = format!(in alloc; "{place}").ok()?;
-    bytes.extend_from_slice(text.as_bytes()).ok()
-}
+/// A worker that calls a gate inside the locks of sets.
+type Gated<'t, S, L, G> = Worker<'t, RandomState, S, L, Global, G>;
 
 /// Runs a command, and appends its reply.
-fn note_reply<S: LogSink, L: Ledger, R: Wait, G: TestGate>(
+fn note_reply<S: LogSink, L: Ledger, R: Wait, G: TestGate + Drop>(
     rt: &R,
-    table: &SetsOver<S, L>,
-    pass: &mut Pass<Global>,
+    worker: &mut Gated<'_, S, L, G>,
     command: &Command<Global>,
-    gate: &G,
     bytes: &mut Vec<u8>,
 ) -> Option<()>
-    requires { IsPassOf table.now pass.old }
-    ensures { IsPassOf table.now pass.new }
+    ensures { worker.new.table ≡ worker.old.table }
 {
-    let reply = match table.run(rt, pass, command, gate).ok()? {
-        Answered::Ran(answer) => answer.into_reply(),
-        Answered::NoPlace(reply) => reply,
-    };
+    let reply = worker.run(rt, command).ok()?;
     write_reply(&reply, bytes).ok()
 }
 
-/// The keys that a worker claims, each of one byte, and the commands that it runs then.
-#[derive(Clone, Copy)]
-struct Shift<'s> {
-    keys: &'s [u8],
-    commands: &'s [Command<Global>],
-}
-
-/// What a worker is told of its keys and commands, or None where one was refused.
-fn told_on<S: LogSink, L: Ledger, R: Wait, G: TestGate>(
+/// The bytes of what a worker is told, or None where a command was refused.
+fn told_on<S: LogSink, L: Ledger, R: Wait, G: TestGate + Drop>(
     rt: &R,
     alloc: Global,
-    table: &SetsOver<S, L>,
-    pass: &mut Pass<Global>,
-    shift: Shift<'_>,
-    gate: &G,
+    worker: &mut Gated<'_, S, L, G>,
+    commands: &[Command<Global>],
 ) -> Option<Vec<u8>>
-    requires { IsPassOf table.now pass.old }
-    ensures { IsPassOf table.now pass.new }
+    ensures { worker.new.table ≡ worker.old.table }
 {
     let mut bytes = Vec::new(alloc);
-    for key in shift.keys {
-        note_claim(alloc, table, pass, &[*key], &mut bytes)?;
-    }
-    for command in shift.commands {
-        note_reply(rt, table, pass, command, gate, &mut bytes)?;
+    for command in commands {
+        note_reply(rt, worker, command, &mut bytes)?;
     }
     Some(bytes)
 }
 
 type Worked = (Option<Vec<u8>>, Pass<Global>);
 
-/// The same with a pass that is handed over, once the worker may begin.
-fn work<S: LogSink, L: Ledger, R: Wait + AllocGlobal>(
+/// What a worker with a pass is told, and the pass.
+fn work<S: LogSink, L: Ledger, R: Wait, G: TestGate + Drop>(
     rt: &R,
+    alloc: Global,
     table: &SetsOver<S, L>,
     pass: Pass<Global>,
-    shift: Shift<'_>,
-    post: Post<'_>,
+    commands: &[Command<Global>],
+    gate: G,
 ) -> (Option<Vec<u8>>, Pass<Global>)
     requires { IsPassOf table.now pass }
     ensures { IsPassOf table.now result.1 }
 {
-    if !post.begin() {
-        return (None, pass);
-    }
-    let mut pass = pass;
-    let told = told_on(rt, rt.alloc(), table, &mut pass, shift, &post);
-    post.end();
-    (told, pass)
+    let mut worker = Worker::new(table, pass, gate);
+    let told = told_on(rt, alloc, &mut worker, commands);
+    (told, worker.into_pass())
 }
 
-/// Both shifts, each on a thread of its own.
-fn work_at_once<S: LogSink + Send, L: Ledger + Send + Sync, R: Threads + Wait + AllocGlobal + Sync>(
+/// The same of the first of two workers, at its post.
+fn work_first<S: LogSink, L: Ledger, R: Wait>(
     rt: &R,
+    alloc: Global,
+    table: &SetsOver<S, L>,
+    pass: Pass<Global>,
+    commands: &[Command<Global>],
+    signals: &Signals,
+) -> (Option<Vec<u8>>, Pass<Global>)
+    requires { IsPassOf table.now pass }
+    ensures { IsPassOf table.now result.1 }
+{
+    let post = Post {
+        signals,
+        is_first: true,
+    };
+    work(rt, alloc, table, pass, commands, post)
+}
+
+/// The same of the second, once it may begin.
+fn work_second<S: LogSink, L: Ledger, R: Wait>(
+    rt: &R,
+    alloc: Global,
+    table: &SetsOver<S, L>,
+    pass: Pass<Global>,
+    commands: &[Command<Global>],
+    signals: &Signals,
+) -> (Option<Vec<u8>>, Pass<Global>)
+    requires { IsPassOf table.now pass }
+    ensures { IsPassOf table.now result.1 }
+{
+    if !signals.second_may_begin() {
+        return (None, pass);
+    }
+    let post = Post {
+        signals,
+        is_first: false,
+    };
+    let worked = work(rt, alloc, table, pass, commands, post);
+    signals.through.store(1, Ordering::SeqCst);
+    worked
+}
+
+/// Two workers, each on a thread of its own.
+fn work_at_once<S: LogSink + Send, L: Ledger + Send + Sync, R: Threads + Wait + Sync>(
+    rt: &R,
+    alloc: Global,
     table: &SetsOver<S, L>,
     passes: (Pass<Global>, Pass<Global>),
-    shifts: (Shift<'_>, Shift<'_>),
+    lists: (&[Command<Global>], &[Command<Global>]),
     signals: &Signals,
 ) -> (Worked, Worked)
     requires first { IsPassOf table.now passes.0 }
@@ -208,54 +210,17 @@ fn work_at_once<S: LogSink + Send, L: Ledger + Send + Sync, R: Threads + Wait + 
     ensures second { IsPassOf table.now result.1.1 }
 {
     let (first, second) = passes;
-    let Shift { keys, commands } = shifts.0;
-    let Shift {
-        keys: other_keys,
-        commands: other_commands,
-    } = shifts.1;
+    let (commands, other_commands) = lists;
     let one = move || -> (Option<Vec<u8>>, Pass<Global>)
         requires { IsPassOf table.now first }
         ensures { IsPassOf table.entry.now result.1 }
-    {
-        let shift = Shift { keys, commands };
-        let post = Post {
-            signals,
-            is_first: true,
-        };
-        work(rt, table, first, shift, post)
-    };
+    { work_first(rt, alloc, table, first, commands, signals) };
     let other = move || -> (Option<Vec<u8>>, Pass<Global>)
         requires { IsPassOf table.now second }
         ensures { IsPassOf table.entry.now result.1 }
-    {
-        let shift = Shift {
-            keys: other_keys,
-            commands: other_commands,
-        };
-        let post = Post {
-            signals,
-            is_first: false,
-        };
-        work(rt, table, second, shift, post)
-    };
+    { work_second(rt, alloc, table, second, other_commands, signals) };
     thread::join(rt, one, other)
 }
-
-/// A table of which two workers ask at once: the keys of one byte that each claims first, how they wait for one another,
-/// and what both ask one after the other then.
-#[derive(Clone, Copy)]
-pub struct Race<'t> {
-    pub keys: (&'t [u8], &'t [u8]),
-    pub manner: Manner,
-    pub talk: Talk<'t>,
-}
-
-/// Two workers that run commands alone, and do not wait.
-pub const FREE: Race<'static> = Race {
-    keys: (b"", b""),
-    manner: Manner::Free,
-    talk: SILENCE,
-};
 
 /// The commands that the second worker runs before, and those that both run at once.
 #[derive(Clone, Copy)]
@@ -263,15 +228,6 @@ pub struct Lists<'c> {
     pub before: &'c [Command<Global>],
     pub first: &'c [Command<Global>],
     pub second: &'c [Command<Global>],
-}
-
-/// Commands that both run at once, and none before.
-pub fn lists_of<'c>(first: &'c [Command<Global>], second: &'c [Command<Global>]) -> Lists<'c> {
-    Lists {
-        before: &[],
-        first,
-        second,
-    }
 }
 
 /// What two workers are told at once, and whether the first was held for all of its turns.
@@ -291,120 +247,70 @@ impl AtOnce {
     }
 }
 
-/// What two workers are told at once of a table, and their passes.
-fn told_at_once<S: LogSink + Send, L: Ledger + Send + Sync, R: Threads + Wait + AllocGlobal + Sync>(
+/// What two workers are told at once of a table, behind what the second runs before, and their passes.
+fn told_at_once<S: LogSink + Send, L: Ledger + Send + Sync, R: Threads + Wait + Sync>(
     rt: &R,
+    alloc: Global,
     table: &SetsOver<S, L>,
     passes: (Pass<Global>, Pass<Global>),
-    race: &Race<'_>,
+    manner: Manner,
     lists: Lists<'_>,
-) -> (AtOnce, Pass<Global>, Pass<Global>)
-    requires first { IsPassOf table.now passes.0 }
-    requires second { IsPassOf table.now passes.1 }
-    ensures first { IsPassOf table.now result.1 }
-    ensures second { IsPassOf table.now result.2 }
-{
-    let signals = Signals::new(race.manner);
-    let low = Shift {
-        keys: race.keys.0,
-        commands: lists.first,
-    };
-    let high = Shift {
-        keys: race.keys.1,
-        commands: lists.second,
-    };
-    let told = work_at_once(rt, table, passes, (low, high), &signals);
-    let ((one, first), (other, second)) = told;
-    let ran_out = signals.ran_out.load(Ordering::SeqCst) == 1;
-    (
-        AtOnce {
-            one,
-            other,
-            ran_out,
-        },
-        first,
-        second,
-    )
-}
-
-/// Runs commands, none of which is refused.
-fn run_all<S: LogSink, L: Ledger, R: Wait>(
-    rt: &R,
-    table: &SetsOver<S, L>,
-    pass: &mut Pass<Global>,
-    commands: &[Command<Global>],
-) -> Result<(), Fail>
-    requires { IsPassOf table.now pass.old }
-    ensures { IsPassOf table.now pass.new }
-{
-    for command in commands {
-        if table.run(rt, pass, command, &NoGate).is_err() {
-            return Err("refused")?;
-        }
-    }
-    Ok(())
-}
-
-/// What two workers are told at once of a table, and one after the other then; and their passes.
-fn told_in_race<L: Ledger + Send + Sync, R: Threads + Wait + AllocGlobal + Sync>(
-    rt: &R,
-    table: &Sets<L>,
-    passes: (Pass<Global>, Pass<Global>),
-    race: &Race<'_>,
-    lists: Lists<'_>,
-) -> Result<((AtOnce, String), Pass<Global>, Pass<Global>), Fail>
+) -> Result<(AtOnce, Pass<Global>, Pass<Global>), Fail>
     requires first { IsPassOf table.now passes.0 }
     requires second { IsPassOf table.now passes.1 }
     ensures first { IfOk result (λ told. IsPassOf table.now told.1) }
     ensures second { IfOk result (λ told. IsPassOf table.now told.2) }
 {
-    let (first, mut second) = passes;
-    run_all(rt, table, &mut second, lists.before)?;
-    let told = told_at_once(rt, table, (first, second), race, lists);
-    let (at_once, mut first, mut second) = told;
-    let told = told_to_both(
-        rt,
-        rt.alloc(),
-        table,
-        &mut first,
-        &mut second,
-        race.talk.first,
-        race.talk.second,
-        &NoGate,
-    )?;
-    Ok(((at_once, told), first, second))
+    let (first, second) = passes;
+    let (before, second) = work(rt, alloc, table, second, lists.before, NoGate);
+    if before.is_none() {
+        return Err("refused")?;
+    }
+    let signals = Signals::new(manner);
+    let at_once = (lists.first, lists.second);
+    let told = work_at_once(rt, alloc, table, (first, second), at_once, &signals);
+    let ((one, first), (other, second)) = told;
+    let ran_out = signals.ran_out.load(Ordering::SeqCst) == 1;
+    let at_once = AtOnce {
+        one,
+        other,
+        ran_out,
+    };
+    Ok((at_once, first, second))
 }
 
-/// A race on a table of an owner's sets, and its day.
+/// What two workers are told at once of a table of an owner's sets, and its totals.
 fn race_with<L: Ledger + Send + Sync, R: Threads + Wait + AllocGlobal + Sync>(
     rt: &R,
     blank: Blank,
     owner: Owner,
-    race: &Race<'_>,
+    plan: Plan,
+    manner: Manner,
     lists: Lists<'_>,
-) -> Result<(AtOnce, Day), Fail>
+) -> Result<(AtOnce, Totals), Fail>
     requires idle { owner.next ≡ None }
     requires name { blank.name ≡ L.name }
     requires parts { blank.parts ≡ L.parts }
     requires many { 4098 ≤ blank.parts }
 {
     let alloc = rt.alloc();
-    let (table, first, second) = opened::<L>(alloc, blank, owner, race.talk.plan)?;
-    let (told, first, second) = told_in_race(rt, &table, (first, second), race, lists)?;
+    let (table, first, second) = opened::<L>(alloc, blank, owner, plan)?;
+    let (at_once, first, second) = told_at_once(rt, alloc, &table, (first, second), manner, lists)?;
     let closed = close(alloc, table, first, second)?;
-    let (at_once, told) = told;
-    Ok((at_once, Day { told, closed }))
+    Ok((at_once, closed.totals))
 }
 
-/// A race, and the day of its table. `locks` waits for the table's locks.
+/// What two workers are told at once of a table that is empty at opening, and its totals. `locks` waits for the table's
+/// locks.
 pub fn race_of<R: Threads + Wait + AllocGlobal + Sync>(
     rt: &HostRuntime,
     locks: &R,
-    race: &Race<'_>,
+    plan: Plan,
+    manner: Manner,
     lists: Lists<'_>,
-) -> Result<(AtOnce, Day), Fail> {
-    let owner = owner_of(rt, race.talk.sets)?;
-    race_with::<Brand, _>(locks, Blank::new(4098), owner, race, lists)
+) -> Result<(AtOnce, Totals), Fail> {
+    let owner = owner_of(rt, &[])?;
+    race_with::<Brand, _>(locks, Blank::new(4098), owner, plan, manner, lists)
 }
 
 /// The commands of texts.

@@ -11,8 +11,6 @@ mod deferred_sessions;
 #[cfg(test)]
 mod devices;
 #[cfg(test)]
-mod encodings;
-#[cfg(test)]
 mod exchange;
 #[cfg(test)]
 mod polled_devices;

@@ -1,5 +1,0 @@
-use Rattle.set_table.specs.TableAndPassViews.{IsPassOf}
-use Rattle.table_tests.proofs.workers.run_all.Given as goal
-
-abbrev pub invariant-loop-command : goal.invariant-loop-command
-invariant-loop-command g l = IsPassOf l.table l.pass
