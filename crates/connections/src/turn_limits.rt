@@ -1,5 +1,7 @@
 //! How long a turn of a connection may be.
 
+ghost use Rattle.std.specs.Prelude.{◌≡◌, false};
+
 use std::time::{Clock, Duration, Instant};
 
 /// How many requests of one connection are run before the others have their turn.
@@ -42,7 +44,11 @@ pub struct Moment<'c, C> {
 
 impl<'c, C> Moment<'c, C> {
     /// When turns begin.
-    pub fn new(clock: &'c C, now: Option<Instant>, settles_later: bool) -> Self {
+    pub fn new(clock: &'c C, now: Option<Instant>, settles_later: bool) -> Self
+        ensures now { result.now ≡ now }
+        ensures later { result.settles_later ≡ settles_later }
+        ensures begins { result.ends_turn ≡ false }
+    {
         Moment {
             clock,
             now,
@@ -52,7 +58,11 @@ impl<'c, C> Moment<'c, C> {
     }
 
     /// For the next part of a turn that has begun, or, where others come first, for its end.
-    pub fn further(&self, ends_turn: bool) -> Self {
+    pub fn further(&self, ends_turn: bool) -> Self
+        ensures now { result.now ≡ self.entry.now.now }
+        ensures later { result.settles_later ≡ self.entry.now.settles_later }
+        ensures ends { result.ends_turn ≡ ends_turn }
+    {
         Moment {
             clock: self.clock,
             now: self.now,
