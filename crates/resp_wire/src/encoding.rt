@@ -29,9 +29,9 @@ fn digit(n: usize) -> u8
     b'0' + n as u8
 }
 
-/// A mark, a number, and the end of the line. Most numbers are lengths and counts of one digit or two: these are put at
+/// A mark, a number, and the end of the line. Most numbers are lengths and counts of up to four digits: these are put at
 /// once.
-#[tactic(auto, using(std::proofs::lemmas::Fmt::decimal_digit, crate::proofs::ShortNumbers::two_digits))]
+#[tactic(auto, using(std::proofs::lemmas::Fmt::decimal_digit, crate::proofs::ShortNumbers::short_numbers))]
 fn put_number<A: Allocator>(out: &mut Vec<u8, A>, mark: u8, n: usize) -> Result<(), AllocError>
     ensures ok { OnOk result (out.new.items ≡ out.old.items ++ mark ∷ line n) }
     ensures kept { take (length out.old.items) out.new.items ≡ out.old.items }
@@ -42,6 +42,14 @@ fn put_number<A: Allocator>(out: &mut Vec<u8, A>, mark: u8, n: usize) -> Result<
     }
     if n < 100 {
         return out.extend_from_slice(&[mark, digit(n / 10), digit(n % 10), b'\r', b'\n']);
+    }
+    if n < 1000 {
+        let (tens, ones) = (digit(n / 10 % 10), digit(n % 10));
+        return out.extend_from_slice(&[mark, digit(n / 100), tens, ones, b'\r', b'\n']);
+    }
+    if n < 10_000 {
+        let (hundreds, tens, ones) = (digit(n / 100 % 10), digit(n / 10 % 10), digit(n % 10));
+        return out.extend_from_slice(&[mark, digit(n / 1000), hundreds, tens, ones, b'\r', b'\n']);
     }
     let mut buffer = Buffer::new();
     out.push(mark)?;
