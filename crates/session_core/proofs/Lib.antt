@@ -6,3 +6,4 @@ pub mod TurnProgress
 pub mod Interleaving
 pub mod SyncedLemmas
 pub mod DeferredProgress
+pub mod ReplySent

@@ -1,19 +1,23 @@
 //! A session between its turns.
 
-ghost use Rattle.std.specs.Prelude.{◌≡◌, ℕ, ◌+◌, ◌≤◌, ◌<◌, ◌^◌, [], length, true, false, None, Err, IfErr, IfOk, OnOk, MatchResult};
+ghost use Rattle.std.specs.Prelude.{◌≡◌, ℕ, ◌+◌, ◌≤◌, ◌<◌, ◌^◌, [], length, true, false, None, Ok, Err, IfErr, IfOk, OnOk, MatchResult};
+ghost use Rattle.std.specs.Io.KnownBytes.{append_known};
 ghost use Rattle.resp_wire.specs.Stream.{requests, fault};
+ghost use Rattle.resp_wire.specs.Response.{response_of, encoded};
 ghost use Rattle.resp_wire.specs.declared.fault.ProtocolFault.{ProtocolFault};
+ghost use Rattle.zset_core.specs.CommandGrammar.{asked};
 ghost use Rattle.session_core.specs.Interleaved.{TakesTurns};
-ghost use Rattle.session_core.specs.SendOutcome.{DrainFailed, SentOn};
+ghost use Rattle.session_core.specs.SendOutcome.{DrainFailed, SendEnds, SentOn};
 ghost use Rattle.session_core.specs.declared.session_end.SessionFault.TheVariants.{NoMemory, WriteFault, Wire};
 ghost use Rattle.session_core.specs.ServeSteps.{IsSmall, SessionIsBetweenReads, AnsweredOne, HaltedOne, Halfway, Answered, Halted, fed};
 
-use crate::command_executor::{Exec, respond};
+use crate::command_executor::Exec;
 use crate::reply_sending::{send, tell_fault};
 use crate::session_end::{Ended, SessionFault};
-use resp_wire::{ByteDrain, Decoder, Request, WireFault, laws};
+use resp_wire::{ByteDrain, Decoder, Reply, Request, WireFault, laws};
 use std::alloc::{AllocError, Allocator};
 use std::mem;
+use zset_core::Command;
 
 /// How far a session came.
 #[derive(Clone, Copy, Debug, PartialEq, Eq)]
@@ -52,6 +56,65 @@ impl<A: Allocator + Copy> Session<A> {
         }
     }
 
+    /// Sends the reply to a request, and counts it.
+    fn put_reply<D: ByteDrain>(
+        &mut self,
+        reply: &Reply<A>,
+        drain: &mut D,
+    ) -> Result<(), SessionFault>
+        requires few { self.old.progress.requests < 2 ^ 60 }
+        requires room { self.old.progress.out < 2 ^ 127 }
+        ensures decoder { self.new.decoder ≡ self.old.decoder }
+        ensures told { OnOk result (D.told drain.new
+            ≡ append_known (D.told drain.old) (encoded (response_of reply.now))) }
+        ensures out { OnOk result (self.new.progress.out
+            ≡ self.old.progress.out + length (encoded (response_of reply.now))) }
+        ensures count { OnOk result (self.new.progress.requests ≡ self.old.progress.requests + 1) }
+        ensures grown { OnOk result (self.new.progress.out < self.old.progress.out + 2 ^ 64) }
+        ensures ended { IfErr result (SendEnds (encoded (response_of reply.now)) self.old.progress.out
+            (D.told drain.old) (D.told drain.new)) }
+        ensures failures { MatchResult result (λ _. D.failures drain.new ≡ D.failures drain.old)
+            (λ end. DrainFailed end (D.failures drain.old) (D.failures drain.new)) }
+        ensures sent_on { IfErr result
+            (λ end. SentOn end (D.told drain.new) (D.flushed drain.new)) }
+    {
+        send(drain, &mut self.text, &mut self.progress.out, reply)?;
+        self.progress.requests += 1;
+        Ok(())
+    }
+
+    /// Runs a command, and sends its reply. Each reply is sent where it comes to be, since a reply is long to move.
+    fn answer_command<R, D: ByteDrain, E: Exec<R, A>>(
+        &mut self,
+        rt: &R,
+        command: &Command<A>,
+        drain: &mut D,
+        exec: &mut E,
+    ) -> Result<(), SessionFault>
+        requires settled { E.settled exec.old }
+        requires read { asked command.now.words ≡ Ok command.now.meaning }
+        requires few { self.old.progress.requests < 2 ^ 60 }
+        requires room { self.old.progress.out < 2 ^ 127 }
+        ensures settled { E.settled exec.new }
+        ensures decoder { self.new.decoder ≡ self.old.decoder }
+        ensures answered { OnOk result
+            (AnsweredOne E.allows exec.old command.now.words self.old.progress (D.told drain.old) exec.new
+            self.new.progress (D.told drain.new)) }
+        ensures grown { OnOk result (self.new.progress.out < self.old.progress.out + 2 ^ 64) }
+        ensures halted { IfErr result
+            (λ end. HaltedOne E.allows exec.old command.now.words self.old.progress.out (D.told drain.old) end
+            exec.new (D.told drain.new)) }
+        ensures failures { MatchResult result (λ _. D.failures drain.new ≡ D.failures drain.old)
+            (λ end. DrainFailed end (D.failures drain.old) (D.failures drain.new)) }
+        ensures sent_on { IfErr result
+            (λ end. SentOn end (D.told drain.new) (D.flushed drain.new)) }
+    {
+        match exec.run(rt, command) {
+            Err(refusal) => self.put_reply(&Reply::Fault(refusal.text()), drain),
+            Ok(reply) => self.put_reply(&reply, drain),
+        }
+    }
+
     /// Runs a request, and sends its reply.
     fn answer<R, D: ByteDrain, E: Exec<R, A>>(
         &mut self,
@@ -77,13 +140,14 @@ impl<A: Allocator + Copy> Session<A> {
         ensures sent_on { IfErr result
             (λ end. SentOn end (D.told drain.new) (D.flushed drain.new)) }
     {
-        let (reply, answered) = respond(rt, self.alloc, exec, request);
-        if let Some(answered) = answered {
-            self.decoder.reuse(answered);
+        match Command::read(self.alloc, request) {
+            Err(refusal) => self.put_reply(&Reply::Fault(refusal.text()), drain),
+            Ok(command) => {
+                let sent = self.answer_command(rt, &command, drain, exec);
+                self.decoder.reuse(command.into_request());
+                sent
+            }
         }
-        send(drain, &mut self.text, &mut self.progress.out, &reply)?;
-        self.progress.requests += 1;
-        Ok(())
     }
 
     /// Takes the next piece of the input.

@@ -20,7 +20,7 @@ use std::alloc::Allocator;
 use std::hash::BuildHasher;
 use std::marker::Model;
 use std::sync::ledger::Ledger;
-use std::sync::{Mutex, RwLock, Wait};
+use std::sync::{Mutex, RwLock, RwLockReadGuard, Wait};
 use zset_core::{Command, Refusal};
 
 /// Sorted sets behind locks of their own. A set's lock is taken exclusively by a command that
@@ -58,6 +58,14 @@ struct AtPlace<'a, 'c, R, G, A: Allocator> {
     gate: &'a G,
     place: usize,
     command: &'c Command<A>,
+}
+
+/// Takes a lock that readers share: where no writer has it or waits for it, by one try, in a quarter of the instructions.
+fn take_shared<'l, T, R: Wait>(lock: &'l RwLock<T>, rt: &R) -> RwLockReadGuard<'l, T> {
+    match lock.try_read() {
+        Some(guard) => guard,
+        None => lock.read(rt),
+    }
 }
 
 /// What a table answers to a command.
@@ -236,9 +244,24 @@ impl<H: BuildHasher, S: LogSink, L: Ledger, A: Allocator + Copy> Table<H, S, L, 
         ensures answer { IsAnsweredAt self.now.opened pass.old.shares pass.new.shares at.now.place
             at.now.command.now result }
     {
-        if let Some(answer) = self.read_at(pass, at) {
-            return answer;
+        match self.read_at(pass, at) {
+            Some(answer) => answer,
+            None => self.run_reading_at(pass, at),
         }
+    }
+
+    /// Answers a command that reads under the place's exclusive lock.
+    fn run_reading_at<'c, R: Wait, G: TestGate>(
+        &self,
+        pass: &mut Pass<A>,
+        at: &AtPlace<'_, 'c, R, G, A>,
+    ) -> Result<Answer<'c, A>, Refusal>
+        requires may { MayBeAskedAt self.now pass.old at.now.place at.now.command.now }
+        requires reading { is_writing at.now.command.now.meaning ≡ false }
+        ensures pass { KeepsPass self.now pass.old pass.new }
+        ensures answer { IsAnsweredAt self.now.opened pass.old.shares pass.new.shares at.now.place
+            at.now.command.now result }
+    {
         match self.run_at(pass, at) {
             // Another worker may have taken the place's last run since. Then the cell answers whatever it has to read.
             Err(Refusal::Spent) => match self.read_at(pass, at) {
@@ -260,7 +283,7 @@ impl<H: BuildHasher, S: LogSink, L: Ledger, A: Allocator + Copy> Table<H, S, L, 
         ensures { IfSome result (IsAnsweredAt self.now.opened pass.now.shares pass.now.shares
             at.now.place at.now.command.now) }
     {
-        let cell = self.cells[at.place].read(at.rt);
+        let cell = take_shared(&self.cells[at.place], at.rt);
         at.gate.inside(at.place);
         pass.note_told(cell.last_record());
         cell.read_few(at.command, &pass.shares[at.place])

@@ -3,15 +3,16 @@
 ghost use Rattle.std.specs.Prelude.{◌≡◌, ◌↔◌, ◌<◌, ◌^◌, List, ℕ, IfOk, IsTrue};
 ghost use Rattle.set_table.specs.Naming.{hash_from};
 
-use short_bytes::are_same;
+use short_bytes::{ShortBytes, are_same};
 use std::alloc::{AllocError, Global};
 use std::marker::Model;
 
-/// A key that a place bears as its name, with its hash. A contract sees its bytes.
+/// A key that a place bears as its name, with its hash. A contract sees its bytes. Those of a short one stand beside the
+/// hash, so that comparing it reads no other block.
 #[derive(Drop)]
 pub(crate) struct Name {
     hash: u64,
-    bytes: Vec<u8>,
+    bytes: ShortBytes<Global>,
 }
 
 impl Model for Name {
@@ -19,12 +20,12 @@ impl Model for Name {
 
     ghost Value = { List ℕ };
 
-    ghost view = { λ n. n.bytes.items };
+    ghost view = { λ n. n.bytes };
 
     ghost use Rattle.std.specs.Prelude.{◌≡◌, ◌<◌, ◌^◌};
     ghost use Rattle.set_table.specs.Naming.{hash_from};
 
-    ghost invariant = { λ n. (n.hash ≡ hash_from 7 n.bytes.items) × (n.hash < 2 ^ 32) };
+    ghost invariant = { λ n. (n.hash ≡ hash_from 7 n.bytes) × (n.hash < 2 ^ 32) };
 }
 
 impl Name {
@@ -34,7 +35,7 @@ impl Name {
     {
         Ok(Name {
             hash: hash(key),
-            bytes: Vec::from_slice(alloc, key)?,
+            bytes: ShortBytes::from_slice(alloc, key)?,
         })
     }
 
