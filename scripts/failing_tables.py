@@ -202,3 +202,37 @@ def one_sync_settles_the_changes_of_all_sets():
     same(changes_of_three_sets(SYNC_OF_ALL, ["ZADD l 7 c", "ZADD k 7 c"]), ([b"", b""], [FAILED_EARLIER, b""], (0, five, b""), 0))
     same(changes_of_three_sets(LAST_SYNC, ["ZADD k 7 c"]), (TOLD, [b""], (0, six, b""), 0))
     same(changes_of_three_sets(LAST_SYNC + 1, ["ZADD k 7 c"]), (TOLD, [b":1\r\n"], (0, six, b""), None))
+
+
+# Changes of three sets, each of which adds a member whatever became of the others, and how many sets have some behind so
+# many of them.
+ADDITIONS = ["ZADD k 1 a", "ZADD j 2 b", "ZADD k 3 c", "ZADD i 4 d"]
+SETS_BEHIND = [0, 1, 2, 2, 3]
+
+
+def additions_whose_write_fails(number):
+    """Makes additions one at a time whose records are settled later, where the write of one fails: the calls on the file are
+    the opening's sync, and for each addition a write and a sync. Gives what the clients are told, and how the server ends."""
+    write("kept", HEADER)
+    mark = os.path.abspath(f"unwritten-{number}")
+    env = {"LD_PRELOAD": refusing(), "FAILING_FILE": str(2 + 2 * number), "REFUSED_MARK": mark}
+    words = "--workers", 2, "--connections", 2, "--file", "kept", "--sync", "group"
+    with Server(*words, env=env) as server:
+        clients = server.connect(), server.connect()
+        all_pinged(clients)
+        told = in_turn(clients[0], ADDITIONS)
+        listed = in_turn(clients[1], LISTINGS)
+        same([client.finish() for client in clients], [b""] * 2)
+        return told, listed, server.ends(), calls_behind(env)
+
+
+@test
+def a_record_that_is_not_written_refuses_its_change_though_syncs_are_shared():
+    """The changes before are answered, settled and kept; the later ones are refused; reading goes on."""
+    for number in range(len(ADDITIONS)):
+        told, listed, ended, behind = additions_whose_write_fails(number)
+        same(told, [b":1\r\n"] * number + [FAILED] + [FAILED_EARLIER] * (len(ADDITIONS) - number - 1))
+        same((ended, behind), ((0, totals(2, SETS_BEHIND[number], number, number, 0, number), b""), 0))
+        same(read("kept"), HEADER + asked(*ADDITIONS[:number]))
+        same(run("stdio", "--file", "kept", given=asked(*LISTINGS)), (0, b"".join(listed), b""))
+        same(b"".join(listed).count(b"\r\n$"), 2 * number)

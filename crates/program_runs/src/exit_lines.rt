@@ -1,12 +1,14 @@
 //! How the program ends.
 
-ghost use Rattle.std.specs.Prelude.{◌≡◌, None, Some, [], ◌∷◌};
+ghost use Rattle.std.specs.Prelude.{◌≡◌, ◌≢◌, None, Some, [], ◌∷◌};
+ghost use Rattle.std.specs.declared.io.ErrorKind.TheVariants as kinds;
 ghost use Rattle.program_runs.specs.ExitStatusAndLines as ends;
 ghost use Rattle.program_runs.specs.declared.exit_lines.Line.TheVariants as lines;
 ghost use Rattle.program_runs.specs.ExitStatusAndLines.{noticed};
 
 use append_log::FileFault;
 use std::fmt;
+use std::io::ErrorKind;
 
 /// What can't be used, and why. The line is the same for all; its explanation tells more.
 #[derive(Clone, Copy, Debug, PartialEq, Eq)]
@@ -157,6 +159,17 @@ impl Finish {
         ensures { result ≡ ends.finish_by line }
     {
         Finish::with_line(line.status(), line)
+    }
+
+    /// The end where the words of the command line could not be read, for this cause.
+    pub fn without_words(cause: ErrorKind) -> Self
+        ensures memory { cause ≡ kinds.OutOfMemory → result ≡ ends.finish_by lines.OutOfMemory }
+        ensures other { cause ≢ kinds.OutOfMemory → result ≡ ends.finish_by lines.BadCommandLine }
+    {
+        if cause == ErrorKind::OutOfMemory {
+            return Finish::out_of_memory();
+        }
+        Finish::by(Line::BadCommandLine)
     }
 
     /// An end with one line.
