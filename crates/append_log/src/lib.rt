@@ -17,6 +17,7 @@ mod new_file;
 mod opening;
 mod record;
 mod record_count_share;
+mod record_length;
 pub mod replay_laws;
 mod rewriting;
 mod thread_safe_ledger_share;

@@ -3,16 +3,15 @@
 ghost use Rattle.std.specs.Prelude.{◌≡◌, ◌≢◌, ℕ, ◌+◌, ◌-◌, ◌≤◌, ◌<◌, ◌^◌, [], ◌++◌, List, length, true, min, None, Ok, Err, Some, IfOk, OnOk, OnErr, IfErr, IsSome, MatchResult};
 ghost use Rattle.std.specs.Io.KnownBytes.{prepend_known, IsAtEnd};
 ghost use Rattle.resp_wire.specs.Device.{Rose, saturating_succ};
-ghost use Rattle.resp_wire.specs.RequestEncoding.{IsArgument, argument, line, request as request_text};
 ghost use Rattle.zset_core.specs.SetsByKey.{World as WorldType};
 ghost use Rattle.append_log.specs.Replay.{after, after_reading, is_replayed as is_replayed_by};
 ghost use Rattle.append_log.specs.ReloadOutcome.{ReloadHolds, ReloadReads};
 ghost use Rattle.append_log.specs.ReloadSteps.{IsBetweenReads, ReloadStepped, Drained, ReadsOn, SourceFailed, IsOfBytes, UnreplayedFor, NotTakenFor, Takes};
 ghost use Rattle.append_log.specs.declared.loading.ReloadFault.TheVariants as faults;
 
+use crate::record_length::text_len;
 use crate::version::{Version, is_header, names_version, number_of};
-use itoa::Buffer;
-use resp_wire::{ByteSource, Bytes, Decoder, MAX_READ_BUFFER, MAX_READS, Request, WireFault, laws};
+use resp_wire::{ByteSource, Decoder, MAX_READ_BUFFER, MAX_READS, Request, WireFault, laws};
 use std::alloc::{AllocError, Allocator};
 use std::hash::BuildHasher;
 use thiserror::Error;
@@ -124,42 +123,6 @@ fn replay_one<H: BuildHasher + Clone + Drop, A: Allocator + Copy>(
     let replayed = replay_command(owner, version, &command);
     drop(command);
     replayed
-}
-
-/// A number of 64 bits and the end of its line are no longer.
-const LONGEST_LINE: u64 = 42;
-
-/// An argument's text is no longer.
-const LONGEST_ARGUMENT: u64 = 70_000;
-
-/// The length of a number in decimal and of the end of its line.
-fn line_len(n: usize) -> u64
-    ensures counted { result ≡ length (line n) }
-    ensures short { result ≤ LONGEST_LINE }
-{
-    Buffer::new().format(n).len() as u64 + 2
-}
-
-/// The length of an argument's text: its mark, its length's line, its bytes and the end of their line.
-fn argument_len<A: Allocator>(bytes: &Bytes<A>) -> u64
-    requires { IsArgument bytes.now }
-    ensures counted { result ≡ length (argument bytes.now) }
-    ensures short { result ≤ LONGEST_ARGUMENT }
-{
-    1 + line_len(bytes.len()) + bytes.len() as u64 + 2
-}
-
-/// The length of a request's text. It is counted, since it is wanted of each record, and to write the
-/// text would take a buffer and a copy of each argument.
-fn text_len<A: Allocator>(wanted: &Request<A>) -> u64
-    ensures { result ≡ length (request_text wanted.now) }
-{
-    let words = wanted.words();
-    let mut len = 1 + line_len(words.len());
-    for bytes in words {
-        len += argument_len(bytes);
-    }
-    len
 }
 
 /// What a reload keeps between its reads.

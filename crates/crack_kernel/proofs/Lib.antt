@@ -2,4 +2,3 @@ pub mod Blocks
 pub mod PartMoves
 pub mod PartChanges
 pub mod PivotOrder
-pub mod MovedPivots

@@ -53,13 +53,6 @@ pub record IsPieceOf (v : ℤ) (ps : List (ℤ × ℕ)) (rows_len : ℕ) (piece 
   pub start : piece.0 ≡ piece_start ps index
   pub end : piece.1 ≡ piece_end ps index rows_len
 
--- the pivots from one index on and before another stand one index further up, in the place of the one there, and the others where they stood
-pub record AreMovedUp (old new : List (ℤ × ℕ)) (from to : ℕ) : Type 0 where
-  pub len : length new ≡ length old
-  pub below : (k : ℕ) (d : ℤ × ℕ) → k < from → slice_index_or new k d ≡ slice_index_or old k d
-  pub moved : (k : ℕ) (d : ℤ × ℕ) → from ≤ k → k < to → slice_index_or new (k + 1) d ≡ slice_index_or old k d
-  pub above : (k : ℕ) (d : ℤ × ℕ) → to < k → slice_index_or new k d ≡ slice_index_or old k d
-
 -- the pivot with its place one up or one down
 abbrev pub shifted_pivot : Bool → ℤ × ℕ → ℤ × ℕ
 shifted_pivot up p = (p.0, (if up then p.1 + 1 else p.1 - 1))

@@ -7,7 +7,6 @@
 
 pub mod crack;
 mod crack_from_both_ends;
-mod pivot_insertion;
 pub mod pivots;
 pub mod row;
 

@@ -3,7 +3,6 @@
 ghost use Rattle.std.specs.Prelude.{◌≡◌, ◌+◌, ◌<◌, ◌≤◌, ◌^◌, [], ◌∷◌, ◌↔◌, true, false, drop, map, pos, set, slice_index_or, length, All, Contains, IsPermutation, IsTrue, IsFalse, IsOk, OnOk, MatchOption};
 ghost use Rattle.crack_kernel.specs.PivotList.{ArePlacedInOrder, IsRising, IsNewValue, RisesPast, IsPieceOf, piece_start, piece_end, shifted_pivot, shifted, closed_up};
 
-use crate::pivot_insertion::put_last_at;
 use std::alloc::{AllocError, Allocator};
 use std::marker::Model;
 
@@ -153,8 +152,8 @@ impl<A: Allocator> Pivots<A> {
         ensures rising { IsRising self.new.list }
         ensures spare { self.new.spare + 1 ≡ self.old.spare }
     {
-        self.list.push_reserved((v, place));
-        put_last_at(&mut self.list[..], index);
+        // There is room, so it is put.
+        let _is_put = self.list.insert(index, (v, place));
     }
 
     /// Moves the places of the pivots from the index `from_index` on one up or one down.

@@ -30,6 +30,7 @@ mod range_gathered_rows;
 mod range_removal;
 mod ripple;
 mod row_hash;
+mod row_position;
 mod score_span;
 mod select;
 

@@ -1,7 +1,7 @@
 use Rattle.std.proofs.Common.{◌≡◌, ◌+◌, ◌*◌, ◌≤◌, length, take}
 use Rattle.std.specs.List.{flat_map}
 use Rattle.resp_wire.specs.RequestEncoding.{line, argument}
-use Rattle.append_log.proofs.loading.text_len.Given as goal
+use Rattle.append_log.proofs.record_length.text_len.Given as goal
 
 abbrev pub invariant-loop-bytes : goal.invariant-loop-bytes
 invariant-loop-bytes g l = record {

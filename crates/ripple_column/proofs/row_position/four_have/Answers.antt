@@ -1,7 +1,7 @@
 use Rattle.std.proofs.Common.{◌≡◌, ◌+◌, ℕ, ℤ, List, arith, sym, ◌∙◌, w64, SFits, rules, to_z-of_z}
 use Rattle.crack_kernel.proofs.PartMoves.{holds_read}
 use Rattle.ripple_column.proofs.Fours.{none_of_four, within_four}
-use Rattle.ripple_column.proofs.pending_lists.four_have.Goals as goal
+use Rattle.ripple_column.proofs.row_position.four_have.Goals as goal
 
 pub returns : goal.returns
 returns g c h =

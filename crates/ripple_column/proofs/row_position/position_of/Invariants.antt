@@ -1,6 +1,6 @@
 use Rattle.std.proofs.Common.{◌≡◌, ◌≤◌, ◌-◌, length}
 use Rattle.std.specs.List.{AllWithin}
-use Rattle.ripple_column.proofs.pending_lists.position_of.Given as goal
+use Rattle.ripple_column.proofs.row_position.position_of.Given as goal
 
 abbrev pub invariant-loop-i : goal.invariant-loop-i
 invariant-loop-i g l = record {
