@@ -1,10 +1,10 @@
 -- What swaps of a slice's elements, and writes into a part of it, do to what holds of its elements.
-use Rattle.std.proofs.Common.{◌≡◌, ◌≢◌, ℕ, ◌<◌, ◌≤◌, List, length, get_or, inl, inr, ◌∙◌, subst, ap, take, drop, map, ◌++◌, ◌+◌, ◌-◌, arith, length-append}
+use Rattle.std.proofs.Common.{◌≡◌, ◌≢◌, ℕ, ◌<◌, ◌≤◌, List, length, get_or, inl, inr, ◌∙◌, subst, ap, take, drop, map, insert, [], ◌∷◌, ◌++◌, ◌+◌, ◌-◌, arith, length-append}
 use Rattle.std.proofs.lemmas.Grind.{common_steps}
 use borrow.Rule.Slice.PartMut.{put_mid, post_of}
 use Rattle.std.specs.List.{AllWithin, SwappedAt}
 use Rattle.std.proofs.lemmas.Bool.{cases_eq}
-use Rattle.std.proofs.lemmas.List.{get_or_default, get_or-append_right, length-drop, length-map, length-take-le, take-append-le, take_rest}
+use Rattle.std.proofs.lemmas.List.{get_or_default, get_or-append_right, length-drop, length-map, length-take-le, take-append-le, take_at, take_rest, drop-append-le}
 use Rattle.std.proofs.lemmas.Slice.{take-put_mid}
 
 -- P holds of each element of a part after a swap, if it held of those that came to stand there
@@ -45,3 +45,22 @@ take-put_map f a n xs lent ys buffer same within all changed =
     let long : n ≤ length (put_mid a k lent ys) = omega (arith, length-append (take a lent) (ys ++ post_of a k lent), length-append ys (post_of a k lent)) in
     take-append-le n (put_mid a k lent ys) (drop (length (put_mid a k lent ys)) buffer) long ∙ take-put_mid a k lent ys n end fits
     ∙ ap (λ qs. take a lent ++ qs) is ∙ ap (λ qs. take a qs ++ map f (drop a qs)) same
+
+-- what a list is in its buffer, once an element was pushed there, and put before those from an index on, which moved up over it
+pub take-put_first : {X : Type 0} (x : X) (a n : ℕ) (xs lent ys buffer : List X) → lent ≡ xs ++ x ∷ [] → a ≤ length xs → n ≡ length xs + 1
+    → ys ≡ x ∷ take (length (take (length lent - a) (drop a lent)) - 1) (take (length lent - a) (drop a lent))
+    → take n (put_mid a (length lent - a) lent ys ++ drop (length (put_mid a (length lent - a) lent ys)) buffer) ≡ insert xs a x
+take-put_first x a n xs lent ys buffer same within all changed =
+    let k = length lent - a in
+    let high = drop a xs in
+    let long_lent : length lent ≡ length xs + 1 = ap length same ∙ length-append xs (x ∷ []) in
+    let fits : a ≤ length lent = omega (arith, long_lent) in
+    let part : take k (drop a lent) ≡ high ++ x ∷ [] = take_rest lent a ∙ ap (drop a) same ∙ drop-append-le a xs (x ∷ []) within in
+    let moved : take (length (take k (drop a lent)) - 1) (take k (drop a lent)) ≡ high =
+    ap (λ qs. take (length qs - 1) qs) part ∙ take_at high (x ∷ []) (length (high ++ x ∷ []) - 1) (omega (arith, length-append high (x ∷ []))) in
+    let is : ys ≡ x ∷ high = changed ∙ ap (λ qs. x ∷ qs) moved in
+    let end : n ≡ a + length ys = omega (arith, ap length is, length-drop a xs) in
+    let front : length (take a lent) ≡ a = length-take-le a lent fits in
+    let long : n ≤ length (put_mid a k lent ys) = omega (arith, length-append (take a lent) (ys ++ post_of a k lent), length-append ys (post_of a k lent)) in
+    take-append-le n (put_mid a k lent ys) (drop (length (put_mid a k lent ys)) buffer) long ∙ take-put_mid a k lent ys n end fits
+    ∙ ap (λ qs. take a lent ++ qs) is ∙ ap (λ qs. take a qs ++ x ∷ high) same ∙ ap (λ qs. qs ++ x ∷ high) (take-append-le a xs (x ∷ []) within)

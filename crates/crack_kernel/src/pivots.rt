@@ -1,6 +1,6 @@
 //! The pivots of a column, by rising value.
 
-ghost use Rattle.std.specs.Prelude.{◌≡◌, ◌+◌, ◌<◌, ◌≤◌, ◌^◌, [], ◌∷◌, ◌↔◌, true, false, drop, map, pos, set, slice_index_or, length, All, Contains, IsPermutation, IsTrue, IsFalse, IsOk, OnOk, MatchOption};
+ghost use Rattle.std.specs.Prelude.{◌≡◌, ◌+◌, ◌-◌, ◌<◌, ◌≤◌, ◌^◌, [], ◌∷◌, ◌↔◌, true, false, drop, take, map, pos, set, slice_index_or, length, All, Contains, IsPermutation, IsTrue, IsFalse, IsOk, OnOk, MatchOption};
 ghost use Rattle.crack_kernel.specs.PivotList.{ArePlacedInOrder, IsRising, IsNewValue, RisesPast, IsPieceOf, piece_start, piece_end, shifted_pivot, shifted, closed_up};
 
 use std::alloc::{AllocError, Allocator};
@@ -152,8 +152,8 @@ impl<A: Allocator> Pivots<A> {
         ensures rising { IsRising self.new.list }
         ensures spare { self.new.spare + 1 ≡ self.old.spare }
     {
-        // There is room, so it is put.
-        let _is_put = self.list.insert(index, (v, place));
+        self.list.push_reserved((v, place));
+        put_first(&mut self.list[index..], (v, place));
     }
 
     /// Moves the places of the pivots from the index `from_index` on one up or one down.
@@ -224,6 +224,17 @@ impl<A: Allocator> Pivots<A> {
     {
         self.list.clear();
     }
+}
+
+/// Puts a pivot before others, which move one up, over the last one.
+fn put_first(pivots: &mut [(i64, usize)], pivot: (i64, usize))
+    requires { 0 < length pivots.old }
+    ensures { pivots.new ≡ pivot ∷ take (length pivots.old - 1) pivots.old }
+{
+    let last = pivots.len() - 1;
+    // Between two places that are known, so that it is compiled to one `memmove`.
+    pivots.copy_within(0..last, 1);
+    pivots[0] = pivot;
 }
 
 /// Moves each place one up.

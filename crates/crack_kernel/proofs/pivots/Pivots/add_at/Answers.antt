@@ -1,23 +1,27 @@
-use Rattle.std.proofs.Common.{◌≡◌, ◌-◌, ◌<◌, ◌≤◌, ℕ, ℤ, List, ◌∷◌, insert, length, vec_len, vec_capacity, IsPermutation, w64, of_z, to_z, Bool, true, cond, is_ok, subst, sym, ap, ◌∙◌, arith}
+use Rattle.std.proofs.Common.{◌≡◌, ◌-◌, ◌<◌, ◌≤◌, ◌++◌, ℤ, ℕ, List, ◌∷◌, take, drop, insert, length, IsPermutation, w64, of_z, to_z, subst, sym, ap, ◌∙◌, arith}
 use Rattle.std.proofs.lemmas.Int.{ints}
 use Rattle.std.proofs.lemmas.List.Edits.{length-insert}
 use Rattle.std.proofs.lemmas.List.Sorted.{IsPermutation-insert}
 use Rattle.crack_kernel.specs.PivotList.{PivotList, IsNewValue, IsRising, RisesPast, max_pivots}
+use borrow.Rule.Slice.PartMut.{put_mid}
+use Rattle.crack_kernel.proofs.PartMoves.{take-put_first}
 use Rattle.crack_kernel.proofs.PivotOrder.{IsRising-insert}
 use Rattle.crack_kernel.proofs.pivots.Pivots.add_at.Goals as goal
 use Rattle.crack_kernel.proofs.pivots.Pivots.add_at.Given as given
 
--- the pivots, once an insertion that had room put one among them
-inserted : (list new : List (ℤ × ℕ)) (v put : ℤ) (place index : ℕ) (is_ok : Bool) → is_ok ≡ true → put ≡ v → new ≡ cond is_ok (insert list index (put, place)) list → new ≡ insert list index (v, place)
-inserted list new v put place index is_ok room same items = items ∙ ap (λ ok. cond ok (insert list index (put, place)) list) room ∙ ap (λ z. insert list index (z, place)) same
-
--- the same of the code's insertion
-is_inserted : (g : given.Over) (c : goal.After-insert-is_put g) → c.insert-is_put.new.self.items ≡ insert c.self.inside.list.items c.args.index (c.args.v, c.args.place)
+-- the pivots in their buffer, once one was put among them
+is_inserted : (g : given.Over) (c : goal.After-self-1 g)
+    → take c.push_reserved.new.self.len (put_mid c.args.index (length c.deref_mut.result.now - c.args.index) c.deref_mut.result.now c.put_first.new.pivots
+    ++ drop (length (put_mid c.args.index (length c.deref_mut.result.now - c.args.index) c.deref_mut.result.now c.put_first.new.pivots)) c.push_reserved.new.self.items)
+    ≡ insert c.self.inside.list.items c.args.index (c.args.v, c.args.place)
 is_inserted g c =
-    let list = c.self.inside.list in
-    let put : ℤ = to_z w64 (of_z w64 c.args.v) in
-    let room : 0 < vec_capacity list - vec_len list = subst (λ (p : PivotList). 0 < p.spare) (sym c.self.view_is) c.requires.room in
-    inserted list.items c.insert-is_put.new.self.items c.args.v put c.args.place c.args.index (is_ok c.insert-is_put.result) (c.insert-is_put.ensures.succeeds (omega (arith, room))) (omega (arith, ints)) c.insert-is_put.ensures.items
+    let list = c.self.inside.list.items in
+    let pushed : ℤ = to_z w64 (of_z w64 c.args.v) in
+    let past : RisesPast c.args.v list c.args.index = subst (λ (p : PivotList). RisesPast c.args.v p.list c.args.index) (sym c.self.view_is) c.requires.index in
+    let read : pushed ≡ c.args.v = omega (arith, ints) in
+    take-put_first (pushed, c.args.place) c.args.index c.push_reserved.new.self.len list c.deref_mut.result.now c.put_first.new.pivots c.push_reserved.new.self.items
+    (c.deref_mut.ensures.value ∙ c.push_reserved.ensures.items) past.within (omega (arith, c.push_reserved.ensures.len)) c.put_first.ensures
+    ∙ ap (λ (z : ℤ). insert list c.args.index (z, c.args.place)) read
 
 pub invariant_of-self : goal.invariant_of-self
 invariant_of-self g c =
