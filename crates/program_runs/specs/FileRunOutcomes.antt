@@ -20,12 +20,13 @@ use Rattle.resp_wire.specs.Response.{Response}
 use Rattle.session_core.specs.OwnerAnswers.{LoggedAnswers}
 use Rattle.session_core.specs.Exchange.{Exchanges}
 use Rattle.session_core.specs.ExchangesBetweenSyncs.{TalkBetweenSyncs}
-use Rattle.program_runs.specs.DeviceStates.{SourceState, DrainState}
-use Rattle.program_runs.specs.ExitStatusAndLines.{finish_by, noticed, Finishes, IsPrinted}
-use Rattle.program_runs.specs.declared.exit_lines.Line.{Line}
-use Rattle.program_runs.specs.declared.exit_lines.Line.TheVariants as lines
-use Rattle.program_runs.specs.declared.exit_lines.Unusable.TheVariants as unusable
-use Rattle.program_runs.specs.declared.exit_lines.Finish.{Finish}
+use Rattle.exit_lines.specs.DeviceStates.{SourceState, DrainState}
+use Rattle.exit_lines.specs.ExitStatusAndLines.{finish_by, noticed, IsPrinted}
+use Rattle.program_runs.specs.SessionFinish.{Finishes}
+use Rattle.exit_lines.specs.declared.lines_and_statuses.Line.{Line}
+use Rattle.exit_lines.specs.declared.lines_and_statuses.Line.TheVariants as lines
+use Rattle.exit_lines.specs.declared.lines_and_statuses.Unusable.TheVariants as unusable
+use Rattle.exit_lines.specs.declared.lines_and_statuses.Finish.{Finish}
 
 -- the line that tells why a file could not be reloaded
 abbrev pub reload_line : ReloadFault → Line

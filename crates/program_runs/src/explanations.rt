@@ -1,12 +1,12 @@
 //! What stands behind the lines of an end: which file or address, why, and what to do.
 
 ghost use Rattle.std.specs.Prelude.{◌≡◌};
-ghost use Rattle.program_runs.specs.ExitStatusAndLines.{finish_by};
-ghost use Rattle.program_runs.specs.declared.exit_lines.Line.TheVariants as lines;
+ghost use Rattle.exit_lines.specs.ExitStatusAndLines.{finish_by};
+ghost use Rattle.exit_lines.specs.declared.lines_and_statuses.Line.TheVariants as lines;
 
-use crate::exit_lines::{Finish, Line, Unusable};
 use crate::file_progress_reports::WatchedFiles;
 use append_log::FileFault;
+use exit_lines::{Finish, Line, Unusable};
 use std::alloc::Global;
 use std::net::SocketAddr;
 use std::{fs, io};

@@ -4,19 +4,18 @@ ghost use Rattle.std.specs.Prelude.{◌≡◌, None, false, IfOk, IfErr, OnOk};
 ghost use Rattle.std.specs.Io.KnownBytes.{append_known};
 ghost use Rattle.resp_wire.specs.Device.{Rose};
 ghost use Rattle.append_log.specs.FileOpening.{Restores};
-ghost use Rattle.program_runs.specs.DeviceStates.{drain_state, source_state};
-ghost use Rattle.program_runs.specs.ExitStatusAndLines.{IsPrinted};
+ghost use Rattle.exit_lines.specs.DeviceStates.{drain_state, source_state};
+ghost use Rattle.exit_lines.specs.ExitStatusAndLines.{IsPrinted};
 ghost use Rattle.program_runs.specs.FileRunOutcomes as files;
 ghost use Rattle.program_runs.specs.FileRunOutcomes.{FailsBy, FileIsOpened, FileIsUnopened, Prints, MakesNewFile, Rewrites, ServesFile, ServesFrom, TellsTorn};
-ghost use Rattle.program_runs.specs.declared.exit_lines.Line.TheVariants as lines;
+ghost use Rattle.exit_lines.specs.declared.lines_and_statuses.Line.TheVariants as lines;
 
-use crate::exit_lines::{Finish, Line, Unusable};
-use crate::printing::print;
 use crate::stdio::stdio_run;
 use append_log::{
     FileFault, FileSink, Loaded, LockFile, Log, LogSink, LoggedOwner, NewFileFault, OpenFault,
     ReloadFault, RewriteFault, open_to_append, open_to_read, write_anew,
 };
+use exit_lines::{Finish, Line, Unusable, print};
 use resp_wire::{ByteDrain, ByteSource};
 use std::alloc::{AllocGlobal, Global};
 use std::fs::Files;

@@ -2,13 +2,14 @@
 
 ghost use Rattle.std.specs.Prelude.{◌≡◌, true, None};
 ghost use Rattle.resp_wire.specs.Device.{Rose};
-ghost use Rattle.program_runs.specs.DeviceStates.{drain_state, held_state, source_state};
+ghost use Rattle.exit_lines.specs.DeviceStates.{drain_state, source_state};
+ghost use Rattle.program_runs.specs.SessionFinish.{held_state};
 ghost use Rattle.program_runs.specs.FileRunOutcomes.{ServesFile, ServesFrom};
 
-use crate::exit_lines::Finish;
 use crate::file_sessions_and_rewrites::{MAX_SESSION_RECORDS, Opened, open_session};
 use crate::stdio::after_session;
 use append_log::{LockFile, Log, LogSink, LoggedOwner};
+use exit_lines::Finish;
 use resp_wire::{ByteDrain, ByteSource};
 use session_core::{HeldReplies, serve_deferred};
 use std::alloc::{AllocGlobal, Global};

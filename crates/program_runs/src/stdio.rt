@@ -2,10 +2,10 @@
 
 ghost use Rattle.std.specs.Prelude.{◌≡◌, ◌+◌, ◌≤◌};
 ghost use Rattle.session_core.specs.Exchange.{Exchanges};
-ghost use Rattle.program_runs.specs.DeviceStates.{drain_state, source_state};
-ghost use Rattle.program_runs.specs.ExitStatusAndLines.{finish_of, Finishes, most_reads};
+ghost use Rattle.exit_lines.specs.DeviceStates.{drain_state, source_state};
+ghost use Rattle.program_runs.specs.SessionFinish.{finish_of, Finishes, most_reads};
 
-use crate::exit_lines::{Finish, Line};
+use exit_lines::{Finish, Line};
 use resp_wire::{ByteDrain, ByteSource, MAX_READS, READ_BUFFER};
 use session_core::{Ended, Exec, SessionFault, serve};
 use std::alloc::Allocator;

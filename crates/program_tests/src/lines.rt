@@ -1,6 +1,6 @@
 //! Each line's text and status. A line that no run brings about is seen here alone.
 
-use program_runs::{Line, Unusable};
+use exit_lines::{Line, Unusable};
 use std::test::Fail;
 
 const LINES: [(Line, u8, &str); 19] = [

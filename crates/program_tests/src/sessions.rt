@@ -1,6 +1,7 @@
 //! The end of a session that no run brings about.
 
-use program_runs::{Finish, Line, after_session};
+use exit_lines::{Finish, Line};
+use program_runs::after_session;
 use session_core::SessionFault;
 
 #[test]

@@ -1,7 +1,6 @@
 pub mod ExchangeLemmas
 pub mod HeldRequests
 pub mod ServeProgress
-pub mod WorkerLemmas
 pub mod TurnProgress
 pub mod Interleaving
 pub mod SyncedLemmas

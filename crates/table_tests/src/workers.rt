@@ -7,7 +7,7 @@ use crate::exchange::{Owner, SetsOver, command, owner_of, text_of};
 use crate::tables::{Plan, close, opened};
 use append_log::LogSink;
 use resp_wire::write_reply;
-use session_core::{Exec, Worker};
+use session_core::Exec;
 use set_table::{NoGate, Pass, TestGate, Totals};
 use std::alloc::Global;
 use std::hash::RandomState;
@@ -18,6 +18,7 @@ use std::sync::ledger::{Blank, Ledger};
 use std::test::*;
 use std::thread;
 use std::thread::Threads;
+use table_worker::Worker;
 use zset_core::Command;
 
 /// So long a test waits for what comes at once in a table that is right.

@@ -1,6 +1,6 @@
 use Rattle.std.proofs.Common.{Option, Ok, Err, refl, ◌∙◌, ap}
-use Rattle.program_runs.specs.ExitStatusAndLines.{finish_by, noticed}
-use Rattle.program_runs.specs.declared.exit_lines.Line.{Line}
+use Rattle.exit_lines.specs.ExitStatusAndLines.{finish_by, noticed}
+use Rattle.exit_lines.specs.declared.lines_and_statuses.Line.{Line}
 use Rattle.program_runs.proofs.file_sessions_and_rewrites.rewrite_run.Goals as goal
 
 pub returns-in-Err : goal.returns-in-Err

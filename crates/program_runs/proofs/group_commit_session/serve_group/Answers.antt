@@ -1,5 +1,5 @@
 use Rattle.std.proofs.Common.{Ok, Err, refl, ◌∙◌, ap}
-use Rattle.program_runs.specs.ExitStatusAndLines.{finish_by}
+use Rattle.exit_lines.specs.ExitStatusAndLines.{finish_by}
 use Rattle.program_runs.proofs.group_commit_session.serve_group.Goals as goal
 
 pub returns-in-Ok : goal.returns-in-Ok

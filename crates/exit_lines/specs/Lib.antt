@@ -1,0 +1,2 @@
+pub mod DeviceStates
+pub mod ExitStatusAndLines

@@ -1,0 +1,3 @@
+pub mod WorkerLemmas
+mod WorkerTurnLemmas
+pub mod ThreadCrossing

@@ -1,0 +1,3 @@
+pub mod WorkerAnswers
+pub mod WorkerRequests
+pub mod WorkerRequestsCompose

@@ -1,0 +1,2 @@
+pub mod ServerRanges
+pub mod ServerRun
