@@ -9,11 +9,11 @@ use Rattle.std.proofs.lemmas.Str.Parse.{digit_from_value}
 use Rattle.std.proofs.Math.Nat.{mul-mod_right}
 use Rattle.score_bounds.specs.ScoreTexts.{IsScore, IsPlain, score_text, score_value}
 use Rattle.zset_core.specs.SortedSet.{Pair}
-use Rattle.zset_core.specs.AbstractCommand.{Meaning}
-use Rattle.zset_core.specs.AbstractCommand as meanings
-use Rattle.zset_core.specs.CommandGrammar.{command_named, is_add_option, add_options, add_pairs, are_pairs, pairs_value, named_conditions, conditions, first_of, meaning, asked}
-use Rattle.zset_core.specs.declared.command.name.CommandName.TheVariants.{Add}
-use Rattle.zset_core.proofs.CallerLemmas.{asked-ok}
+use Rattle.zset_commands.specs.AbstractCommand.{Meaning}
+use Rattle.zset_commands.specs.AbstractCommand as meanings
+use Rattle.zset_commands.specs.CommandGrammar.{command_named, is_add_option, add_options, add_pairs, are_pairs, pairs_value, named_conditions, conditions, first_of, meaning, asked}
+use Rattle.zset_commands.specs.declared.name.CommandName.TheVariants.{Add}
+use Rattle.zset_commands.proofs.CallerLemmas.{asked-ok}
 use Rattle.append_log.specs.Dump.{add_record}
 use Rattle.append_log.proofs.SetUnion.{plain}
 

@@ -1,7 +1,7 @@
 -- Which refusals an append and a sync give, and exactly when.
 use Rattle.std.proofs.Common.{◌≡◌, ◌⊎◌, ◌↔◌, ℕ, List, inl, inr, refl, sym, ◌∙◌, subst, true, false, Result, Ok, Err, OnOk, IfErr, IsErr, IsErrOf}
-use Rattle.zset_core.specs.declared.refusal.Refusal.{Refusal}
-use Rattle.zset_core.specs.declared.refusal.Refusal.TheVariants.{LogBroken, LogFull, LogRefused}
+use Rattle.zset_commands.specs.declared.refusal.Refusal.{Refusal}
+use Rattle.zset_commands.specs.declared.refusal.Refusal.TheVariants.{LogBroken, LogFull, LogRefused}
 use Rattle.append_log.specs.LogViewAndSteps.{LogView, Appends, Breaks, NotAppended, NotSettled}
 
 not_both : (log : LogView) → log.broken ≡ false → log.broken ≡ true → ⊥

@@ -9,9 +9,10 @@ use Rattle.score_bounds.specs.ScoreTexts.{IsScore, IsPlain, score_text, score_va
 use Rattle.zset_core.specs.SortedSet.{Members, Pair, bytes_cmp, whole}
 use Rattle.zset_core.specs.Semantics.{put_all}
 use Rattle.zset_core.specs.SetsByKey.{World, is_empty, set_at, put_set}
-use Rattle.zset_core.specs.WorldWithinRequestLimits.{IsSpelled, IsBoundedSet, IsBoundedAt, IsBoundedWorld}
-use Rattle.zset_core.proofs.CallerLemmas.{total, exact}
-use Rattle.zset_core.proofs.CallerLemmas.{get_put_set, filled}
+use Rattle.zset_commands.specs.RequestLimits.{IsSpelled}
+use Rattle.sorted_sets.specs.WorldWithinRequestLimits.{IsBoundedSet, IsBoundedAt, IsBoundedWorld}
+use Rattle.sorted_sets.proofs.CallerLemmas.{total, exact}
+use Rattle.sorted_sets.proofs.CallerLemmas.{get_put_set, filled}
 use Rattle.append_log.specs.Records.{Record}
 use Rattle.append_log.specs.Replay.{after, after_reading, replay_as, replay}
 use Rattle.append_log.specs.declared.version.Version.TheVariants.{Effects}

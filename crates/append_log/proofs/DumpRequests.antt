@@ -6,10 +6,11 @@ use Rattle.std.specs.FinMap as fin
 use Rattle.std.proofs.lemmas.Fmt.{decimal_digit, length_signed_le}
 use Rattle.score_bounds.specs.ScoreTexts.{IsScore, score_text}
 use Rattle.resp_wire.specs.RequestEncoding.{request, IsArgument, IsRequest}
-use Rattle.zset_core.proofs.CallerLemmas.{whole_empty}
+use Rattle.sorted_sets.proofs.CallerLemmas.{whole_empty}
 use Rattle.zset_core.specs.SortedSet.{Members, Pair, whole}
 use Rattle.zset_core.specs.SetsByKey.{World, set_at}
-use Rattle.zset_core.specs.WorldWithinRequestLimits.{IsSpelled, IsBoundedAt, IsBoundedWorld}
+use Rattle.zset_commands.specs.RequestLimits.{IsSpelled}
+use Rattle.sorted_sets.specs.WorldWithinRequestLimits.{IsBoundedAt, IsBoundedWorld}
 use Rattle.append_log.specs.Replay.{header}
 use Rattle.append_log.specs.Dump.{add_record, cut_pieces, set_records, records_at}
 use Rattle.append_log.proofs.AddRecord.{pair_words, length-pair_words}

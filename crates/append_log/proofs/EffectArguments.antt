@@ -9,13 +9,13 @@ use Rattle.std.proofs.lemmas.Bool.{le-leb}
 use Rattle.resp_wire.specs.RequestEncoding.{IsArgument, IsRequest, most_arguments}
 use Rattle.score_bounds.specs.ScoreTexts.{IsScore, score_text}
 use Rattle.zset_core.specs.SortedSet.{Members}
-use Rattle.zset_core.specs.AbstractCommand.{Meaning}
-use Rattle.zset_core.specs.AbstractCommand as meanings
-use Rattle.zset_core.specs.MovedMembers.{differs, once, moved_names}
-use Rattle.zset_core.specs.CommandGrammar.{command_named, named_conditions, conditions, first_of, meaning, asked}
-use Rattle.zset_core.specs.declared.command.name.CommandName.TheVariants.{Remove}
-use Rattle.zset_core.proofs.CallerLemmas.{asked-ok}
-use Rattle.zset_core.proofs.Outlines.{has}
+use Rattle.zset_commands.specs.AbstractCommand.{Meaning}
+use Rattle.zset_commands.specs.AbstractCommand as meanings
+use Rattle.sorted_sets.specs.MovedMembers.{differs, once, moved_names}
+use Rattle.zset_commands.specs.CommandGrammar.{command_named, named_conditions, conditions, first_of, meaning, asked}
+use Rattle.zset_commands.specs.declared.name.CommandName.TheVariants.{Remove}
+use Rattle.zset_commands.proofs.CallerLemmas.{asked-ok}
+use Rattle.sorted_sets.proofs.Outlines.{has}
 use Rattle.append_log.specs.EffectRecords.{HasScore, effect_words}
 use Rattle.append_log.proofs.AddRecord.{pair_words}
 use Rattle.append_log.proofs.DumpRequests.{all_of, score_short}

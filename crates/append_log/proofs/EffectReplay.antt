@@ -8,12 +8,12 @@ use Rattle.std.specs.Cmp.Lexicographic.{bytes_decides, nat_list_eq_equiv}
 use Rattle.std.specs.FinMap as fin
 use Rattle.zset_core.specs.SortedSet.{Members, Pair, bytes_cmp, names_of}
 use Rattle.zset_core.specs.Semantics.{outcome_of, writes, put_one, put_all, remove_all}
-use Rattle.zset_core.specs.MovedMembers.{same_score, differs, moved_names}
-use Rattle.zset_core.specs.declared.command.pair_outcome.Flags.{Flags}
-use Rattle.zset_core.proofs.CallerLemmas.{total, exact, tied}
-use Rattle.zset_core.proofs.Outlines.{has}
-use Rattle.zset_core.proofs.Gathering.{get-remove_all}
-use Rattle.zset_core.proofs.Effects.{has-once}
+use Rattle.sorted_sets.specs.MovedMembers.{same_score, differs, moved_names}
+use Rattle.zset_commands.specs.declared.flags.Flags.{Flags}
+use Rattle.sorted_sets.proofs.CallerLemmas.{total, exact, tied}
+use Rattle.sorted_sets.proofs.Outlines.{has}
+use Rattle.sorted_sets.proofs.Gathering.{get-remove_all}
+use Rattle.sorted_sets.proofs.Effects.{has-once}
 use Rattle.append_log.proofs.WholeListing.{has_member}
 use Rattle.append_log.proofs.SetUnion.{plain, put_all_get}
 

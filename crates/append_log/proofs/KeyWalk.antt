@@ -12,7 +12,7 @@ use Rattle.std.specs.FinMap.{is_sorted}
 use Rattle.std.specs.FinMap.Entries.{below_all}
 use Rattle.zset_core.specs.SortedSet.{Members, bytes_cmp}
 use Rattle.zset_core.specs.SetsByKey.{World, key_behind}
-use Rattle.zset_core.proofs.CallerLemmas.{total}
+use Rattle.sorted_sets.proofs.CallerLemmas.{total}
 use Rattle.append_log.proofs.WholeListing.{later}
 
 -- the names from one on

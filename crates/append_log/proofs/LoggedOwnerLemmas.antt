@@ -3,14 +3,14 @@ use Rattle.std.proofs.Common.{◌≡◌, ℕ, List, [], ◌∷◌, ◌++◌, ref
 use Rattle.std.specs.Prelude.{◌≢◌, IfErr, IfSome, option_map}
 use Rattle.resp_wire.specs.Response.{Response}
 use Rattle.zset_core.specs.SortedSet.{Members}
-use Rattle.zset_core.specs.AbstractCommand.{Meaning, Asked, key_of, is_writing}
-use Rattle.zset_core.specs.AbstractCommand as meanings
+use Rattle.zset_commands.specs.AbstractCommand.{Meaning, Asked, key_of, is_writing}
+use Rattle.zset_commands.specs.AbstractCommand as meanings
 use Rattle.zset_core.specs.Semantics.{step, act_at, act}
-use Rattle.zset_core.specs.SetAndOwnerViews.{Next, ShowsAt, IsPreparedAt}
-use Rattle.zset_core.specs.ChangeCounts.{IsOutline}
-use Rattle.zset_core.specs.declared.set.change_counts.Outline.{Outline}
-use Rattle.zset_core.specs.declared.refusal.Refusal.{Refusal}
-use Rattle.zset_core.specs.declared.refusal.Refusal.TheVariants.{NoMemory, ScoreOverflow}
+use Rattle.sorted_sets.specs.SetAndOwnerViews.{Next, ShowsAt, IsPreparedAt}
+use Rattle.sorted_sets.specs.ChangeCounts.{IsOutline}
+use Rattle.sorted_sets.specs.declared.set.change_counts.Outline.{Outline}
+use Rattle.zset_commands.specs.declared.refusal.Refusal.{Refusal}
+use Rattle.zset_commands.specs.declared.refusal.Refusal.TheVariants.{NoMemory, ScoreOverflow}
 use Rattle.zset_core.specs.SetsByKey.{World, set_at, put_set}
 use Rattle.append_log.specs.Records.{Record}
 use Rattle.append_log.specs.Replay.{after}

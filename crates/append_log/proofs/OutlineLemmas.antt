@@ -3,9 +3,9 @@ use Rattle.std.proofs.Common.{◌≡◌, ℕ, zero, suc, refl, sym, ap, ◌∙�
 use Rattle.std.specs.Prelude.{◌≢◌}
 use base.Stored.{Gv, gnil, gnum, gcons, num, Coded}
 use Rattle.zset_core.specs.SortedSet.{Members}
-use Rattle.zset_core.specs.SetAndOwnerViews.{coded_members}
-use Rattle.zset_core.specs.ChangeCounts.{IsOutline}
-use Rattle.zset_core.specs.declared.set.change_counts.Outline.{Outline}
+use Rattle.sorted_sets.specs.SetAndOwnerViews.{coded_members}
+use Rattle.sorted_sets.specs.ChangeCounts.{IsOutline}
+use Rattle.sorted_sets.specs.declared.set.change_counts.Outline.{Outline}
 
 numbers : (m n : ℕ) → (m ≡ n) ⊎ (m ≡ n → ⊥)
 numbers zero zero = inl refl

@@ -3,9 +3,9 @@ use Rattle.std.proofs.Common.{◌≡◌, ℕ, Bool, List, Option, None, Some, op
 use Rattle.std.specs.Cmp.Lexicographic.{nat_list_eq_equiv}
 use Rattle.resp_wire.specs.Response.{Response}
 use Rattle.zset_core.specs.SortedSet.{Members}
-use Rattle.zset_core.specs.AbstractCommand.{Asked, Meaning, key_of}
+use Rattle.zset_commands.specs.AbstractCommand.{Asked, Meaning, key_of}
 use Rattle.zset_core.specs.Semantics.{act, act_at, step}
-use Rattle.zset_core.specs.SetAndOwnerViews.{HasNoSet, IsPreparedAt, IsPreparedFor, IsSetAt, Next, OwnerView, SetView, Shows, ShowsAt, next_for}
+use Rattle.sorted_sets.specs.SetAndOwnerViews.{HasNoSet, IsPreparedAt, IsPreparedFor, IsSetAt, Next, OwnerView, SetView, Shows, ShowsAt, next_for}
 use Rattle.zset_core.specs.SetsByKey.{World, put_set, set_at}
 use Rattle.append_log.specs.EffectRecords.{effect_record, next_record, prepared_record, record_made, record_made_at, record_of_next, record_of_owner_next}
 use Rattle.append_log.proofs.SameWorlds.{set_at-put_set-same}

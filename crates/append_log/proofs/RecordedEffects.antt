@@ -9,17 +9,17 @@ use Rattle.resp_wire.specs.Stream.{items, rest}
 use Rattle.resp_wire.specs.Response.{Response, Integer, NullBulk}
 use Rattle.score_bounds.specs.ScoreTexts.{IsScore, IsPlain, score_text, score_value}
 use Rattle.zset_core.specs.SortedSet.{Members, Pair, names_of}
-use Rattle.zset_core.specs.AbstractCommand.{Meaning, Asked, key_of, is_writing, Ping, Asks, Changes, Add, Increase, Remove, RemoveRange}
-use Rattle.zset_core.specs.MovedMembers.{differs, effect, effect_of_next, moved_names, prepared_effect, same_score}
-use Rattle.zset_core.specs.SetAndOwnerViews.{IsPreparedFor, Next, SetView, Shows}
-use Rattle.zset_core.specs.CommandGrammar.{asked}
-use Rattle.zset_core.specs.WorldWithinRequestLimits.{FitsRequest, IsBoundedMeaning}
+use Rattle.zset_commands.specs.AbstractCommand.{Meaning, Asked, key_of, is_writing, Ping, Asks, Changes, Add, Increase, Remove, RemoveRange}
+use Rattle.sorted_sets.specs.MovedMembers.{differs, effect, effect_of_next, moved_names, prepared_effect, same_score}
+use Rattle.sorted_sets.specs.SetAndOwnerViews.{IsPreparedFor, Next, SetView, Shows}
+use Rattle.zset_commands.specs.CommandGrammar.{asked}
+use Rattle.zset_commands.specs.RequestLimits.{FitsRequest, IsBoundedMeaning}
 use Rattle.zset_core.specs.Semantics.{count_all, put_one, put_all, remove_all, step, act, act_at, increase_reply, is_barred, outcome_of, sum_of}
 use Rattle.zset_core.specs.SetsByKey.{World, set_at, put_set}
-use Rattle.zset_core.specs.declared.refusal.Refusal.{Refusal}
-use Rattle.zset_core.specs.declared.command.pair_outcome.Flags.{Flags}
-use Rattle.zset_core.proofs.Outlines.{has}
-use Rattle.zset_core.proofs.Gathering.{get-remove_all}
+use Rattle.zset_commands.specs.declared.refusal.Refusal.{Refusal}
+use Rattle.zset_commands.specs.declared.flags.Flags.{Flags}
+use Rattle.sorted_sets.proofs.Outlines.{has}
+use Rattle.sorted_sets.proofs.Gathering.{get-remove_all}
 use Rattle.append_log.specs.Dump.{add_record}
 use Rattle.append_log.specs.EffectRecords.{EffectEntry, HasScore, effect_words, next_record, record_for, record_of_next, words_in}
 use Rattle.append_log.specs.Records.{Record, IsRecord}

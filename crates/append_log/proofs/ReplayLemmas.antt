@@ -4,13 +4,13 @@ use Rattle.std.specs.Prelude.{codes, ◌==◌, option_and_then, option_map}
 use Rattle.std.specs.Str.{bytes_eq}
 use Rattle.std.specs.Cmp.Lexicographic.{bytes_decides}
 use Rattle.zset_core.specs.SetsByKey.{World}
-use Rattle.zset_core.specs.AbstractCommand.{Meaning, is_writing}
-use Rattle.zset_core.specs.AbstractCommand.{has_options}
+use Rattle.zset_commands.specs.AbstractCommand.{Meaning, is_writing}
+use Rattle.zset_commands.specs.AbstractCommand.{has_options}
 use Rattle.zset_core.specs.Semantics.{act}
-use Rattle.zset_core.specs.CommandGrammar.{asked, command_named, refusal_of}
-use Rattle.zset_core.specs.MeaningOfForm.{word_at}
-use Rattle.zset_core.specs.declared.refusal.Refusal.{Refusal}
-use Rattle.zset_core.specs.declared.refusal.Refusal.TheVariants.{UnknownCommand}
+use Rattle.zset_commands.specs.CommandGrammar.{asked, command_named, refusal_of}
+use Rattle.zset_commands.specs.MeaningOfForm.{word_at}
+use Rattle.zset_commands.specs.declared.refusal.Refusal.{Refusal}
+use Rattle.zset_commands.specs.declared.refusal.Refusal.TheVariants.{UnknownCommand}
 use Rattle.append_log.specs.Records.{Record}
 use Rattle.append_log.specs.Replay.{after, after_reading, is_header, names_version, replay_as, replay_from, replay, version_after, count_from}
 use Rattle.append_log.specs.declared.version.Version.{Version}

@@ -9,12 +9,12 @@ use Rattle.std.specs.declared.cmp.Ordering.TheVariants.{Less, Equal, Greater}
 use Rattle.std.proofs.lemmas.Bool.Decides.{nat_tests}
 use Rattle.resp_wire.specs.Response.{Response}
 use Rattle.zset_core.specs.SortedSet.{Members, bytes_cmp}
-use Rattle.zset_core.specs.AbstractCommand.{Meaning}
+use Rattle.zset_commands.specs.AbstractCommand.{Meaning}
 use Rattle.zset_core.specs.Semantics.{step, act_at}
-use Rattle.zset_core.specs.SetAndOwnerViews.{Next, ShowsAt, IsPreparedAt}
+use Rattle.sorted_sets.specs.SetAndOwnerViews.{Next, ShowsAt, IsPreparedAt}
 use Rattle.zset_core.specs.SetsByKey.{World, is_empty, set_at, put_set}
-use Rattle.zset_core.proofs.CallerLemmas.{get_put_set, filled, placed}
-use Rattle.zset_core.proofs.CallerLemmas.{total, exact}
+use Rattle.sorted_sets.proofs.CallerLemmas.{get_put_set, filled, placed}
+use Rattle.sorted_sets.proofs.CallerLemmas.{total, exact}
 use Rattle.append_log.specs.LoggedOwnerViewAndRuns.{AreSame}
 
 no_members : (m : Members) → true ≡ is_empty m → fin.len m ≡ 0

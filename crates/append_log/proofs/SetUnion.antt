@@ -7,9 +7,9 @@ use Rattle.std.specs.Cmp.Lexicographic.{bytes_decides}
 use Rattle.std.specs.FinMap as fin
 use Rattle.zset_core.specs.SortedSet.{Members, Pair, bytes_cmp, whole}
 use Rattle.zset_core.specs.Semantics.{outcome_of, writes, put_one, put_all}
-use Rattle.zset_core.specs.declared.command.pair_outcome.Flags.{Flags}
-use Rattle.zset_core.specs.declared.command.pair_outcome.Outcome.TheVariants.{Changed, Same}
-use Rattle.zset_core.proofs.CallerLemmas.{total, exact, tied}
+use Rattle.zset_commands.specs.declared.flags.Flags.{Flags}
+use Rattle.zset_core.specs.declared.pair_outcome.Outcome.TheVariants.{Changed, Same}
+use Rattle.sorted_sets.proofs.CallerLemmas.{total, exact, tied}
 use Rattle.append_log.proofs.WholeListing.{each_of_whole, has_member, member_listed}
 
 -- the flags of ZADD without options

@@ -8,8 +8,8 @@ use Rattle.std.specs.Cmp.{eq_by_cmp_equiv}
 use Rattle.std.specs.FinMap as fin
 use Rattle.std.proofs.lemmas.Cmp.{int_cmp_total}
 use Rattle.zset_core.specs.SortedSet.{Members, Pair, bytes_cmp, pair_cmp, pairs, marks, listing, whole}
-use Rattle.zset_core.proofs.CallerLemmas.{total}
-use Rattle.zset_core.proofs.CallerLemmas.{pair_total, is_pair, is_same, is_equal, has_of_pairs, find_marks}
+use Rattle.sorted_sets.proofs.CallerLemmas.{total}
+use Rattle.sorted_sets.proofs.CallerLemmas.{pair_total, is_pair, is_same, is_equal, has_of_pairs, find_marks}
 
 pub later : {b : Bool} (a : Bool) → b ≡ true → (a || b) ≡ true
 later true h = refl

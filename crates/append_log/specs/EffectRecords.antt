@@ -5,10 +5,10 @@ use Rattle.score_bounds.specs.ScoreTexts.{IsScore, score_text}
 use Rattle.resp_wire.specs.Stream.{requests}
 use Rattle.zset_core.specs.SortedSet.{Members}
 use Rattle.resp_wire.specs.Response.{Response}
-use Rattle.zset_core.specs.SetAndOwnerViews.{Next, OwnerView, SetView}
+use Rattle.sorted_sets.specs.SetAndOwnerViews.{Next, OwnerView, SetView}
 use Rattle.zset_core.specs.SetsByKey.{World, set_at}
-use Rattle.zset_core.specs.AbstractCommand.{Meaning, Asked, key_of, Ping, Asks, Changes, Change, Add, Increase, Remove, RemoveRange}
-use Rattle.zset_core.specs.MovedMembers.{effect}
+use Rattle.zset_commands.specs.AbstractCommand.{Meaning, Asked, key_of, Ping, Asks, Changes, Change, Add, Increase, Remove, RemoveRange}
+use Rattle.sorted_sets.specs.MovedMembers.{effect}
 use Rattle.append_log.specs.Records.{Record}
 
 -- a member and the score that it has, None where it is gone

@@ -9,4 +9,3 @@ pub mod LoggedOwnerViewAndRuns
 pub mod Dump
 pub mod EffectRecords
 pub mod RewriteOutcome
-pub mod FileOpening

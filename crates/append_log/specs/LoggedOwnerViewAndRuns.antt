@@ -4,9 +4,9 @@ use Rattle.resp_wire.specs.RequestEncoding.{request}
 use Rattle.resp_wire.specs.Response.{Response}
 use Rattle.zset_core.specs.SetsByKey.{World, set_at}
 use Rattle.zset_core.specs.Semantics.{act}
-use Rattle.zset_core.specs.AbstractCommand.{Asked}
-use Rattle.zset_core.specs.declared.refusal.Refusal.{Refusal}
-use Rattle.zset_core.specs.declared.refusal.Refusal.TheVariants.{NoMemory, ScoreOverflow}
+use Rattle.zset_commands.specs.AbstractCommand.{Asked}
+use Rattle.zset_commands.specs.declared.refusal.Refusal.{Refusal}
+use Rattle.zset_commands.specs.declared.refusal.Refusal.TheVariants.{NoMemory, ScoreOverflow}
 use Rattle.append_log.specs.Records.{Record}
 use Rattle.append_log.specs.EffectRecords.{change_record, record_made}
 use Rattle.append_log.specs.Replay.{replay}

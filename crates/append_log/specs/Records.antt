@@ -3,8 +3,8 @@ use Rattle.std.specs.Prelude.{◌≡◌, ℕ, ◌≤◌, List, ◌++◌, length,
 use Rattle.std.specs.List.{flat_map, AllByRecursion}
 use Rattle.resp_wire.specs.RequestEncoding.{request, IsRequest}
 use Rattle.resp_wire.specs.Stream.{requests, fault}
-use Rattle.zset_core.specs.AbstractCommand.{is_writing}
-use Rattle.zset_core.specs.CommandGrammar.{asked}
+use Rattle.zset_commands.specs.AbstractCommand.{is_writing}
+use Rattle.zset_commands.specs.CommandGrammar.{asked}
 
 -- a record: the arguments of a command
 abbrev pub Record : Type 0

@@ -1,11 +1,11 @@
 -- What the records of an append file replay to. The first one decides how those behind it are read.
 use Rattle.std.specs.Prelude.{ℕ, ◌+◌, ◌==◌, Bool, not, ◌&&◌, List, [], ◌∷◌, length, codes, Option, Some, None, Result, Ok, Err, option_map, option_and_then, if◌then◌else◌}
 use Rattle.std.specs.Str.{bytes_eq}
-use Rattle.zset_core.specs.declared.refusal.Refusal.{Refusal}
-use Rattle.zset_core.specs.AbstractCommand.{Meaning, is_writing}
-use Rattle.zset_core.specs.AbstractCommand.{has_options}
-use Rattle.zset_core.specs.CommandGrammar.{asked}
-use Rattle.zset_core.specs.MeaningOfForm.{word_at}
+use Rattle.zset_commands.specs.declared.refusal.Refusal.{Refusal}
+use Rattle.zset_commands.specs.AbstractCommand.{Meaning, is_writing}
+use Rattle.zset_commands.specs.AbstractCommand.{has_options}
+use Rattle.zset_commands.specs.CommandGrammar.{asked}
+use Rattle.zset_commands.specs.MeaningOfForm.{word_at}
 use Rattle.zset_core.specs.SetsByKey.{World}
 use Rattle.zset_core.specs.Semantics.{act}
 use Rattle.append_log.specs.Records.{Record}

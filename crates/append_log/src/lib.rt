@@ -7,14 +7,11 @@
 //! that was answered.
 #![tactic(auto)]
 
-mod file_sink;
 mod group_commit;
 mod loading;
 mod log;
 mod log_sinks;
 mod logged;
-mod new_file;
-mod opening;
 mod record;
 mod record_count_share;
 mod record_length;
@@ -23,14 +20,11 @@ mod rewriting;
 mod thread_safe_ledger_share;
 mod version;
 
-pub use file_sink::{FileFault, FileHandle, FileSink, LockFile};
 pub use group_commit::{FuseHandle, SyncHandle, Syncer};
 pub use loading::{Loaded, ReloadFault, reload};
 pub use log::Log;
 pub use log_sinks::{FuseSink, LogSink, MemorySink, NoSink, SinkFault};
 pub use logged::LoggedOwner;
-pub use new_file::{NewFileFault, write_anew};
-pub use opening::{OpenFault, open_to_append, open_to_read};
 pub use record::Record;
 pub use record_count_share::RecordShare;
 pub use rewriting::{RewriteFault, rewrite};

@@ -12,10 +12,11 @@ ghost use Rattle.append_log.specs.declared.loading.ReloadFault.TheVariants as fa
 use crate::record_length::text_len;
 use crate::version::{Version, is_header, names_version, number_of};
 use resp_wire::{ByteSource, Decoder, MAX_READ_BUFFER, MAX_READS, Request, WireFault, laws};
+use sorted_sets::OneOwner;
 use std::alloc::{AllocError, Allocator};
 use std::hash::BuildHasher;
 use thiserror::Error;
-use zset_core::{Command, OneOwner, Refusal};
+use zset_commands::{Command, Refusal};
 
 /// What a reload took.
 #[derive(Clone, Copy, Debug, PartialEq, Eq)]

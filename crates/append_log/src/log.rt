@@ -11,7 +11,7 @@ use resp_wire::laws;
 use std::alloc::Allocator;
 use std::marker::Model;
 use std::sync::ledger::{Blank, Book, Ledger, Share};
-use zset_core::Refusal;
+use zset_commands::Refusal;
 
 /// An append file that is being written: records one behind the other in a sink. Each is synced before its append is
 /// answered, or, in a log that is deferred, when [`Log::sync`] is called. It counts its records and gives away shares of

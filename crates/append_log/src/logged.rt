@@ -3,8 +3,8 @@
 ghost use Rattle.std.specs.Prelude.{◌≡◌, ◌≢◌, ◌↔◌, ◌⊎◌, ℕ, List, IfSome, ◌+◌, ◌≤◌, None, Some, true, false, IfOk, IfErr, OnOk, IsTrue, IsErr, IsErrOf};
 ghost use Rattle.resp_wire.specs.Response.{response_of};
 ghost use Rattle.resp_wire.specs.RequestEncoding.{request};
-ghost use Rattle.zset_core.specs.AbstractCommand.{is_writing, key_of};
-ghost use Rattle.zset_core.specs.SetAndOwnerViews.{IsPreparedAt, IsPreparedFor};
+ghost use Rattle.zset_commands.specs.AbstractCommand.{is_writing, key_of};
+ghost use Rattle.sorted_sets.specs.SetAndOwnerViews.{IsPreparedAt, IsPreparedFor};
 ghost use Rattle.zset_core.specs.SetsByKey.{World as WorldType, put_set, set_at};
 ghost use Rattle.append_log.specs.EffectRecords.{next_record, prepared_record};
 ghost use Rattle.append_log.specs.LogViewAndSteps.{LogView, Appends, HasRecords, NotSettled, Settles, records_after, share_after};
@@ -17,11 +17,12 @@ use crate::log_sinks::LogSink;
 use crate::record::Record;
 use crate::record_count_share::RecordShare;
 use resp_wire::Reply;
+use sorted_sets::{OneOwner, ZSet};
 use std::alloc::Allocator;
 use std::hash::BuildHasher;
 use std::marker::Model;
 use std::sync::ledger::Ledger;
-use zset_core::{Command, OneOwner, Refusal, ZSet};
+use zset_commands::{Command, Refusal};
 
 /// Appends the record of a command that a set has prepared.
 fn append_prepared<H: BuildHasher, S: LogSink, L: Ledger, A: Allocator + Copy>(
@@ -160,7 +161,7 @@ impl<H: BuildHasher, S: LogSink, L: Ledger, A: Allocator + Copy> Model for Logge
     ghost Value = { LoggedView };
 
     ghost use Rattle.std.specs.Coded.{codes};
-    ghost use Rattle.zset_core.specs.SetAndOwnerViews.{coded_members, coded_world};
+    ghost use Rattle.sorted_sets.specs.SetAndOwnerViews.{coded_members, coded_world};
 
     ghost coded = { Prim.hlevel (codes, coded_members, coded_world) };
 

@@ -4,9 +4,9 @@ ghost use Rattle.std.specs.Prelude.{◌≡◌, ◌≢◌, ◌+◌, ◌≤◌, �
 ghost use Rattle.std.specs.List.{AllByRecursion, flat_map};
 ghost use Rattle.resp_wire.specs.RequestEncoding.{argument, most_arguments, request};
 ghost use Rattle.score_bounds.specs.ScoreTexts.{IsScore};
-ghost use Rattle.zset_core.specs.AbstractCommand.{key_of, is_writing};
-ghost use Rattle.zset_core.specs.MovedMembers.{prepared_effect};
-ghost use Rattle.zset_core.specs.SetAndOwnerViews.{IsPreparedFor};
+ghost use Rattle.zset_commands.specs.AbstractCommand.{key_of, is_writing};
+ghost use Rattle.sorted_sets.specs.MovedMembers.{prepared_effect};
+ghost use Rattle.sorted_sets.specs.SetAndOwnerViews.{IsPreparedFor};
 ghost use Rattle.zset_core.specs.SetsByKey.{World as WorldType, set_at, put_set};
 ghost use Rattle.append_log.specs.EffectRecords.{HasScore, effect_record, effect_words, next_record, words_behind};
 ghost use Rattle.append_log.specs.Records.{IsRecord};
@@ -15,10 +15,11 @@ ghost use Rattle.append_log.specs.declared.version.Version.TheVariants.{Effects}
 
 use resp_wire::{laws, write_array_header, write_bulk, write_number_bulk, write_request};
 use score_bounds::grammar_laws::printed_scores;
+use sorted_sets::ZSet;
 use std::alloc::{AllocError, Allocator};
 use std::hash::BuildHasher;
 use std::marker::Model;
-use zset_core::{Command, ZSet};
+use zset_commands::Command;
 
 /// The most bytes that stand round an argument: a mark, a number of at most five digits, and the ends of two
 /// lines.

@@ -14,10 +14,10 @@ use crack_kernel::Row;
 use resp_wire::{Bytes, BytesList, Reply, laws, write_reply};
 use score_bounds::grammar_laws::printed_scores;
 use score_bounds::write_score;
+use sorted_sets::OneOwner;
 use std::alloc::{AllocError, Allocator};
 use std::hash::BuildHasher;
 use thiserror::Error;
-use zset_core::OneOwner;
 
 /// The most pairs of one record.
 const PIECE: usize = 512;

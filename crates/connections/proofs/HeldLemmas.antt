@@ -2,8 +2,8 @@
 use Rattle.std.proofs.Common.{◌≡◌, ◌≤◌, ◌<◌, ℕ, ◌⊎◌, List, refl, sym, ◌∙◌, ap, subst, arith, Option, Some, None, slice_get, slice_set, Result, inl, inr}
 use Rattle.resp_wire.specs.DecoderView.{DecoderView}
 use Rattle.resp_wire.specs.Response.{Response}
-use Rattle.zset_core.specs.AbstractCommand.{Asked}
-use Rattle.zset_core.specs.declared.refusal.Refusal.{Refusal}
+use Rattle.zset_commands.specs.AbstractCommand.{Asked}
+use Rattle.zset_commands.specs.declared.refusal.Refusal.{Refusal}
 use Rattle.session_core.specs.declared.resumable_session.Progress.{Progress}
 use Rattle.session_core.specs.Interleaved.{StateMoves, TakesTurns}
 use Rattle.connections.specs.declared.connection_in_turns.Stage.{Stage}

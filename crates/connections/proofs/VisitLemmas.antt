@@ -3,8 +3,8 @@ use Rattle.std.proofs.Common.{◌≡◌, List, ℕ, sym, subst, Option, Result, 
 use Rattle.std.specs.Io.KnownBytes.{prepend_known}
 use Rattle.resp_wire.specs.DecoderView.{DecoderView}
 use Rattle.resp_wire.specs.Response.{Response}
-use Rattle.zset_core.specs.AbstractCommand.{Asked}
-use Rattle.zset_core.specs.declared.refusal.Refusal.{Refusal}
+use Rattle.zset_commands.specs.AbstractCommand.{Asked}
+use Rattle.zset_commands.specs.declared.refusal.Refusal.{Refusal}
 use Rattle.session_core.specs.declared.session_end.SessionFault.{SessionFault}
 use Rattle.session_core.specs.declared.resumable_session.Progress.{Progress}
 use Rattle.session_core.specs.ServeSteps.{SessionUnderway}

@@ -4,8 +4,8 @@ use Rattle.std.specs.Io.KnownBytes.{append_known}
 use Rattle.resp_wire.specs.DecoderView.{DecoderView}
 use Rattle.resp_wire.specs.declared.outbox.Outbox.{Outbox}
 use Rattle.resp_wire.specs.Response.{Response}
-use Rattle.zset_core.specs.AbstractCommand.{Asked}
-use Rattle.zset_core.specs.declared.refusal.Refusal.{Refusal}
+use Rattle.zset_commands.specs.AbstractCommand.{Asked}
+use Rattle.zset_commands.specs.declared.refusal.Refusal.{Refusal}
 use Rattle.session_core.specs.declared.session_end.SessionFault.TheVariants.{NoMemory, TooManyReads}
 use Rattle.session_core.specs.declared.resumable_session.Progress.{Progress}
 use Rattle.session_core.specs.SessionEnd.{Served}

@@ -1,8 +1,8 @@
 -- The connections that a worker holds, each at its place.
 use Rattle.std.specs.Prelude.{◌≡◌, ℕ, ◌≤◌, ◌<◌, ◌⊎◌, List, [], Option, Result}
 use Rattle.resp_wire.specs.Response.{Response}
-use Rattle.zset_core.specs.AbstractCommand.{Asked}
-use Rattle.zset_core.specs.declared.refusal.Refusal.{Refusal}
+use Rattle.zset_commands.specs.AbstractCommand.{Asked}
+use Rattle.zset_commands.specs.declared.refusal.Refusal.{Refusal}
 use Rattle.session_core.specs.Interleaved.{StateMoves}
 use Rattle.connections.specs.Places.{IsGrown, MayPut, EachWas, Each}
 use Rattle.connections.specs.ConnectionTurnState.{VisitState, GoesOn, HasBegun}

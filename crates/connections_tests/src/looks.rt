@@ -6,10 +6,10 @@ use crate::scripts::Script;
 use connections::{Buffers, Moment, Next, Visit};
 use resp_wire::{Reading, Writing};
 use session_core::Exec;
+use sorted_sets::OneOwner;
 use std::alloc::Global;
 use std::hash::RandomState;
 use std::test::*;
-use zset_core::OneOwner;
 
 /// Serves a client that sends these at once, by this clock, until its connection has ended.
 fn serve<R, E: Exec<R, Global>>(

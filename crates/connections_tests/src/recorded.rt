@@ -7,13 +7,14 @@ use crate::devices::Sender;
 use connections::{Settle, Watched};
 use resp_wire::Reply;
 use session_core::Exec;
+use sorted_sets::OneOwner;
 use std::alloc::{AllocError, Global};
 use std::cell::{Cell, RefCell};
 use std::hash::RandomState;
 use std::io::{Error as IoError, ErrorKind, Result as IoResult, Write};
 use std::os::fd::RawFd;
 use std::time::Duration;
-use zset_core::{Command, OneOwner, Refusal};
+use zset_commands::{Command, Refusal};
 
 /// An owner of sets. It has a record of each command but PING, and that is what the answer tells of.
 #[derive(Drop)]

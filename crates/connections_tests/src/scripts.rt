@@ -4,7 +4,7 @@ use resp_wire::{Bytes, BytesList, Reply, Request, write_reply, write_request};
 use session_core::Exec;
 use std::alloc::Global;
 use std::test::Fail;
-use zset_core::Command;
+use zset_commands::Command;
 
 /// What a client sends.
 #[derive(Drop)]

@@ -8,11 +8,11 @@ use crate::scripts::Script;
 use connections::Connections;
 use resp_wire::{Reading, Writing};
 use session_core::Exec;
+use sorted_sets::OneOwner;
 use std::alloc::Global;
 use std::cell::Cell;
 use std::hash::RandomState;
 use std::test::*;
-use zset_core::OneOwner;
 
 /// All connections of a test.
 type Held<'h> = Connections<Reading<Sender<'h>>, Writing<Reader<'h>>, Global>;

@@ -9,10 +9,10 @@ use crate::scripts::Script;
 use connections::{Buffers, Moment, Next, Visit};
 use resp_wire::{FuseDrain, FuseSource, Reading, Writing};
 use session_core::Exec;
+use sorted_sets::OneOwner;
 use std::alloc::Global;
 use std::hash::RandomState;
 use std::test::*;
-use zset_core::OneOwner;
 
 /// A connection to a client in memory.
 #[derive(Drop)]

@@ -6,7 +6,7 @@ ghost use Rattle.exit_lines.specs.ExitStatusAndLines as ends;
 ghost use Rattle.exit_lines.specs.declared.lines_and_statuses.Line.TheVariants as lines;
 ghost use Rattle.exit_lines.specs.ExitStatusAndLines.{noticed};
 
-use append_log::FileFault;
+use append_file::FileFault;
 use std::fmt;
 use std::io::ErrorKind;
 

@@ -1,7 +1,8 @@
 //! Calls of a device that a signal interrupts, and that std makes again in the program: each is made again, a hundred times
 //! at most.
 
-use append_log::{FileSink, LogSink};
+use append_file::FileSink;
+use append_log::LogSink;
 use resp_wire::{ByteDrain, Writing};
 use std::cell::Cell;
 use std::fs::{Metadata, OpenFile};

@@ -4,12 +4,13 @@ ghost use Rattle.std.specs.Prelude.{◌≡◌, ◌≤◌, ◌^◌, None};
 
 use append_log::{FuseSink, Log, LogSink, LoggedOwner, MemorySink, ReloadFault, reload};
 use resp_wire::{Bytes, BytesList, FuseSource, MemorySource, Reply, Request, write_reply};
+use sorted_sets::OneOwner;
 use std::alloc::{Allocator, Global};
 use std::hash::RandomState;
 use std::marker::Brand;
 use std::sync::ledger::{Blank, Ledger};
 use std::test::*;
-use zset_core::{Command, OneOwner, Refusal};
+use zset_commands::{Command, Refusal};
 
 pub type Owner<A> = OneOwner<RandomState, A>;
 

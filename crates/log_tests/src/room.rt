@@ -7,12 +7,13 @@ use crate::owners::{Logged, command};
 use append_log::{Log, LoggedOwner, NoSink};
 use linked_list_allocator::LocalHeap;
 use resp_wire::Reply;
+use sorted_sets::OneOwner;
 use std::alloc::Global;
 use std::hash::RandomState;
 use std::marker::Brand;
 use std::sync::ledger::{Blank, Ledger};
 use std::test::*;
-use zset_core::{Command, OneOwner};
+use zset_commands::Command;
 
 /// The bytes of the heap.
 const HEAP: usize = 1 << 20;

@@ -10,12 +10,12 @@ use append_log::{
 };
 use fuse_alloc::Fuse;
 use resp_wire::MemorySource;
+use sorted_sets::OneOwner;
 use std::alloc::Global;
 use std::hash::RandomState;
 use std::marker::Brand;
 use std::sync::ledger::{Blank, Ledger};
 use std::test::*;
-use zset_core::OneOwner;
 
 /// Memory one of whose allocations is refused.
 type Heap<'f> = &'f Fuse<Global>;

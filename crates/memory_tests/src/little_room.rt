@@ -5,12 +5,13 @@ ghost use Rattle.std.specs.Prelude.{◌≡◌, None};
 use crate::owners::{Owner, addition, command, replies};
 use append_log::{Log, LoggedOwner, NoSink};
 use linked_list_allocator::LocalHeap;
+use sorted_sets::OneOwner;
 use std::alloc::Global;
 use std::hash::RandomState;
 use std::marker::Brand;
 use std::sync::ledger::{Blank, Ledger};
 use std::test::*;
-use zset_core::{Command, OneOwner};
+use zset_commands::Command;
 
 /// The bytes of a heap.
 const HEAP: usize = 1 << 20;

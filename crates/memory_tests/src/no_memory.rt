@@ -6,10 +6,11 @@ ghost use Rattle.std.specs.Prelude.{◌≡◌, ◌≤◌, length, None};
 use crate::owners::{Owner, command, replies};
 use fuse_alloc::Fuse;
 use resp_wire::Decoder;
+use sorted_sets::OneOwner;
 use std::alloc::Global;
 use std::hash::RandomState;
 use std::test::*;
-use zset_core::{Command, OneOwner};
+use zset_commands::Command;
 
 /// Memory one of whose allocations is refused.
 type Heap<'f> = &'f Fuse<Global>;

@@ -3,10 +3,11 @@
 ghost use Rattle.std.specs.Prelude.{◌≡◌, None};
 
 use resp_wire::{Bytes, BytesList, Reply, Request, write_reply};
+use sorted_sets::OneOwner;
 use std::alloc::{Allocator, Global};
 use std::hash::RandomState;
 use std::test::*;
-use zset_core::{Command, OneOwner, Refusal};
+use zset_commands::{Command, Refusal};
 
 pub type Owner<A> = OneOwner<RandomState, A>;
 

@@ -4,9 +4,9 @@ ghost use Rattle.std.specs.Prelude.{◌≡◌, None};
 
 use crate::owners::{Owner, addition, replies};
 use linked_list_allocator::LocalHeap;
+use sorted_sets::OneOwner;
 use std::hash::RandomState;
 use std::test::*;
-use zset_core::OneOwner;
 
 /// The bytes of a heap.
 const HEAP: usize = 1 << 20;

@@ -5,17 +5,17 @@ use Rattle.std.specs.Io.KnownBytes.{append_known}
 use Rattle.resp_wire.specs.Device.{Rose}
 use Rattle.zset_core.specs.SetsByKey.{World}
 use Rattle.append_log.specs.Dump.{dump}
-use Rattle.append_log.specs.FileOpening.{Opens, OpenFails}
+use Rattle.append_file.specs.FileOpening.{Opens, OpenFails}
 use Rattle.append_log.specs.LoggedOwnerViewAndRuns.{LoggedView}
-use Rattle.append_log.specs.declared.file_sink.FileFault.TheVariants as files
+use Rattle.append_file.specs.declared.file_sink.FileFault.TheVariants as files
 use Rattle.append_log.specs.declared.loading.Loaded.{Loaded}
 use Rattle.append_log.specs.declared.loading.ReloadFault.{ReloadFault}
 use Rattle.append_log.specs.declared.loading.ReloadFault.TheVariants as faults
-use Rattle.append_log.specs.declared.opening.OpenFault.{OpenFault}
-use Rattle.append_log.specs.declared.opening.OpenFault.TheVariants as opens
+use Rattle.append_file.specs.declared.opening.OpenFault.{OpenFault}
+use Rattle.append_file.specs.declared.opening.OpenFault.TheVariants as opens
 use Rattle.append_log.specs.declared.rewriting.RewriteFault.TheVariants as rewrites
-use Rattle.append_log.specs.declared.new_file.NewFileFault.{NewFileFault}
-use Rattle.append_log.specs.declared.new_file.NewFileFault.TheVariants as new_file_faults
+use Rattle.append_file.specs.declared.new_file.NewFileFault.{NewFileFault}
+use Rattle.append_file.specs.declared.new_file.NewFileFault.TheVariants as new_file_faults
 use Rattle.resp_wire.specs.Response.{Response}
 use Rattle.session_core.specs.OwnerAnswers.{LoggedAnswers}
 use Rattle.session_core.specs.Exchange.{Exchanges}

@@ -5,7 +5,7 @@ ghost use Rattle.exit_lines.specs.ExitStatusAndLines.{finish_by};
 ghost use Rattle.exit_lines.specs.declared.lines_and_statuses.Line.TheVariants as lines;
 
 use crate::file_progress_reports::WatchedFiles;
-use append_log::FileFault;
+use append_file::FileFault;
 use exit_lines::{Finish, Line, Unusable};
 use std::alloc::Global;
 use std::net::SocketAddr;

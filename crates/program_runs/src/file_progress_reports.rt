@@ -1,7 +1,7 @@
 //! The program's files, watched: standard error is told while the program runs how far an append
 //! file was read, and that one failed.
 
-use append_log::{FileFault, LockFile};
+use append_file::{FileFault, LockFile};
 use std::alloc::{Alloc, Allocator, Global};
 use std::cell::Cell;
 use std::fs::{File, Files, Metadata, OpenFile, OpenOptions, Permissions};

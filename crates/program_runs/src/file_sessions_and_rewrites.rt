@@ -3,7 +3,7 @@
 ghost use Rattle.std.specs.Prelude.{◌≡◌, None, false, IfOk, IfErr, OnOk};
 ghost use Rattle.std.specs.Io.KnownBytes.{append_known};
 ghost use Rattle.resp_wire.specs.Device.{Rose};
-ghost use Rattle.append_log.specs.FileOpening.{Restores};
+ghost use Rattle.append_file.specs.FileOpening.{Restores};
 ghost use Rattle.exit_lines.specs.DeviceStates.{drain_state, source_state};
 ghost use Rattle.exit_lines.specs.ExitStatusAndLines.{IsPrinted};
 ghost use Rattle.program_runs.specs.FileRunOutcomes as files;
@@ -11,18 +11,19 @@ ghost use Rattle.program_runs.specs.FileRunOutcomes.{FailsBy, FileIsOpened, File
 ghost use Rattle.exit_lines.specs.declared.lines_and_statuses.Line.TheVariants as lines;
 
 use crate::stdio::stdio_run;
-use append_log::{
-    FileFault, FileSink, Loaded, LockFile, Log, LogSink, LoggedOwner, NewFileFault, OpenFault,
-    ReloadFault, RewriteFault, open_to_append, open_to_read, write_anew,
+use append_file::{
+    FileFault, FileSink, LockFile, NewFileFault, OpenFault, open_to_append, open_to_read,
+    write_anew,
 };
+use append_log::{Loaded, Log, LogSink, LoggedOwner, ReloadFault, RewriteFault};
 use exit_lines::{Finish, Line, Unusable, print};
 use resp_wire::{ByteDrain, ByteSource};
+use sorted_sets::OneOwner;
 use std::alloc::{AllocGlobal, Global};
 use std::fs::Files;
 use std::hash::{BuildHasher, RandomState};
 use std::marker::Brand;
 use std::sync::ledger::{Blank, Ledger};
-use zset_core::OneOwner;
 
 /// The most records that a session appends to its file.
 pub const MAX_SESSION_RECORDS: u64 = 1_000_000_000;

@@ -8,7 +8,8 @@ ghost use Rattle.program_runs.specs.FileRunOutcomes.{ServesFile, ServesFrom};
 
 use crate::file_sessions_and_rewrites::{MAX_SESSION_RECORDS, Opened, open_session};
 use crate::stdio::after_session;
-use append_log::{LockFile, Log, LogSink, LoggedOwner};
+use append_file::LockFile;
+use append_log::{Log, LogSink, LoggedOwner};
 use exit_lines::Finish;
 use resp_wire::{ByteDrain, ByteSource};
 use session_core::{HeldReplies, serve_deferred};

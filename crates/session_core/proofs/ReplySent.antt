@@ -2,9 +2,9 @@
 use Rattle.std.proofs.Common.{◌≡◌, ℕ, ◌+◌, List, length, Option, Result, Ok, Err, OnOk, IfErr, sym, subst, inl}
 use Rattle.std.specs.Io.KnownBytes.{append_known}
 use Rattle.resp_wire.specs.Response.{Response, encoded}
-use Rattle.zset_core.specs.AbstractCommand.{Meaning, Asked}
-use Rattle.zset_core.specs.CommandGrammar.{asked}
-use Rattle.zset_core.specs.declared.refusal.Refusal.{Refusal}
+use Rattle.zset_commands.specs.AbstractCommand.{Meaning, Asked}
+use Rattle.zset_commands.specs.CommandGrammar.{asked}
+use Rattle.zset_commands.specs.declared.refusal.Refusal.{Refusal}
 use Rattle.session_core.specs.declared.resumable_session.Progress.{Progress}
 use Rattle.session_core.specs.declared.session_end.SessionFault.{SessionFault}
 use Rattle.session_core.specs.Exchange.{told_by, ExchangeOf, Exchange}

@@ -2,8 +2,8 @@
 use Rattle.std.proofs.Common.{◌≡◌, ℕ, ◌≤◌, refl, ap, ◌∙◌, arith, true, Result, Ok, Err}
 use Rattle.std.specs.Prelude.{OnOk, IfErr}
 use Rattle.zset_core.specs.SetsByKey.{World}
-use Rattle.zset_core.specs.declared.refusal.Refusal.{Refusal}
-use Rattle.zset_core.specs.declared.refusal.Refusal.TheVariants.{LogBroken, LogRefused}
+use Rattle.zset_commands.specs.declared.refusal.Refusal.{Refusal}
+use Rattle.zset_commands.specs.declared.refusal.Refusal.TheVariants.{LogBroken, LogRefused}
 use Rattle.append_log.specs.LogViewAndSteps.{LogView, NotSettled, Settles, Unsettled}
 use Rattle.append_log.specs.LoggedOwnerViewAndRuns.{LoggedView, Replays}
 use Rattle.session_core.specs.ExchangesBetweenSyncs.{IsSynced}

@@ -6,8 +6,8 @@ use Rattle.resp_wire.specs.declared.fault.ProtocolFault.{ProtocolFault}
 use Rattle.resp_wire.specs.Stream.{requests, rest, fault}
 use Rattle.resp_wire.specs.DecoderView.{DecoderView}
 use Rattle.resp_wire.specs.Response.{Response}
-use Rattle.zset_core.specs.AbstractCommand.{Asked}
-use Rattle.zset_core.specs.declared.refusal.Refusal.{Refusal}
+use Rattle.zset_commands.specs.AbstractCommand.{Asked}
+use Rattle.zset_commands.specs.declared.refusal.Refusal.{Refusal}
 use Rattle.session_core.specs.declared.session_end.SessionFault.{SessionFault}
 use Rattle.session_core.specs.declared.session_end.SessionFault.TheVariants.{ReadFault, TooManyReads}
 use Rattle.session_core.specs.declared.resumable_session.Progress.{Progress}

@@ -11,7 +11,7 @@ use resp_wire::{ByteDrain, CallCount, Failed, write_all};
 use std::alloc::Allocator;
 use std::hash::BuildHasher;
 use std::sync::ledger::Ledger;
-use zset_core::Refusal;
+use zset_commands::Refusal;
 
 /// Settles an owner's records, by a sync where one is not settled yet.
 fn settle<H: BuildHasher + Clone + Drop, K: LogSink, L: Ledger, A: Allocator + Copy>(

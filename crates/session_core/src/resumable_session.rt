@@ -5,7 +5,7 @@ ghost use Rattle.std.specs.Io.KnownBytes.{append_known};
 ghost use Rattle.resp_wire.specs.Stream.{requests, fault};
 ghost use Rattle.resp_wire.specs.Response.{response_of, encoded};
 ghost use Rattle.resp_wire.specs.declared.fault.ProtocolFault.{ProtocolFault};
-ghost use Rattle.zset_core.specs.CommandGrammar.{asked};
+ghost use Rattle.zset_commands.specs.CommandGrammar.{asked};
 ghost use Rattle.session_core.specs.Interleaved.{TakesTurns};
 ghost use Rattle.session_core.specs.SendOutcome.{DrainFailed, SendEnds, SentOn};
 ghost use Rattle.session_core.specs.declared.session_end.SessionFault.TheVariants.{NoMemory, WriteFault, Wire};
@@ -17,7 +17,7 @@ use crate::session_end::{Ended, SessionFault};
 use resp_wire::{ByteDrain, Decoder, Reply, Request, WireFault, laws};
 use std::alloc::{AllocError, Allocator};
 use std::mem;
-use zset_core::Command;
+use zset_commands::Command;
 
 /// How far a session came.
 #[derive(Clone, Copy, Debug, PartialEq, Eq)]

@@ -20,7 +20,7 @@ use Rattle.std.proofs.lemmas.List.Elements.{All-push}
 use Rattle.std.proofs.lemmas.List.Sums.{sum_by-cons, sum_by-set, sum_by_more}
 use Rattle.std.proofs.lemmas.Map.Text.{is_eq-slice_cmp}
 use Rattle.zset_core.specs.SortedSet.{Members, bytes_cmp}
-use Rattle.zset_core.specs.SetAndOwnerViews.{SetView}
+use Rattle.sorted_sets.specs.SetAndOwnerViews.{SetView}
 use Rattle.zset_core.specs.SetsByKey.{World}
 use Rattle.set_table.specs.CellViewAndRuns.{CellView, new_cell}
 use Rattle.set_table.specs.Naming.{Naming, NotesView, AreNotesOf, NamingGrows, IsPlace, name_at_place, hash_from}

@@ -2,7 +2,7 @@
 use Rattle.std.proofs.Common.{◌≡◌, ℕ, ◌∙◌, List, sym, ap, subst, arith, IfSome, IfNone, IsTrue, MatchOption}
 use Rattle.std.specs.declared.option.Option.{Option}
 use Rattle.std.specs.declared.option.Option.TheVariants.{None, Some}
-use Rattle.zset_core.specs.AbstractCommand.{Meaning, Ping, Asks, Changes, key_of, is_creating}
+use Rattle.zset_commands.specs.AbstractCommand.{Meaning, Ping, Asks, Changes, key_of, is_creating}
 use Rattle.set_table.specs.Naming.{Naming, NamingGrows, BearsOther, IsPlace, walk}
 
 pub joined : {X : Type 0} (o : Option X) (A : Type 0) (B : X → Type 0) → IfSome o B → IfNone o A → MatchOption o A B

@@ -3,15 +3,15 @@ use Rattle.std.proofs.Common.{◌≡◌, ℕ, ◌+◌, true, false, Option, Some
 use Rattle.std.specs.Prelude.{◌≢◌}
 use Rattle.resp_wire.specs.Response.{Response}
 use Rattle.zset_core.specs.SortedSet.{Members}
-use Rattle.zset_core.specs.AbstractCommand.{Asked, is_writing, Meaning, Change, Add, Increase, Remove, RemoveRange}
-use Rattle.zset_core.specs.AbstractCommand as meanings
-use Rattle.zset_core.specs.ChangeCounts.{IsOutline}
+use Rattle.zset_commands.specs.AbstractCommand.{Asked, is_writing, Meaning, Change, Add, Increase, Remove, RemoveRange}
+use Rattle.zset_commands.specs.AbstractCommand as meanings
+use Rattle.sorted_sets.specs.ChangeCounts.{IsOutline}
 use Rattle.zset_core.specs.Semantics.{changed_by, step}
-use Rattle.zset_core.specs.SetAndOwnerViews.{Next, Shows, IsPreparedFor}
-use Rattle.zset_core.specs.declared.set.change_counts.Outline.{Outline}
-use Rattle.zset_core.specs.declared.refusal.Refusal.{Refusal}
-use Rattle.zset_core.specs.declared.refusal.Refusal.TheVariants.{NoMemory, UnknownCommand, WrongArity, Syntax, NxAndXx, GtLtNx, IncrPair, BadScore, BadBound, BadInteger, TableFull, Spent, ScoreOverflow, LogBroken, LogFull, LogRefused, OutOfStep}
-use Rattle.zset_core.proofs.CallerLemmas.{missing_none}
+use Rattle.sorted_sets.specs.SetAndOwnerViews.{Next, Shows, IsPreparedFor}
+use Rattle.sorted_sets.specs.declared.set.change_counts.Outline.{Outline}
+use Rattle.zset_commands.specs.declared.refusal.Refusal.{Refusal}
+use Rattle.zset_commands.specs.declared.refusal.Refusal.TheVariants.{NoMemory, UnknownCommand, WrongArity, Syntax, NxAndXx, GtLtNx, IncrPair, BadScore, BadBound, BadInteger, TableFull, Spent, ScoreOverflow, LogBroken, LogFull, LogRefused, OutOfStep}
+use Rattle.sorted_sets.proofs.CallerLemmas.{missing_none}
 use Rattle.append_log.specs.LogViewAndSteps.{LogView, NotAppended}
 use Rattle.append_log.proofs.CallerLemmas.{unchanged}
 use Rattle.set_table.specs.declared.member_change_counts.OwnCounts.{OwnCounts}

@@ -6,10 +6,10 @@ use Rattle.std.proofs.lemmas.List.{get_or_default, set-get_or}
 use Rattle.std.proofs.lemmas.List.Folds.{sum_by-replicate}
 use Rattle.std.proofs.lemmas.List.Sums.{sum_by-set, get_or-le-sum_by}
 use Rattle.resp_wire.specs.Response.{Response}
-use Rattle.zset_core.specs.AbstractCommand.{Asked, Meaning, is_writing}
-use Rattle.zset_core.specs.SetAndOwnerViews.{SetView}
-use Rattle.zset_core.specs.declared.refusal.Refusal.{Refusal}
-use Rattle.zset_core.specs.declared.refusal.Refusal.TheVariants.{NoMemory, OutOfStep}
+use Rattle.zset_commands.specs.AbstractCommand.{Asked, Meaning, is_writing}
+use Rattle.sorted_sets.specs.SetAndOwnerViews.{SetView}
+use Rattle.zset_commands.specs.declared.refusal.Refusal.{Refusal}
+use Rattle.zset_commands.specs.declared.refusal.Refusal.TheVariants.{NoMemory, OutOfStep}
 use Rattle.set_table.specs.declared.member_change_counts.Tally.{Tally}
 use Rattle.set_table.specs.declared.limits.TheConstants.{MAX_RUNS}
 use Rattle.set_table.specs.declared.member_change_counts.Counts.{Counts}

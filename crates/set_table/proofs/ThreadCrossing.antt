@@ -20,13 +20,13 @@ use Rattle.std.specs.declared.sync.ledger.Ledger as ledger
 use Rattle.append_log.specs.declared.log_sinks.LogSink as sink
 use Rattle.append_log.proofs.log.Log.TheSendSync as log
 use Rattle.append_log.proofs.record_count_share.RecordShare.TheSendSync as share
-use Rattle.zset_core.proofs.CallerLemmas.{set_send, set_sync}
+use Rattle.sorted_sets.proofs.CallerLemmas.{set_send, set_sync}
 use Rattle.set_table.specs.contracts.cell.Cell as Cell
 use Rattle.set_table.specs.contracts.cell.Cell.TheInside as CellFields
 use Rattle.set_table.specs.contracts.table.Table as Table
 use Rattle.set_table.specs.contracts.table.Table.TheInside as TableFields
-use Rattle.zset_core.proofs.command.Command.TheSendSync as command
-use Rattle.zset_core.specs.contracts.command.Command as Command
+use Rattle.zset_commands.proofs.command.Command.TheSendSync as command
+use Rattle.zset_commands.specs.contracts.command.Command as Command
 use Rattle.set_table.specs.contracts.worker_pass.Pass as Pass
 use Rattle.set_table.proofs.worker_pass.Pass.TheSendSync as pass
 use Rattle.set_table.proofs.member_change_counts.Tally.TheSendSync as tally

@@ -2,11 +2,11 @@
 use Rattle.std.specs.Prelude.{◌≡◌, ℕ, ◌+◌, ◌*◌, ◌^◌, ◌≤◌, ◌<◌, List, length, None}
 use Rattle.std.proofs.Math.ListN.{get_or, set, replicate}
 use Rattle.std.specs.FinMap as fin
-use Rattle.zset_core.specs.AbstractCommand.{Asked}
+use Rattle.zset_commands.specs.AbstractCommand.{Asked}
 use Rattle.zset_core.specs.RowEdits.{most_edits}
-use Rattle.zset_core.specs.SetAndOwnerViews.{SetView}
-use Rattle.zset_core.specs.declared.refusal.Refusal.{Refusal}
-use Rattle.zset_core.specs.declared.refusal.Refusal.TheVariants.{NoMemory, UnknownCommand, WrongArity, Syntax, NxAndXx, GtLtNx, IncrPair, BadScore, BadBound, BadInteger, TableFull, ScoreOverflow, LogBroken, LogFull, LogRefused, Spent, OutOfStep}
+use Rattle.sorted_sets.specs.SetAndOwnerViews.{SetView}
+use Rattle.zset_commands.specs.declared.refusal.Refusal.{Refusal}
+use Rattle.zset_commands.specs.declared.refusal.Refusal.TheVariants.{NoMemory, UnknownCommand, WrongArity, Syntax, NxAndXx, GtLtNx, IncrPair, BadScore, BadBound, BadInteger, TableFull, ScoreOverflow, LogBroken, LogFull, LogRefused, Spent, OutOfStep}
 use Rattle.set_table.specs.declared.member_change_counts.Tally.{Tally}
 use Rattle.set_table.specs.declared.limits.TheConstants.{MAX_RUNS}
 use Rattle.set_table.specs.declared.member_change_counts.Counts.{Counts}

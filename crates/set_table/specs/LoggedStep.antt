@@ -3,12 +3,12 @@ use Rattle.std.specs.Prelude.{◌≡◌, ◌≢◌, ℕ, ◌+◌, ◌≤◌, ◌
 use Rattle.std.specs.FinMap as fin
 use Rattle.resp_wire.specs.Response.{Response}
 use Rattle.zset_core.specs.SortedSet.{Members}
-use Rattle.zset_core.specs.AbstractCommand.{Asked, is_writing}
-use Rattle.zset_core.specs.ChangeCounts.{missing}
+use Rattle.zset_commands.specs.AbstractCommand.{Asked, is_writing}
+use Rattle.sorted_sets.specs.ChangeCounts.{missing}
 use Rattle.zset_core.specs.RowEdits.{most_edits}
 use Rattle.zset_core.specs.Semantics.{step}
-use Rattle.zset_core.specs.declared.refusal.Refusal.{Refusal}
-use Rattle.zset_core.specs.declared.refusal.Refusal.TheVariants.{NoMemory, ScoreOverflow, LogBroken, LogFull, LogRefused}
+use Rattle.zset_commands.specs.declared.refusal.Refusal.{Refusal}
+use Rattle.zset_commands.specs.declared.refusal.Refusal.TheVariants.{NoMemory, ScoreOverflow, LogBroken, LogFull, LogRefused}
 use Rattle.set_table.specs.declared.member_change_counts.Counts.{Counts}
 use Rattle.set_table.specs.declared.member_change_counts.OwnCounts.{OwnCounts}
 

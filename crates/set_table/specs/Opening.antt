@@ -4,7 +4,7 @@ use Rattle.std.specs.List.{All, sum_by}
 use Rattle.std.specs.FinMap as fin
 use Rattle.std.proofs.Math.ListN.{get_or}
 use Rattle.zset_core.specs.SortedSet.{Members}
-use Rattle.zset_core.specs.SetAndOwnerViews.{SetView}
+use Rattle.sorted_sets.specs.SetAndOwnerViews.{SetView}
 use Rattle.zset_core.specs.SetsByKey.{World}
 use Rattle.set_table.specs.CellViewAndRuns.{CellView, new_cell}
 use Rattle.set_table.specs.Naming.{Naming, NotesView, IsPlace}

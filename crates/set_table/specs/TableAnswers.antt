@@ -2,11 +2,11 @@
 use Rattle.std.specs.Prelude.{◌≡◌, ℕ, ◌<◌, ◌⊎◌, Bool, true, false, List, length, None, Some, IsSome, Result, Ok, Err, IsTrue}
 use Rattle.std.specs.FinMap as fin
 use Rattle.resp_wire.specs.Response.{response_of}
-use Rattle.zset_core.specs.AbstractCommand.{Asked, Meaning, Ping, Asks, Changes, Change, Increase, key_of, is_creating, is_writing}
+use Rattle.zset_commands.specs.AbstractCommand.{Asked, Meaning, Ping, Asks, Changes, Change, Increase, key_of, is_creating, is_writing}
 use Rattle.zset_core.specs.Semantics.{step}
 use Rattle.zset_core.specs.SortedSet.{Members}
-use Rattle.zset_core.specs.declared.refusal.Refusal.{Refusal}
-use Rattle.zset_core.specs.declared.refusal.Refusal.TheVariants.{NoMemory, TableFull, ScoreOverflow, LogBroken, LogFull, LogRefused, Spent, OutOfStep}
+use Rattle.zset_commands.specs.declared.refusal.Refusal.{Refusal}
+use Rattle.zset_commands.specs.declared.refusal.Refusal.TheVariants.{NoMemory, TableFull, ScoreOverflow, LogBroken, LogFull, LogRefused, Spent, OutOfStep}
 use Rattle.set_table.specs.Naming.{IsPlace, IsFull}
 use Rattle.set_table.specs.PassTallies.{ShareView}
 use Rattle.set_table.specs.LoggedStep.{AnswerView}

@@ -8,7 +8,7 @@ use crate::member_change_counts::{Counts, OwnCounts};
 use resp_wire::Reply;
 use std::alloc::Allocator;
 use std::marker::Model;
-use zset_core::Command;
+use zset_commands::Command;
 
 /// What a cell answered to a command: the reply, the counts that the command found at its place,
 /// and how many members came in and left by it. It is that of one step of the command on some set

@@ -5,10 +5,10 @@ ghost use Rattle.std.proofs.Math.ListN.{get_or, set};
 ghost use Rattle.std.specs.FinMap as map;
 ghost use Rattle.crack_kernel.specs.PivotList.{ObeysPivots};
 ghost use Rattle.ripple_column.specs.Content.{Holds};
-ghost use Rattle.zset_core.specs.AbstractCommand.{key_of};
+ghost use Rattle.zset_commands.specs.AbstractCommand.{key_of};
 ghost use Rattle.resp_wire.specs.Response.{response_of};
 ghost use Rattle.zset_core.specs.Semantics.{step};
-ghost use Rattle.zset_core.specs.AnswerableAsItStands.{IsReadyFor, ListsWindow};
+ghost use Rattle.sorted_sets.specs.AnswerableAsItStands.{IsReadyFor, ListsWindow};
 ghost use Rattle.zset_core.specs.SortedSet.{pairs};
 ghost use Rattle.set_table.specs.CellViewAndRuns.{HasNoReading, HasRead, HasRun, InStep, RunIsRefused, CellIsWhole, WasRun, counts_of, new_cell};
 ghost use Rattle.set_table.specs.TableAnswers.{IsSetRefusal};
@@ -24,12 +24,13 @@ use crate::member_change_counts::{Counts, OwnCounts, Tally};
 use crate::pass_tally_at_place::Shares;
 use append_log::{Log, LogSink, RecordShare};
 use resp_wire::Reply;
+use sorted_sets::ZSet;
 use std::alloc::{AllocError, Allocator};
 use std::hash::BuildHasher;
 use std::marker::Model;
 use std::sync::ledger::Ledger;
 use std::sync::{Mutex, Wait};
-use zset_core::{Command, Refusal, ZSet};
+use zset_commands::{Command, Refusal};
 
 /// What stands behind a place's lock: a sorted set, the members that it had at opening, for each
 /// pass a tally of what it was answered here, and how many records were appended for the set's
@@ -55,7 +56,7 @@ impl<H: BuildHasher, L: Ledger, A: Allocator + Copy> Model for Cell<H, L, A> {
     ghost Value = { CellView };
 
     ghost use Rattle.std.specs.Coded.{codes};
-    ghost use Rattle.zset_core.specs.SetAndOwnerViews.{coded_members};
+    ghost use Rattle.sorted_sets.specs.SetAndOwnerViews.{coded_members};
 
     ghost coded = { Prim.hlevel (codes, coded_members) };
 

@@ -16,11 +16,11 @@ use crate::open::placing::{cards, empty_sets, place_all};
 use crate::table::Table;
 use crate::worker_pass::Pass;
 use append_log::{Log, LogSink};
+use sorted_sets::OneOwner;
 use std::alloc::{AllocError, Global};
 use std::hash::BuildHasher;
 use std::sync::Mutex;
 use std::sync::ledger::Ledger;
-use zset_core::OneOwner;
 
 /// Why a table was not opened.
 #[derive(Clone, Copy, Debug, PartialEq, Eq)]

@@ -1,7 +1,7 @@
 //! Sets behind locks of their own, found by names that are set once.
 
 ghost use Rattle.std.specs.Prelude.{◌≡◌, ◌<◌, ◌≤◌, false, length, IfOk, IfErr, IfSome, OnErr, OnOk, IsTrue, MatchOption};
-ghost use Rattle.zset_core.specs.AbstractCommand.{is_creating, is_writing};
+ghost use Rattle.zset_commands.specs.AbstractCommand.{is_creating, is_writing};
 ghost use Rattle.set_table.specs.Naming.{NamingGrows, IsPlace};
 ghost use Rattle.set_table.specs.TableAndPassViews.{IsPassOf, kept_back};
 ghost use Rattle.set_table.specs.TableAnswers.{HasNoPlace, IsAnswered, IsAnsweredAt, IsClaimRefusal, IsTableRefusal, KeepsPass, MayBeAskedAt};
@@ -16,12 +16,13 @@ use crate::worker_pass::Pass;
 use append_log::{Log, LogSink, SyncHandle, Syncer};
 pub use closing_audit::{CloseFault, Totals};
 use resp_wire::Reply;
+use sorted_sets::reply_without_set;
 use std::alloc::Allocator;
 use std::hash::BuildHasher;
 use std::marker::Model;
 use std::sync::ledger::Ledger;
 use std::sync::{Mutex, RwLock, RwLockReadGuard, Wait};
-use zset_core::{Command, Refusal};
+use zset_commands::{Command, Refusal};
 
 /// Sorted sets behind locks of their own. A set's lock is taken exclusively by a command that
 /// changes sets or makes the set's column ready, and shared by readers; the log's lock is taken
@@ -154,7 +155,7 @@ impl<H: BuildHasher, S: LogSink, L: Ledger, A: Allocator + Copy> Table<H, S, L, 
             → OnOk result (kept_back ≤ pass.new.kept) }
     {
         let Some(key) = command.key() else {
-            return Ok(Answered::NoPlace(command.reply_without_set(self.alloc)?));
+            return Ok(Answered::NoPlace(reply_without_set(self.alloc, command)?));
         };
         let at = match self.place_of(pass, key, command.creates())? {
             Some(place) => AtPlace {
@@ -163,7 +164,7 @@ impl<H: BuildHasher, S: LogSink, L: Ledger, A: Allocator + Copy> Table<H, S, L, 
                 place,
                 command,
             },
-            None => return Ok(Answered::NoPlace(command.reply_without_set(self.alloc)?)),
+            None => return Ok(Answered::NoPlace(reply_without_set(self.alloc, command)?)),
         };
         if command.writes() {
             return Ok(Answered::Ran(self.change_at(pass, &at)?));

@@ -10,10 +10,10 @@ use crate::naming::names::Names;
 use crate::naming::pass_lookup_state::Knowledge;
 use crate::pass_tally_at_place::Shares;
 use once_cell::race::Note;
+use sorted_sets::Spare;
 use std::alloc::Allocator;
 use std::cell;
 use std::marker::Model;
-use zset_core::Spare;
 
 /// What one worker knows of the places' names, and was answered at each place. A table's passes are
 /// made when it is opened.

@@ -1,13 +1,14 @@
 ghost use Rattle.std.specs.Prelude.{◌≡◌, None, false, IfOk, IsTrue};
-ghost use Rattle.zset_core.specs.AbstractCommand.{is_writing};
+ghost use Rattle.zset_commands.specs.AbstractCommand.{is_writing};
 
 use crate::owners::{command, expect_that, text_of};
 use crate::trials::{SetTrial, expect_of_sets};
 use resp_wire::Reply;
+use sorted_sets::ZSet;
 use std::alloc::Global;
 use std::hash::RandomState;
 use std::test::Fail;
-use zset_core::{Command, ZSet};
+use zset_commands::Command;
 
 pub type Set = ZSet<RandomState, Global>;
 

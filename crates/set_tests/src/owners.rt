@@ -5,10 +5,11 @@ ghost use Rattle.std.specs.Prelude.{◌≡◌, None};
 use crate::trials::{Trial, expect_of_owners};
 use crack_kernel::Row;
 use resp_wire::{Bytes, BytesList, Reply, Request, write_reply};
+use sorted_sets::OneOwner;
 use std::alloc::Global;
 use std::hash::RandomState;
 use std::test::Fail;
-use zset_core::{Command, OneOwner};
+use zset_commands::Command;
 
 pub type Owner = OneOwner<RandomState, Global>;
 

@@ -1,6 +1,6 @@
 use crate::owners::expect_that;
 use std::test::Fail;
-use zset_core::Refusal;
+use zset_commands::Refusal;
 
 // Why requests are refused.
 const REFUSALS: [Refusal; 9] = [

@@ -5,11 +5,11 @@ ghost use Rattle.std.specs.Prelude.{◌≡◌, None};
 use crate::columns::{Set, expect, expect_few_pivots};
 use crate::owners::{Owner, expect_listed};
 use crate::windows::{expect_narrowed, expect_short_pieces};
+use sorted_sets::{OneOwner, ZSet};
 use std::alloc::Global;
 use std::hash::RandomState;
 use std::random::RandomSource;
 use std::test::Fail;
-use zset_core::{OneOwner, ZSet};
 
 /// What is asked of an owner.
 pub enum Trial {

@@ -6,12 +6,13 @@ ghost use Rattle.set_table.specs.TableAndPassViews.{IsPassOf};
 use append_log::LogSink;
 use resp_wire::{Bytes, BytesList, Reply, Request, write_reply};
 use set_table::{Answer, Answered, Pass, Table, TestGate};
+use sorted_sets::OneOwner;
 use std::alloc::Global;
 use std::hash::RandomState;
 use std::sync::Wait;
 use std::sync::ledger::Ledger;
 use std::test::Fail;
-use zset_core::{Command, OneOwner, Refusal};
+use zset_commands::{Command, Refusal};
 
 pub type Owner = OneOwner<RandomState, Global>;
 

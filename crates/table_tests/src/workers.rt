@@ -19,7 +19,7 @@ use std::test::*;
 use std::thread;
 use std::thread::Threads;
 use table_worker::Worker;
-use zset_core::Command;
+use zset_commands::Command;
 
 /// So long a test waits for what comes at once in a table that is right.
 pub const MANY_TURNS: u64 = 1_000_000_000;

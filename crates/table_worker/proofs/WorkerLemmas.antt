@@ -2,7 +2,7 @@
 use Rattle.std.proofs.Common.{◌≡◌, ◌∙◌, ap, sym, inl, inr, Some, Ok}
 use Rattle.std.specs.FinMap as fin
 use Rattle.resp_wire.specs.Response.{Response}
-use Rattle.zset_core.specs.AbstractCommand.{Asked}
+use Rattle.zset_commands.specs.AbstractCommand.{Asked}
 use Rattle.set_table.specs.TableAndPassViews.{TableView, PassView}
 use Rattle.set_table.specs.TableAnswers.{IsAnswered}
 use Rattle.set_table.specs.declared.table.Answered.{Answered}

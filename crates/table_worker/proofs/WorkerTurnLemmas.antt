@@ -1,9 +1,9 @@
 -- Connections leave a worker that ran requests.
 use Rattle.std.proofs.Common.{◌≡◌, ℕ, List, [], ◌∷◌, Option, Result, Ok, Err, inl, inr, ◌∙◌, sym, subst}
 use Rattle.resp_wire.specs.Response.{Response}
-use Rattle.zset_core.specs.AbstractCommand.{Meaning}
-use Rattle.zset_core.specs.CommandGrammar.{asked}
-use Rattle.zset_core.specs.declared.refusal.Refusal.{Refusal}
+use Rattle.zset_commands.specs.AbstractCommand.{Meaning}
+use Rattle.zset_commands.specs.CommandGrammar.{asked}
+use Rattle.zset_commands.specs.declared.refusal.Refusal.{Refusal}
 use Rattle.session_core.specs.Exchange.{ExchangeOf, Exchanges}
 use Rattle.session_core.specs.Interleaved.{StateMoves, TakesTurns}
 use Rattle.table_worker.specs.WorkerAnswers.{WorkerView, WorkerAnswers}

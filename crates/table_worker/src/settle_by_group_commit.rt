@@ -1,12 +1,13 @@
 //! How the workers of a server settle the records of its log.
 
 ghost use Rattle.std.specs.Prelude.{◌≡◌, ⊤, None, Ok, IfErr, IfOk, IsSome};
-ghost use Rattle.append_log.specs.declared.file_sink.FileFault.TheVariants as faults;
+ghost use Rattle.append_file.specs.declared.file_sink.FileFault.TheVariants as faults;
 ghost use Rattle.command_line.specs.declared.serve.SyncMode.TheVariants.{Each, Group};
 ghost use Rattle.exit_lines.specs.declared.lines_and_statuses.Line.TheVariants as lines;
 ghost use Rattle.exit_lines.specs.declared.lines_and_statuses.Unusable.TheVariants as unusable;
 
-use append_log::{FileFault, FileHandle, FileSink, Log, LogSink, SyncHandle, Syncer};
+use append_file::{FileFault, FileHandle, FileSink};
+use append_log::{Log, LogSink, SyncHandle, Syncer};
 use command_line::SyncMode;
 use connections::Settle;
 use exit_lines::{Line, Unusable};

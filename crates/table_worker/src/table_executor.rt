@@ -14,7 +14,7 @@ use std::hash::BuildHasher;
 use std::marker::Model;
 use std::sync::Wait;
 use std::sync::ledger::Ledger;
-use zset_core::{Command, Refusal};
+use zset_commands::{Command, Refusal};
 
 /// A worker on a table that it shares with others. It runs commands with a pass of its own, one of
 /// the table's.

@@ -16,6 +16,7 @@ use exit_lines::{Finish, Line};
 use hand_over::{Arrivals, HandOverFault};
 use resp_wire::{ByteDrain, PolledDrain, PolledSource};
 use set_table::{CloseFault, MAX_RUNS, Pass, Table, TableOpenFault, Totals};
+use sorted_sets::OneOwner;
 use std::alloc::{AllocGlobal, Global};
 use std::hash::RandomState;
 use std::net::Net;
@@ -24,7 +25,6 @@ use std::sync::{Mutex, Wait};
 use std::thread::Threads;
 use std::time::Clock;
 use table_worker::Journal;
-use zset_core::OneOwner;
 
 /// The line that tells why there is no table.
 fn open_line(fault: TableOpenFault) -> Line

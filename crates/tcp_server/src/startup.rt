@@ -10,13 +10,15 @@ use crate::new_log::new_log;
 use crate::server_run::serve_run;
 use crate::server_sizes::Settings;
 use crate::tcp_sockets_and_arrivals::TcpArrivals;
-use append_log::{FileHandle, LogSink, NoSink, SyncHandle};
+use append_file::FileHandle;
+use append_log::{LogSink, NoSink, SyncHandle};
 use command_line::ServeTask;
 use connections::{Watched, descriptor_limit};
 use exit_lines::{Finish, Line, print};
 use hand_over::Arrivals;
 use program_runs::{Ending, Telling, WatchedFiles, open_file, tell_torn};
 use resp_wire::{ByteDrain, PolledDrain, PolledSource, Writing};
+use sorted_sets::OneOwner;
 use std::alloc::{AllocGlobal, Global};
 use std::fs::File;
 use std::hash::RandomState;
@@ -28,7 +30,6 @@ use std::sync::ledger::{Blank, Ledger};
 use std::thread::Threads;
 use std::time::Clock;
 use table_worker::{Journal, handle_of};
-use zset_core::OneOwner;
 
 /// The sets that a server starts with, and where the records of their changes go.
 #[derive(Drop)]

@@ -2,20 +2,21 @@
 //! for the records of changes that are made, and for nothing else.
 
 ghost use Rattle.std.specs.Prelude.{◌≡◌, ◌≤◌, IsSome};
-ghost use Rattle.zset_core.specs.AbstractCommand.{key_of};
+ghost use Rattle.zset_commands.specs.AbstractCommand.{key_of};
 
 use crate::ample_memory::{Ample, LISTING, Outcome, bytes_of, command, with_memory};
 use append_log::{FuseSink, Log, MemorySink};
 use fuse_alloc::Fuse;
 use resp_wire::Reply;
 use set_table::{Answer, Cell, Shares};
+use sorted_sets::OneOwner;
 use std::alloc::Global;
 use std::hash::RandomState;
 use std::marker::Brand;
 use std::sync::ledger::{Blank, Ledger};
 use std::sync::{Mutex, Wait};
 use std::test::*;
-use zset_core::{Command, OneOwner, Refusal};
+use zset_commands::{Command, Refusal};
 
 /// A sink that counts its calls, with memory of its own.
 type Sink = FuseSink<MemorySink<Global>>;

@@ -6,12 +6,12 @@ use crate::exchange::write_words;
 use append_log::{FuseSink, Log, LoggedOwner, MemorySink};
 use resp_wire::{MemoryDrain, MemorySource};
 use session_core::{Ended, HeldReplies, SessionFault, serve_deferred};
+use sorted_sets::OneOwner;
 use std::alloc::Global;
 use std::hash::RandomState;
 use std::marker::Brand;
 use std::sync::ledger::{Blank, Ledger};
 use std::test::Fail;
-use zset_core::OneOwner;
 
 /// An owner whose records go to a sink that may fail.
 type Logged<L> = LoggedOwner<RandomState, FuseSink<MemorySink<Global>>, L, Global>;

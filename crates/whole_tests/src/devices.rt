@@ -7,10 +7,10 @@ use crate::exchange::bytes_of;
 use crate::sessions::TWO_REQUESTS;
 use resp_wire::{FuseDrain, MemoryDrain, MemorySource, write_reply};
 use session_core::{Ended, Exec, SessionFault, serve};
+use sorted_sets::OneOwner;
 use std::alloc::Global;
 use std::hash::RandomState;
 use std::test::Fail;
-use zset_core::OneOwner;
 
 /// How many bytes a call moves, and which call fails, 0 for none.
 #[derive(Clone, Copy)]

@@ -7,10 +7,10 @@ use resp_wire::{
     write_request,
 };
 use session_core::{Ended, SessionFault, serve};
+use sorted_sets::OneOwner;
 use std::alloc::Global;
 use std::hash::RandomState;
 use std::io;
-use zset_core::OneOwner;
 
 /// What a session came to: the bytes that were written, and how it ended.
 #[derive(Drop)]

@@ -3,7 +3,7 @@ use Rattle.std.specs.Prelude.{◌≡◌, ◌≤◌, ◌+◌, ℕ, List, length, 
 use Rattle.crack_kernel.specs.RowBag.{Test}
 use Rattle.ripple_column.specs.Content.{ColumnState, content_count}
 use Rattle.zset_core.specs.SortedSet.{Members, Pair, pairs}
-use Rattle.zset_core.specs.declared.set.row_edits.Edits.{Edits}
+use Rattle.zset_core.specs.declared.row_edits.Edits.{Edits}
 
 -- the pairs of the old set, with those that come and without those that leave, are the pairs of the new one, as bags
 abbrev pub Turns : (old new : Members) (coming leaving : List Pair) → Type 0

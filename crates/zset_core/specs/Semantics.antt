@@ -9,11 +9,11 @@ use Rattle.score_bounds.specs.RangesAndCuts.{is_in}
 use Rattle.score_bounds.specs.ScoreTexts.{is_score, score_text}
 use Rattle.zset_core.specs.SortedSet.{Members, Pair, listing}
 use Rattle.zset_core.specs.SetsByKey.{World, put_set, set_at}
-use Rattle.zset_core.specs.AbstractCommand.{Meaning, key_of, Ping, Asks, Changes, Question, Score, Card, Count, ListRange, Change, Add, Increase, Remove, RemoveRange}
-use Rattle.zset_core.specs.declared.command.pair_outcome.Flags.{Flags}
-use Rattle.zset_core.specs.declared.command.pair_outcome.Outcome.{Outcome}
-use Rattle.zset_core.specs.declared.command.pair_outcome.Outcome.TheVariants.{Stopped, Added, Changed, Same}
-use Rattle.zset_core.specs.declared.command.limit.Limit.{Limit}
+use Rattle.zset_commands.specs.AbstractCommand.{Meaning, key_of, Ping, Asks, Changes, Question, Score, Card, Count, ListRange, Change, Add, Increase, Remove, RemoveRange}
+use Rattle.zset_commands.specs.declared.flags.Flags.{Flags}
+use Rattle.zset_core.specs.declared.pair_outcome.Outcome.{Outcome}
+use Rattle.zset_core.specs.declared.pair_outcome.Outcome.TheVariants.{Stopped, Added, Changed, Same}
+use Rattle.zset_commands.specs.declared.limit.Limit.{Limit}
 
 -- GT keeps a member's score from one that is not greater, LT from one that is not less
 abbrev pub keeps_score : Flags → ℤ → ℤ → Bool

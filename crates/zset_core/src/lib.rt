@@ -1,24 +1,11 @@
-//! Sorted sets: members with scores, the commands on them, and sets by key.
+//! What a command makes of a sorted set, and the rows by which one set becomes another.
 //!
-//! Four folders: `command` reads a request as a command, `set` is one sorted set and how a command
-//! changes it, `query` answers the commands that change nothing, and `owner` keeps sets by key. Beside
-//! them stand replies, refusals, the memory that is kept back for removals, and laws of the definitions.
+//! The first is a definition (`specs/Semantics`). Of the code that follows it two parts stand here: what one
+//! pair of ZADD comes to, and the edits of a set's column. Sets themselves stand in `sorted_sets`.
 #![tactic(auto)]
 
-mod command;
-mod memory_reserve;
-mod owner;
-mod query;
-mod refusal;
-pub mod refusal_and_listing_laws;
-mod score_and_count_replies;
-mod set;
+mod pair_outcome;
+mod row_edits;
 
-pub use command::Command;
-pub use command::limit::Limit;
-pub use command::pair_outcome::{Flags, Outcome};
-pub use memory_reserve::{KEPT_BACK, Spare};
-pub use owner::OneOwner;
-pub use refusal::Refusal;
-pub use set::ZSet;
-pub use set::change_counts::Outline;
+pub use pair_outcome::{Outcome, is_barred, sum};
+pub use row_edits::{Edits, make_edits};

@@ -2,19 +2,20 @@
 
 ghost use Rattle.std.specs.Prelude.{◌≡◌, ◌≢◌, None, false, IfSome, IfOk, IfErr, OnOk, OnErr, IsSome, IsTrue};
 ghost use Rattle.resp_wire.specs.Response.{response_of};
-ghost use Rattle.zset_core.specs.AbstractCommand.{key_of, is_writing};
-ghost use Rattle.zset_core.specs.SetAndOwnerViews.{IsPreparedFor};
+ghost use Rattle.zset_commands.specs.AbstractCommand.{key_of, is_writing};
+ghost use Rattle.sorted_sets.specs.SetAndOwnerViews.{IsPreparedFor};
 ghost use Rattle.append_log.specs.LogViewAndSteps.{share_after};
 ghost use Rattle.set_table.specs.LoggedStep.{IsAppendRefusal, IsHindered, IsLogged, SetStepped};
 
 use crate::member_change_counts::OwnCounts;
 use append_log::{Log, LogSink, Record, RecordShare};
 use resp_wire::Reply;
+use sorted_sets::ZSet;
 use std::alloc::{AllocError, Allocator};
 use std::hash::BuildHasher;
 use std::sync::ledger::Ledger;
 use std::sync::{Mutex, Wait};
-use zset_core::{Command, Refusal, ZSet};
+use zset_commands::{Command, Refusal};
 
 /// Runs a command on a set. One that changes sets is prepared, its record is appended where the set will change, under
 /// the log's lock, and then it is committed. Refused: set and share stay.

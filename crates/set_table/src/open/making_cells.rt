@@ -6,11 +6,11 @@ ghost use Rattle.set_table.specs.Opening.{AreIdleSets, AreNewCells};
 use crate::cell::Cell;
 use crate::limits::MAX_RUNS;
 use append_log::{Log, LogSink};
+use sorted_sets::ZSet;
 use std::alloc::{AllocError, Global};
 use std::hash::BuildHasher;
 use std::sync::RwLock;
 use std::sync::ledger::Ledger;
-use zset_core::ZSet;
 
 /// A cell for each set, with a share of the log's records.
 pub(crate) fn new_cells<H: BuildHasher + Drop, S: LogSink, L: Ledger>(

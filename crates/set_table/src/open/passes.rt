@@ -6,9 +6,9 @@ ghost use Rattle.set_table.specs.Opening.{AreNewShares, IsNewPass, pass_at};
 use crate::naming::pass_lookup_state::Knowledge;
 use crate::pass_tally_at_place::Shares;
 use crate::worker_pass::Pass;
+use sorted_sets::Spare;
 use std::alloc::{AllocError, Global};
 use std::cell::Cell;
-use zset_core::Spare;
 
 /// The passes, each with the same knowledge of the names.
 pub(crate) fn new_passes(

@@ -8,9 +8,9 @@ ghost use Rattle.set_table.specs.Opening.{AllHavePlaces, AreEmptySets, AreIdleSe
 use crate::limits::MAX_PLACES;
 use crate::naming::names::Names;
 use crate::naming::pass_lookup_state::Knowledge;
+use sorted_sets::{OneOwner, ZSet};
 use std::alloc::{AllocError, Global};
 use std::hash::BuildHasher;
-use zset_core::{OneOwner, ZSet};
 
 /// An empty set for each place.
 pub(crate) fn empty_sets<H: BuildHasher + Clone + Drop>(

@@ -1,7 +1,7 @@
 use Rattle.std.proofs.Common.{ℕ, List, Option, IfSome, sym, subst}
 use Rattle.std.specs.Prelude.{◌≢◌}
 use Rattle.zset_core.specs.SortedSet.{Members}
-use Rattle.zset_core.specs.SetAndOwnerViews.{IsPreparedAt, Next}
+use Rattle.sorted_sets.specs.SetAndOwnerViews.{IsPreparedAt, Next}
 use Rattle.zset_core.specs.SetsByKey.{set_at}
 use Rattle.append_log.proofs.PreparedRecords.{no_set_prepared, set_prepared}
 use Rattle.append_log.proofs.logged.append_command.Goals as goal

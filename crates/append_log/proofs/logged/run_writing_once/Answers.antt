@@ -1,7 +1,7 @@
 use Rattle.std.proofs.Common.{◌≡◌, ℕ, List, Option, Some, IfSome, sym, ◌∙◌, ap, subst, true, false}
 use Rattle.std.specs.Prelude.{◌≢◌}
-use Rattle.zset_core.specs.AbstractCommand.{key_of}
-use Rattle.zset_core.specs.SetAndOwnerViews.{IsPreparedAt, Next}
+use Rattle.zset_commands.specs.AbstractCommand.{key_of}
+use Rattle.sorted_sets.specs.SetAndOwnerViews.{IsPreparedAt, Next}
 use Rattle.zset_core.specs.SetsByKey.{World, put_set, set_at}
 use Rattle.resp_wire.specs.RequestEncoding.{request}
 use Rattle.resp_wire.specs.Response.{response_of}

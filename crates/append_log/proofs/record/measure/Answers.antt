@@ -1,7 +1,7 @@
 use Rattle.std.proofs.Common.{◌∙◌, List, length, ap, subst, arith}
 use Rattle.std.proofs.lemmas.List.{take_all}
 use Rattle.std.specs.List.{AllByRecursion}
-use Rattle.zset_core.specs.MovedMembers.{prepared_effect}
+use Rattle.sorted_sets.specs.MovedMembers.{prepared_effect}
 use Rattle.append_log.specs.EffectRecords.{EffectEntry, HasScore, effect_words}
 use Rattle.append_log.proofs.EntryTexts.{count_more, few_front, scored_more}
 use Rattle.append_log.proofs.record.measure.Goals as goal

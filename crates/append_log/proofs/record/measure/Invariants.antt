@@ -1,6 +1,6 @@
 use Rattle.std.proofs.Common.{◌≡◌, length, take}
 use Rattle.std.specs.List.{AllByRecursion}
-use Rattle.zset_core.specs.MovedMembers.{prepared_effect}
+use Rattle.sorted_sets.specs.MovedMembers.{prepared_effect}
 use Rattle.append_log.specs.EffectRecords.{HasScore, effect_words}
 use Rattle.append_log.proofs.record.measure.Given as goal
 

@@ -2,7 +2,7 @@ use Rattle.std.proofs.Common.{◌∙◌, ◌++◌, List, ap, arith}
 use Rattle.std.proofs.lemmas.List.{take_all}
 use Rattle.std.specs.List.{flat_map}
 use Rattle.resp_wire.specs.RequestEncoding.{argument}
-use Rattle.zset_core.specs.MovedMembers.{prepared_effect}
+use Rattle.sorted_sets.specs.MovedMembers.{prepared_effect}
 use Rattle.append_log.specs.EffectRecords.{EffectEntry, effect_words}
 use Rattle.append_log.proofs.EntryTexts.{bytes_more}
 use Rattle.append_log.proofs.record.write_entries.Goals as goal

@@ -1,7 +1,7 @@
 use Rattle.std.proofs.Common.{◌≡◌, ◌++◌, take}
 use Rattle.std.specs.List.{flat_map}
 use Rattle.resp_wire.specs.RequestEncoding.{argument}
-use Rattle.zset_core.specs.MovedMembers.{prepared_effect}
+use Rattle.sorted_sets.specs.MovedMembers.{prepared_effect}
 use Rattle.append_log.specs.EffectRecords.{effect_words}
 use Rattle.append_log.proofs.record.write_entries.Given as goal
 

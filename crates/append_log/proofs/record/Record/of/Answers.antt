@@ -1,6 +1,6 @@
 use Rattle.std.proofs.Common.{◌≡◌, ◌∙◌, List, ℕ, Option, Some, IfSome, sym, ap, subst}
 use Rattle.resp_wire.specs.RequestEncoding.{IsRequest, request}
-use Rattle.zset_core.specs.SetAndOwnerViews.{Next}
+use Rattle.sorted_sets.specs.SetAndOwnerViews.{Next}
 use Rattle.zset_core.specs.SetsByKey.{put_set}
 use Rattle.append_log.specs.EffectRecords.{effect_record, next_record, record_of_next, words_in}
 use Rattle.append_log.specs.Records.{IsRecord}

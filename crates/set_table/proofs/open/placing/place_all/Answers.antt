@@ -1,7 +1,7 @@
 use Rattle.std.proofs.Common.{◌≡◌, ◌∙◌, ◌+◌, ℕ, None, List, length, refl, sym, ap, subst, arith, length-set}
 use Rattle.std.specs.FinMap as fin
 use Rattle.std.proofs.lemmas.List.Elements.{All-set}
-use Rattle.zset_core.specs.SetAndOwnerViews.{SetView}
+use Rattle.sorted_sets.specs.SetAndOwnerViews.{SetView}
 use Rattle.set_table.specs.Naming.{IsPlace}
 use Rattle.set_table.specs.Opening.{AreIdleSets, cards_of}
 use Rattle.set_table.proofs.OpeningLemmas.{Placed, next_of, no_entry, none_left, took, placed_none, all_have, all_counted}

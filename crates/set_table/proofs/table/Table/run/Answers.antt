@@ -1,5 +1,5 @@
 use Rattle.std.proofs.Common.{◌∙◌, sym, subst, inr, List, ℕ}
-use Rattle.zset_core.specs.AbstractCommand.{key_of}
+use Rattle.zset_commands.specs.AbstractCommand.{key_of}
 use Rattle.set_table.specs.TableAnswers.{HasNoPlace}
 use Rattle.set_table.proofs.PlaceLemmas.{same_some}
 use Rattle.set_table.proofs.table.Table.run.Goals as goal

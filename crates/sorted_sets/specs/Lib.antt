@@ -1,0 +1,16 @@
+pub mod SetAndOwnerViews
+pub mod MembersWithStagedScores
+pub mod Plan
+pub mod SetViewAndInvariant
+pub mod RemovedMemberPlaces
+pub mod BorrowedListingPairs
+pub mod WindowPieces
+pub mod OwnerViewAndInvariant
+pub mod AnswerableAsItStands
+pub mod CommandEffectsOnColumn
+pub mod ChangeCounts
+pub mod MovedMembers
+pub mod NamesTouchedByPlan
+pub mod PlaceMarks
+pub mod WorldWithinRequestLimits
+pub mod FirstKeyTakenOut

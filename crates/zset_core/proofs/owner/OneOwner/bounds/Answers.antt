@@ -1,6 +1,0 @@
-use Rattle.std.proofs.Common.{subst}
-use Rattle.zset_core.specs.WorldWithinRequestLimits.{IsBoundedOwner}
-use Rattle.zset_core.proofs.owner.OneOwner.bounds.Goals as goal
-
-pub returns : goal.returns
-returns g c = (let shown : IsBoundedOwner c.args.self.now = subst IsBoundedOwner c.self.view_is c.self.invariant.1 in shown).world

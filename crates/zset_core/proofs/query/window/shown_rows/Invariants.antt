@@ -1,6 +1,0 @@
-use Rattle.std.proofs.Common.{◌≡◌, take}
-use Rattle.zset_core.specs.BorrowedListingPairs.{pairs_of}
-use Rattle.zset_core.proofs.query.window.shown_rows.Given as goal
-
-abbrev pub invariant-loop-row : goal.invariant-loop-row
-invariant-loop-row g l = pairs_of l.shown.items ≡ take l.row-index l.rows

@@ -1,6 +1,0 @@
-use Rattle.std.proofs.Common.{◌∙◌}
-use Rattle.zset_core.proofs.Places.{score_kept}
-use Rattle.zset_core.proofs.set.ZSet.score.Goals as goal
-
-pub returns : goal.returns
-returns g c = c.score_before.ensures ∙ score_kept c.self.inside.members.entries c.self.inside.column c.self.inside.prepared c.args.self.now c.args.member.now c.kept_len-kept.result c.self.view_is c.kept_len-kept.ensures.kept

@@ -1,6 +1,0 @@
-use Rattle.std.proofs.Common.{sym}
-use Rattle.zset_core.proofs.Gathered.{length-moved}
-use Rattle.zset_core.proofs.set.draft.Draft.moved_len.Goals as goal
-
-pub returns : goal.returns
-returns g c = sym (length-moved c.args.self.now c.args.members.now.entries c.requires.counted)

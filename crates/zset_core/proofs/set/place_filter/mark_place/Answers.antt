@@ -1,5 +1,0 @@
-use Rattle.zset_core.proofs.PlaceMarks.{marked_more}
-use Rattle.zset_core.proofs.set.place_filter.mark_place.Goals as goal
-
-pub returns-clause-marked : goal.returns-clause-marked
-returns-clause-marked c places are = marked_more c.args.marks.now c.args.place c.requires places are
