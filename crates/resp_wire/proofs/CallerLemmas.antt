@@ -1,38 +1,13 @@
--- What callers cite: how known bytes go together, what a decoder that answered no fault answers next, and an error that
--- is handed on.
-use Rattle.std.proofs.Common.{◌≡◌, ℕ, ◌+◌, List, [], ◌++◌, take, drop, refl, sym, ◌∙◌, ap, subst, append_assoc, Option, None, Some, Result, Ok, Err}
-use Rattle.std.proofs.lemmas.List.{append-nil}
-use Rattle.std.proofs.Math.Seq.{take-add}
-use Rattle.std.specs.Io.KnownBytes.{append_known, prepend_known}
+-- What callers cite: what a decoder that answered no fault answers next, and an error that is handed on; and those of
+-- the devices, on how known bytes go together.
+use Rattle.std.proofs.Common.{◌≡◌, ℕ, List, subst, ap, Option, None, Some, Result, Ok, Err}
 use Rattle.std.specs.Prelude.{IfNone, IsErrAnd}
+pub use Rattle.byte_devices.proofs.CallerLemmas.{append_known-append_known, append_known-nil, prepend_known-prepend_known, prepend_known-nil, write_more}
 use Rattle.resp_wire.specs.declared.fault.ProtocolFault.{ProtocolFault}
 use Rattle.resp_wire.specs.declared.fault.WireFault.{WireFault}
 use Rattle.resp_wire.specs.declared.fault.WireFault.TheVariants.{Protocol}
 use Rattle.resp_wire.specs.Stream.{fault}
 use Rattle.resp_wire.specs.DecoderView.{DecoderView, Gave, Waits, Stops, Nexts}
-
-pub append_known-append_known : (known : Option (List ℕ)) (a b : List ℕ) → append_known (append_known known a) b ≡ append_known known (a ++ b)
-append_known-append_known None a b = refl
-append_known-append_known (Some held) a b = ap Some (append_assoc held a b)
-
-pub append_known-nil : (known : Option (List ℕ)) → append_known known [] ≡ known
-append_known-nil None = refl
-append_known-nil (Some held) = ap Some (append-nil held)
-
-pub prepend_known-prepend_known : (a b : List ℕ) (known : Option (List ℕ)) → prepend_known a (prepend_known b known) ≡ prepend_known (a ++ b) known
-prepend_known-prepend_known a b None = refl
-prepend_known-prepend_known a b (Some left) = ap Some (sym (append_assoc a b left))
-
-pub prepend_known-nil : (known : Option (List ℕ)) → known ≡ prepend_known [] known
-prepend_known-nil None = refl
-prepend_known-nil (Some left) = refl
-
--- one write more of the bytes
-pub write_more : (first old new : Option (List ℕ)) (bytes : List ℕ) (n m : ℕ) → old ≡ append_known first (take n bytes) → new ≡ append_known old (take m (drop n bytes)) → new ≡ append_known first (take (n + m) bytes)
-write_more first old new bytes n m was is =
-    is ∙ ap (λ (k : Option (List ℕ)). append_known k (take m (drop n bytes))) was
-    ∙ append_known-append_known first (take n bytes) (take m (drop n bytes))
-    ∙ ap (append_known first) (sym (take-add n m bytes))
 
 none_at : {X P : Type 0} (o : Option X) → o ≡ None → IfNone o P → P
 none_at None e p = p

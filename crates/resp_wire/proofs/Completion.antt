@@ -8,7 +8,7 @@ use Rattle.resp_wire.specs.declared.fault.ProtocolFault.{ProtocolFault}
 use Rattle.resp_wire.specs.declared.fault.ProtocolFault.TheVariants.{NotAnArray, BadNumber, TooManyArguments, TooLong, BadBulk}
 use Rattle.resp_wire.specs.declared.fault.Stop.{Stop}
 use Rattle.resp_wire.specs.declared.fault.Stop.TheVariants.{Short, Wrong}
-use Rattle.resp_wire.specs.RequestEncoding.{line, Item, Ask, SkipZero, SkipMinus, IsItem, encoding_of}
+use Rattle.resp_messages.specs.RequestEncoding.{line, Item, Ask, SkipZero, SkipMinus, IsItem, encoding_of}
 use Rattle.resp_wire.specs.Parser.{◌>>=◌, byte_at, line_end_at, digits_at, number_at, body_at, argument_at, arguments_at, count_at, head_at, behind_head, item_at}
 use Rattle.resp_wire.proofs.ParserLemmas.{byte_again}
 use Rattle.resp_wire.proofs.Numbers.{digits_end, number_again}

@@ -11,7 +11,7 @@ use Rattle.resp_wire.specs.declared.fault.ProtocolFault.{ProtocolFault}
 use Rattle.resp_wire.specs.declared.fault.ProtocolFault.TheVariants.{NotAnArray, BadNumber, TooManyArguments, TooLong, BadBulk}
 use Rattle.resp_wire.specs.declared.fault.Stop.{Stop}
 use Rattle.resp_wire.specs.declared.fault.Stop.TheVariants.{Short, Wrong}
-use Rattle.resp_wire.specs.RequestEncoding.{most_arguments, longest_argument, line, argument, IsArgument, Ask}
+use Rattle.resp_messages.specs.RequestEncoding.{most_arguments, longest_argument, line, argument, IsArgument, Ask}
 use Rattle.resp_wire.specs.Parser.{◌>>=◌, byte_at, line_end_at, digits_at, number_at, body_at, argument_at, arguments_at, count_at, head_at, behind_head, item_at}
 use Rattle.resp_wire.specs.FirstWrongByte.{IsDigit, BeginsOtherwise, BeginsWithNoDigit, EndsNoLine, Exceeds, EndsWrong, IsNoMinusOne, BeginsNoCount, HasNoStar, HasTooManyArguments, HasWrongCount, IsDue, HasNoDollar, HasTooLong, HasWrongLength, HasNoEnd}
 use Rattle.resp_wire.proofs.ParserLemmas.{chosen, byte_takes}

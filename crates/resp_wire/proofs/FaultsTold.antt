@@ -10,7 +10,7 @@ use Rattle.resp_wire.specs.declared.fault.ProtocolFault.{ProtocolFault}
 use Rattle.resp_wire.specs.declared.fault.ProtocolFault.TheVariants.{NotAnArray, BadNumber, TooManyArguments, TooLong, BadBulk}
 use Rattle.resp_wire.specs.declared.fault.Stop.{Stop}
 use Rattle.resp_wire.specs.declared.fault.Stop.TheVariants.{Wrong}
-use Rattle.resp_wire.specs.RequestEncoding.{most_arguments, longest_argument, line, argument, IsArgument}
+use Rattle.resp_messages.specs.RequestEncoding.{most_arguments, longest_argument, line, argument, IsArgument}
 use Rattle.resp_wire.specs.Parser.{byte_at, line_end_at, digits_at, number_at, body_at, argument_at, count_at, head_at, item_at}
 use Rattle.resp_wire.specs.FirstWrongByte.{IsDigit, BeginsOtherwise, BeginsWithNoDigit, EndsNoLine, Exceeds, IsWrongBehind, EndsWrong, IsNoMinusOne, BeginsNoCount, HasNoStar, IsDue}
 use Rattle.resp_wire.proofs.ParserLemmas.{byte_again}

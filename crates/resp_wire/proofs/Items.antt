@@ -9,7 +9,7 @@ use Rattle.std.proofs.lemmas.List.Elements.{All-nil, All-cons, All-head, All-tai
 use Rattle.resp_wire.specs.declared.fault.ProtocolFault.TheVariants.{NotAnArray, BadNumber, TooManyArguments, TooLong, BadBulk}
 use Rattle.resp_wire.specs.declared.fault.Stop.{Stop}
 use Rattle.resp_wire.specs.declared.fault.Stop.TheVariants.{Short, Wrong}
-use Rattle.resp_wire.specs.RequestEncoding.{line, argument, request, IsArgument, IsRequest, Item, Ask, SkipZero, SkipMinus, encoding_of, IsItem}
+use Rattle.resp_messages.specs.RequestEncoding.{line, argument, request, IsArgument, IsRequest, Item, Ask, SkipZero, SkipMinus, encoding_of, IsItem}
 use Rattle.resp_wire.specs.Parser.{◌>>=◌, byte_at, line_end_at, number_at, body_at, argument_at, arguments_at, count_at, head_at, behind_head, item_at}
 use Rattle.resp_wire.proofs.ParserLemmas.{bind_ok, ok_is, chosen, guard_ok, wanted_ok, byte_takes, byte_again, line_end_takes, line_end_again}
 use Rattle.resp_wire.proofs.Numbers.{digit_range, number_takes, number_again}

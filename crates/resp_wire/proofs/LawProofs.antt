@@ -5,7 +5,7 @@ use Rattle.std.proofs.lemmas.List.{append-nil}
 use Rattle.resp_wire.specs.declared.fault.ProtocolFault.{ProtocolFault}
 use Rattle.resp_wire.specs.declared.fault.Stop.{Stop}
 use Rattle.resp_wire.specs.declared.fault.Stop.TheVariants.{Short, Wrong}
-use Rattle.resp_wire.specs.RequestEncoding.{Item, IsItem, encoding_of}
+use Rattle.resp_messages.specs.RequestEncoding.{Item, IsItem, encoding_of}
 use Rattle.resp_wire.specs.Parser.{item_at, head_at, byte_at}
 use Rattle.resp_wire.specs.Stream.{items, rest}
 use Rattle.resp_wire.proofs.Items.{item_again}

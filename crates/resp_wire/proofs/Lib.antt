@@ -11,4 +11,3 @@ pub mod CallerLemmas
 pub mod FaultRows
 pub mod FaultsTold
 pub mod OutboxLemmas
-pub mod ShortNumbers

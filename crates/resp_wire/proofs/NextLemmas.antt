@@ -8,7 +8,7 @@ use Rattle.resp_wire.specs.declared.fault.Stop.{Stop}
 use Rattle.resp_wire.specs.declared.fault.Stop.TheVariants.{Short, Wrong}
 use Rattle.resp_wire.specs.declared.decoder_steps.End.TheVariants as ends
 use Rattle.resp_wire.specs.declared.decoder_steps.Step.{Step}
-use Rattle.resp_wire.specs.RequestEncoding.{request, line, argument, IsRequest, Item, Ask, SkipZero, SkipMinus, IsSkip, IsItem, encoding_of}
+use Rattle.resp_messages.specs.RequestEncoding.{request, line, argument, IsRequest, Item, Ask, SkipZero, SkipMinus, IsSkip, IsItem, encoding_of}
 use Rattle.resp_wire.specs.Parser.{item_at}
 use Rattle.resp_wire.specs.Stream.{requests_among, items, requests, rest, fault, fault_of}
 use Rattle.resp_wire.specs.DecoderFields.{IsSound, wire_of}

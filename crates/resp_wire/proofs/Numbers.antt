@@ -8,7 +8,7 @@ use Rattle.resp_wire.specs.declared.fault.ProtocolFault.{ProtocolFault}
 use Rattle.resp_wire.specs.declared.fault.ProtocolFault.TheVariants.{BadNumber}
 use Rattle.resp_wire.specs.declared.fault.Stop.{Stop}
 use Rattle.resp_wire.specs.declared.fault.Stop.TheVariants.{Wrong}
-use Rattle.resp_wire.specs.RequestEncoding.{line}
+use Rattle.resp_messages.specs.RequestEncoding.{line}
 use Rattle.resp_wire.specs.Parser.{line_end_at, digits_at, number_at}
 use Rattle.resp_wire.proofs.ParserLemmas.{bind_ok, ok_is, chosen, guard_ok, wanted_ok, line_end_takes, line_end_again}
 

@@ -5,7 +5,7 @@ use Rattle.std.proofs.lemmas.List.{append-nil, drop_at, drop-drop}
 use Rattle.std.proofs.lemmas.List.Concat.{flat_map-append}
 use Rattle.std.proofs.lemmas.List.Elements.{All-nil}
 use Rattle.resp_wire.specs.declared.fault.Stop.{Stop}
-use Rattle.resp_wire.specs.RequestEncoding.{line, argument, IsArgument, Item, SkipZero, SkipMinus, IsSkip, encoding_of}
+use Rattle.resp_messages.specs.RequestEncoding.{line, argument, IsArgument, Item, SkipZero, SkipMinus, IsSkip, encoding_of}
 use Rattle.resp_wire.specs.Parser.{head_at, argument_at}
 use Rattle.resp_wire.specs.Parser.{item_at}
 use Rattle.resp_wire.specs.DecoderView.{begun}

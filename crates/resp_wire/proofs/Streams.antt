@@ -5,7 +5,7 @@ use Rattle.std.proofs.lemmas.List.{append-nil, nil_from_length}
 use Rattle.resp_wire.specs.declared.fault.ProtocolFault.{ProtocolFault}
 use Rattle.resp_wire.specs.declared.fault.Stop.{Stop}
 use Rattle.resp_wire.specs.declared.fault.Stop.TheVariants.{Short, Wrong}
-use Rattle.resp_wire.specs.RequestEncoding.{Item, Ask, SkipZero, SkipMinus, IsItem, encoding_of}
+use Rattle.resp_messages.specs.RequestEncoding.{Item, Ask, SkipZero, SkipMinus, IsItem, encoding_of}
 use Rattle.resp_wire.specs.Parser.{item_at, head_at, byte_at}
 use Rattle.resp_wire.specs.Stream.{prepend_item, split_items, requests_among, items, requests, rest, fault, fault_of}
 use Rattle.resp_wire.proofs.Items.{item_takes, item_again}

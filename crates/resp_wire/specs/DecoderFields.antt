@@ -1,7 +1,7 @@
 -- A decoder's fields, and what they stand for.
 use Rattle.std.specs.Prelude.{◌≡◌, ◌+◌, ◌-◌, ◌<◌, ◌≤◌, ◌^◌, ◌++◌, length, drop, All}
 use Rattle.resp_wire.specs.declared.decoder.Decoder.TheInside.{Inside}
-use Rattle.resp_wire.specs.RequestEncoding.{most_arguments, IsArgument}
+use Rattle.resp_messages.specs.RequestEncoding.{most_arguments, IsArgument}
 use Rattle.resp_wire.specs.DecoderView.{DecoderView, begun}
 
 abbrev pub wire_of : {A : Type 0} → Inside A → DecoderView

@@ -6,7 +6,7 @@ use Rattle.resp_wire.specs.declared.fault.Failure.TheVariants as failures
 use Rattle.resp_wire.specs.declared.decoder_steps.End.{End}
 use Rattle.resp_wire.specs.declared.decoder_steps.End.TheVariants as ends
 use Rattle.resp_wire.specs.declared.decoder_steps.Step.{Step}
-use Rattle.resp_wire.specs.RequestEncoding.{most_arguments, Item, IsSkip, IsArgument, encoding_of}
+use Rattle.resp_messages.specs.RequestEncoding.{most_arguments, Item, IsSkip, IsArgument, encoding_of}
 use Rattle.resp_wire.specs.Parser.{argument_at, item_at}
 use Rattle.resp_wire.specs.DecoderView.{begun}
 

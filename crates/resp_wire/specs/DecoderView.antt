@@ -4,7 +4,7 @@ use Rattle.std.specs.List.{flat_map, AllByRecursion}
 use Rattle.resp_wire.specs.declared.fault.ProtocolFault.{ProtocolFault}
 use Rattle.resp_wire.specs.declared.fault.WireFault.{WireFault}
 use Rattle.resp_wire.specs.declared.fault.WireFault.TheVariants.{NoMemory, Protocol}
-use Rattle.resp_wire.specs.RequestEncoding.{line, argument, request, Item, Ask, IsSkip, encoding_of}
+use Rattle.resp_messages.specs.RequestEncoding.{line, argument, request, Item, Ask, IsSkip, encoding_of}
 use Rattle.resp_wire.specs.Stream.{items, requests, rest, fault}
 
 -- the bytes that are held, how many were given as requests or skipped before them, and the fault that was

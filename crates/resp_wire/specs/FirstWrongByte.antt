@@ -1,7 +1,7 @@
 -- Where the first wrong byte of a text stands, row by row as in the table of docs/FORMATS.md, by the bytes alone.
 use Rattle.std.specs.Prelude.{◌≡◌, ◌≢◌, ◌⊎◌, ℕ, ◌+◌, ◌*◌, ◌<◌, ◌≤◌, List, [], ◌∷◌, ◌++◌, length, decimal, All}
 use Rattle.std.specs.List.{flat_map}
-use Rattle.resp_wire.specs.RequestEncoding.{most_arguments, longest_argument, line, argument, IsArgument}
+use Rattle.resp_messages.specs.RequestEncoding.{most_arguments, longest_argument, line, argument, IsArgument}
 
 -- ---- bytes
 

@@ -1,13 +1,11 @@
-pub mod ByteStringStorage
-pub mod RequestEncoding
+pub use Rattle.byte_devices.specs.Device
+pub use Rattle.resp_messages.specs.RequestEncoding
+pub use Rattle.resp_messages.specs.Response
 pub mod Parser
 pub mod Stream
-pub mod Response
 pub mod FaultTexts
 pub mod FirstWrongByte
 pub mod DecoderView
-pub mod Device
 pub mod ParserCodeAgreement
 pub mod DecoderSteps
 pub mod DecoderFields
-pub mod PolledDevices

@@ -6,7 +6,7 @@ use Rattle.resp_wire.specs.declared.fault.ProtocolFault.{ProtocolFault}
 use Rattle.resp_wire.specs.declared.fault.ProtocolFault.TheVariants.{NotAnArray, BadNumber, TooManyArguments, TooLong, BadBulk}
 use Rattle.resp_wire.specs.declared.fault.Stop.{Stop}
 use Rattle.resp_wire.specs.declared.fault.Stop.TheVariants.{Short, Wrong}
-use Rattle.resp_wire.specs.RequestEncoding.{most_arguments, longest_argument, Item, Ask, SkipZero, SkipMinus}
+use Rattle.resp_messages.specs.RequestEncoding.{most_arguments, longest_argument, Item, Ask, SkipZero, SkipMinus}
 
 -- one thing after another
 infixl 10 ◌>>=◌

@@ -4,7 +4,7 @@ use Rattle.std.specs.Prelude.{ℕ, zero, suc, List, [], ◌∷◌, length, Optio
 use Rattle.resp_wire.specs.declared.fault.ProtocolFault.{ProtocolFault}
 use Rattle.resp_wire.specs.declared.fault.Stop.{Stop}
 use Rattle.resp_wire.specs.declared.fault.Stop.TheVariants.{Short, Wrong}
-use Rattle.resp_wire.specs.RequestEncoding.{Item, Ask, SkipZero, SkipMinus}
+use Rattle.resp_messages.specs.RequestEncoding.{Item, Ask, SkipZero, SkipMinus}
 use Rattle.resp_wire.specs.Parser.{item_at}
 
 -- an item, before what more gives behind it

@@ -4,10 +4,9 @@ ghost use Rattle.std.specs.Prelude.{◌≡◌, ℕ, ◌+◌, ◌-◌, ◌≤◌,
 ghost use Rattle.resp_wire.specs.declared.fault.WireFault.TheVariants.{Protocol};
 ghost use Rattle.resp_wire.specs.DecoderView.{Nexts};
 
-use crate::bytes::{Bytes, BytesList};
 use crate::decoder_steps::{self, End};
 use crate::fault::{ProtocolFault, Stop, WireFault};
-use crate::request::Request;
+use resp_messages::{Bytes, BytesList, Request};
 use std::alloc::{AllocError, Allocator};
 use std::marker::Model;
 use std::mem;

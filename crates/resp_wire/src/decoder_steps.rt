@@ -6,14 +6,13 @@
 ghost use Rattle.std.specs.Prelude.{◌≡◌, ℕ, ◌≤◌, ◌<◌, ◌++◌, length, take, All, Some, IfOk, OnOk};
 ghost use Rattle.std.specs.List.{flat_map};
 ghost use Rattle.resp_wire.specs.ParserCodeAgreement.{Gives};
-ghost use Rattle.resp_wire.specs.RequestEncoding.{IsArgument, argument};
+ghost use Rattle.resp_messages.specs.RequestEncoding.{IsArgument, argument};
 ghost use Rattle.resp_wire.specs.Parser.{head_at};
 ghost use Rattle.resp_wire.specs.DecoderSteps.{SkipsTo, ArgumentStops, Went, Steps};
 
-use crate::bytes::Bytes;
 use crate::fault::{Failure, Stop};
 use crate::parser;
-use crate::request::MAX_ARGUMENTS;
+use resp_messages::{Bytes, MAX_ARGUMENTS};
 use std::alloc::Allocator;
 
 /// What stands behind the skips.

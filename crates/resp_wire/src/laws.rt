@@ -6,7 +6,7 @@ ghost use Rattle.std.specs.List.{flat_map, AllByRecursion};
 ghost use Rattle.resp_wire.specs.declared.fault.ProtocolFault.{ProtocolFault as Fault};
 ghost use Rattle.resp_wire.specs.declared.fault.ProtocolFault.TheVariants.{NotAnArray, BadNumber, TooManyArguments, TooLong, BadBulk};
 ghost use Rattle.resp_wire.specs.declared.fault.Stop.TheVariants.{Short, Wrong};
-ghost use Rattle.resp_wire.specs.RequestEncoding.{Item, IsItem, encoding_of};
+ghost use Rattle.resp_messages.specs.RequestEncoding.{Item, IsItem, encoding_of};
 ghost use Rattle.resp_wire.specs.Parser.{item_at};
 ghost use Rattle.resp_wire.specs.FirstWrongByte.{HasNoStar, HasTooManyArguments, HasWrongCount, HasNoDollar, HasTooLong, HasWrongLength, HasNoEnd};
 ghost use Rattle.resp_wire.specs.Stream.{items, requests, rest, fault};

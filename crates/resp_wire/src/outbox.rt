@@ -3,9 +3,7 @@
 ghost use Rattle.std.specs.Prelude.{◌≡◌, ◌↔◌, ◌-◌, ◌≤◌, true, IfOk, IsTrue, drop, length};
 ghost use Rattle.std.specs.Io.KnownBytes.{append_known};
 
-use crate::call_count::CallCount;
-use crate::device::{ByteDrain, Failed};
-use crate::polled_devices::PolledDrain;
+use byte_devices::{ByteDrain, CallCount, Failed, PolledDrain};
 use std::alloc::Allocator;
 use std::mem;
 

@@ -4,9 +4,8 @@ ghost use Rattle.std.specs.Prelude.{◌≡◌, ℕ, ◌+◌, ◌*◌, ◌≤◌,
 ghost use Rattle.resp_wire.specs.ParserCodeAgreement.{Gives, GivesUnlessFull};
 ghost use Rattle.resp_wire.specs.Parser.{byte_at, line_end_at, digits_at, number_at, head_at, body_at, argument_at};
 
-use crate::bytes::Bytes;
 use crate::fault::{Failure, ProtocolFault, Stop};
-use crate::request::{MAX_ARGUMENTS, MAX_LENGTH};
+use resp_messages::{Bytes, MAX_ARGUMENTS, MAX_LENGTH};
 use std::alloc::Allocator;
 
 #[tactic(auto, unfolding(crate::specs::Parser::byte_at))]

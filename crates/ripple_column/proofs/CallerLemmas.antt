@@ -4,8 +4,8 @@ use Rattle.std.proofs.lemmas.List.Sums.{get_or-le-sum_by, sum_by-set, sum_by_pus
 use Rattle.crack_kernel.specs.RowBag.{Test}
 use Rattle.std.specs.List.{swap_remove}
 use Rattle.score_bounds.specs.declared.ranges_and_cuts.Range.{Range}
-use Rattle.ripple_column.proofs.Counts.{count_and_le, count_none, count_split, count_swapped_out, count_all as all_counted, count_push as push_counted}
-use Rattle.ripple_column.specs.Content.{ColumnState, HasRow, Holds, NoneIn, SameContent, SameOutside, content_count, has_score_in}
+use Rattle.column_rows.proofs.Counts.{count_and_le, count_none, count_split, count_swapped_out, count_all as all_counted, count_push as push_counted}
+use Rattle.column_rows.specs.Content.{ColumnState, HasRow, Holds, NoneIn, SameContent, SameOutside, content_count, has_score_in}
 
 -- the test that each row passes counts all of them
 pub count_all : (xs : List (ℤ × List ℕ)) → count_by (λ r. true) xs ≡ length xs

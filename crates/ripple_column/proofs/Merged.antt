@@ -5,8 +5,8 @@ use Rattle.std.proofs.lemmas.Int.{ints}
 use Rattle.std.proofs.lemmas.List.Sums.{sum_by-cons, get_or-le-sum_by}
 use Rattle.score_bounds.specs.ScoreTexts.{greatest}
 use Rattle.crack_kernel.specs.RowBag.{Test, IsSubBag}
-use Rattle.ripple_column.specs.Content.{IsScored, Pends}
-use Rattle.ripple_column.proofs.Counts.{count_moved, count_none, none_counted, count_split, count_alike, count_zero, is_row, is_row-same, same-is_row, Contains-counted}
+use Rattle.column_rows.specs.Content.{IsScored, Pends}
+use Rattle.column_rows.proofs.Counts.{count_moved, count_none, none_counted, count_split, count_alike, count_zero, is_row, is_row-same, same-is_row, Contains-counted}
 
 -- the test of having a score that no 64 bits hold
 abbrev pub is_over : Test

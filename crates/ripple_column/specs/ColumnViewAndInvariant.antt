@@ -1,8 +1,8 @@
 -- What contracts see of a column, and what is true of every one.
 use Rattle.std.specs.Prelude.{◌≤◌, ◌-◌, min, length, vec_len, vec_capacity}
 use Rattle.crack_kernel.specs.RowBag.{IsSubBag}
-use Rattle.ripple_column.specs.Content.{ColumnState, IsScored, max_pending}
-use Rattle.ripple_column.specs.EffectsOnPieces.{shown}
+use Rattle.column_rows.specs.Content.{ColumnState, IsScored, max_pending}
+use Rattle.column_rows.specs.EffectsOnPieces.{shown}
 use Rattle.ripple_column.specs.declared.column.Column.TheInside.{Inside}
 
 -- the fields, and the room in the two lists of pending rows, which never pass max_pending rows

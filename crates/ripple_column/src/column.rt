@@ -4,18 +4,18 @@ ghost use Rattle.std.specs.Prelude.{◌≡◌, ◌+◌, ◌<◌, ◌≤◌, ℕ,
 ghost use Rattle.score_bounds.specs.declared.ranges_and_cuts.Range.{Range};
 ghost use Rattle.crack_kernel.specs.RowBag.{IsSubBag, Test};
 ghost use Rattle.crack_kernel.specs.PivotList.{ObeysPivots};
-ghost use Rattle.ripple_column.specs.RangeAnswer.{AnswersSome, HoldsRange, IsAnswer, low_cut, high_cut};
-ghost use Rattle.ripple_column.specs.RangeEffects.{Narrows, Removes, Selects};
-ghost use Rattle.ripple_column.specs.Content.{HasRow, IsUnchanged, Pends, SameContent, content_count, most_pending};
-ghost use Rattle.ripple_column.specs.RangeCutsAsPivots.{is_before, values};
-ghost use Rattle.ripple_column.specs.ShownPivots.{IsAmong};
+ghost use Rattle.column_rows.specs.RangeAnswer.{AnswersSome, HoldsRange, IsAnswer, low_cut, high_cut};
+ghost use Rattle.column_rows.specs.RangeEffects.{Narrows, Removes, Selects};
+ghost use Rattle.column_rows.specs.Content.{HasRow, IsUnchanged, Pends, SameContent, content_count, most_pending};
+ghost use Rattle.column_rows.specs.RangeCutsAsPivots.{is_before, values};
+ghost use Rattle.column_rows.specs.ShownPivots.{IsAmong};
 
-use crate::cracked_with_shown_pivots::Pieces;
-use crate::cut_cracks::is_before;
-use crate::inner_cracks::{is_wide, narrow};
-use crate::pending_lists::{KEEPS_ROOM_FROM, MAX_PENDING, MAX_RESERVED, Pending, SMALL_ROOM};
-use crate::range_removal::remove_between;
+use crate::merge_beside_shown_pivots::{merge_all_pieces, reserve_write_beside_pieces};
 use crate::select::{select_between, settled_places};
+use column_rows::{
+    KEEPS_ROOM_FROM, MAX_PENDING, MAX_RESERVED, Pending, Pieces, SMALL_ROOM, is_before, is_wide,
+    narrow, remove_between,
+};
 use crack_kernel::Row;
 use score_bounds::Range;
 use std::alloc::{AllocError, Allocator};
@@ -35,7 +35,7 @@ pub struct Column<A: Allocator> {
 }
 
 impl<A: Allocator> Model for Column<A> {
-    ghost use Rattle.ripple_column.specs.Content.{ColumnState};
+    ghost use Rattle.column_rows.specs.Content.{ColumnState};
 
     ghost Value = { ColumnState };
 
@@ -116,7 +116,7 @@ impl<A: Allocator + Copy> Column<A> {
         ensures merged_insertions { OnOk result (MAX_PENDING < most_pending self.old + n → self.new.insertions ≡ []) }
         ensures merged_deletions { OnOk result (MAX_PENDING < most_pending self.old + n → self.new.deletions ≡ []) }
     {
-        self.pieces.reserve_write(&mut self.pending, n)
+        reserve_write_beside_pieces(&mut self.pieces, &mut self.pending, n)
     }
 
     /// Adds `row` to the content: it waits as an insertion, or withdraws a deletion of it that
@@ -173,7 +173,7 @@ impl<A: Allocator + Copy> Column<A> {
         ensures deletions { OnOk result (self.new.deletions ≡ []) }
         ensures refused { OnErr result (IsUnchanged self.old self.new) }
     {
-        self.pieces.merge_all(&mut self.pending)
+        merge_all_pieces(&mut self.pieces, &mut self.pending)
     }
 
     /// Where the rows with scores in the range stand: from the first place on and before the

@@ -6,16 +6,14 @@
 ghost use Rattle.std.specs.Prelude.{◌≡◌, ◌+◌, ◌<◌, ◌≤◌, OnOk, OnErr, [], false, length, count_by, vec_len, vec_capacity};
 ghost use Rattle.std.specs.List.{AllWithin};
 ghost use Rattle.crack_kernel.specs.RowBag.{Test, IsSubBag};
-ghost use Rattle.ripple_column.specs.Content.{has_score_in, NoneIn, SameOutside};
-ghost use Rattle.ripple_column.specs.RangeCutsAsPivots.{values};
-ghost use Rattle.ripple_column.specs.MergeEffects.{HasLast, HasRoomFor, KeepsFrame, Merges, NoneWaits, StaysAsItWas, most_waiting};
+ghost use Rattle.column_rows.specs.Content.{has_score_in, NoneIn, SameOutside};
+ghost use Rattle.column_rows.specs.RangeCutsAsPivots.{values};
+ghost use Rattle.column_rows.specs.MergeEffects.{HasLast, HasRoomFor, KeepsFrame, Merges, NoneWaits, StaysAsItWas, most_waiting};
 
-use crate::bulk_merge::merge_many;
-use crate::cracked_rows::Cracked;
-use crate::pending_lists::{
-    MAX_PENDING, MAX_RESERVED, Pending, PendingList, RangeTails, is_within,
-};
 use crate::ripple::{ripple_insert, ripple_remove};
+use column_rows::{
+    Cracked, MAX_PENDING, MAX_RESERVED, Pending, PendingList, RangeTails, is_within, merge_many,
+};
 use score_bounds::{Bound, Range};
 use std::alloc::{AllocError, Allocator};
 

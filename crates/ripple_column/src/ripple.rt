@@ -7,10 +7,10 @@
 ghost use Rattle.std.specs.Prelude.{◌≡◌, ◌-◌, ◌<◌, ◌≤◌, ◌++◌, ◌∷◌, [], length, Contains, IsPermutation, vec_len, vec_capacity};
 ghost use Rattle.std.specs.List.{HoldsAt};
 ghost use Rattle.crack_kernel.specs.PivotList.{ObeysPivots};
-ghost use Rattle.ripple_column.specs.StandsWithin.{StandsWithin};
-ghost use Rattle.ripple_column.specs.MergeEffects.{KeepsFrame};
+ghost use Rattle.column_rows.specs.StandsWithin.{StandsWithin};
+ghost use Rattle.column_rows.specs.MergeEffects.{KeepsFrame};
 
-use crate::fingerprinted_rows::Rows;
+use column_rows::Rows;
 use crack_kernel::{Pivots, Row};
 use std::alloc::Allocator;
 

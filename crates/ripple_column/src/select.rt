@@ -3,18 +3,16 @@
 ghost use Rattle.std.specs.Prelude.{◌≡◌, ◌⊎◌, ◌+◌, ◌<◌, ◌≤◌, ◌++◌, ℕ, ℤ, List, [], true, false, IsTrue, min, max, Contains, IsErr, length, count_by, slice_index_or, IsPermutation, IfOk, OnOk, OnErr, IfSome, OnSome, vec_len, vec_capacity};
 ghost use Rattle.crack_kernel.specs.RowBag.{IsSubBag};
 ghost use Rattle.crack_kernel.specs.PivotList.{IsRising};
-ghost use Rattle.ripple_column.specs.Content.{has_score_in, NoneIn, SameOutside};
-ghost use Rattle.ripple_column.specs.MergeEffects.{Merges};
-ghost use Rattle.ripple_column.specs.EffectsOnPieces.{HasRoom, StaysAsShown, most_with_inner, shown};
-ghost use Rattle.ripple_column.specs.RangeCutsAsPivots.{is_before, values, cut_values, count_with_cuts, new_values, values_with_cuts, StandsAt, IsUncracked};
+ghost use Rattle.column_rows.specs.Content.{has_score_in, NoneIn, SameOutside};
+ghost use Rattle.column_rows.specs.MergeEffects.{Merges};
+ghost use Rattle.column_rows.specs.EffectsOnPieces.{HasRoom, StaysAsShown, most_with_inner, shown};
+ghost use Rattle.column_rows.specs.RangeCutsAsPivots.{is_before, values, cut_values, count_with_cuts, new_values, values_with_cuts, StandsAt, IsUncracked};
 
-use crate::center_cracks::{approach_cuts, are_short, is_short_at};
-use crate::cracked_with_shown_pivots::Pieces;
-use crate::cracked_with_shown_pivots::shown_pivots::{renew_places, show_cuts};
-use crate::cut_cracks::{count_missing, crack_between, is_before};
-use crate::inner_cracks::break_up;
 use crate::merge::merge_gathered;
-use crate::pending_lists::Pending;
+use column_rows::{
+    Pending, Pieces, approach_cuts, are_short, break_up, count_missing, crack_between, is_before,
+    is_short_at, renew_places, show_cuts,
+};
 use crack_kernel::{MAX_PIVOTS, Pivots};
 use score_bounds::{Cut, Range};
 use std::alloc::{AllocError, Allocator};

@@ -9,7 +9,7 @@ use Rattle.std.specs.declared.vec.Vec.{Vec}
 use Rattle.std.specs.declared.snapshot.Snapshot.{Snapshot}
 use Rattle.zset_core.specs.SortedSet.{bytes_cmp}
 use Rattle.resp_wire.specs.Response.{response_of}
-use Rattle.resp_wire.specs.declared.reply.Reply.{Reply}
+use Rattle.resp_messages.specs.declared.reply.Reply.{Reply}
 use Rattle.zset_commands.specs.AbstractCommand.{Asked, Meaning, key_of}
 use Rattle.sorted_sets.specs.ChangeCounts.{IsOutline}
 use Rattle.zset_commands.specs.Refusal.{IsRefused}

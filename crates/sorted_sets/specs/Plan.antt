@@ -4,7 +4,7 @@ use Rattle.std.specs.Prelude.{◌≡◌, ◌≤◌, ◌+◌, ◌++◌, ℕ, List
 use Rattle.std.specs.List.{list_any, range_with_len}
 use Rattle.std.specs.Str.{bytes_eq}
 use Rattle.resp_wire.specs.Response.{Response, response_of}
-use Rattle.resp_wire.specs.declared.reply.Reply.{Reply}
+use Rattle.resp_messages.specs.declared.reply.Reply.{Reply}
 use Rattle.ripple_column.specs.Content.{ColumnState}
 use Rattle.ripple_column.specs.RangeEffects.{TakesOut}
 use Rattle.sorted_sets.specs.MovedMembers.{moved_names}

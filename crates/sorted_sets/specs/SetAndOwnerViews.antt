@@ -4,7 +4,7 @@ use Rattle.std.specs.Coded.{Coded, coded_ℕ, coded_ℤ, coded_list}
 use Rattle.std.specs.Str.{bytes_eq}
 use Rattle.std.specs.FinMap as fin
 use Rattle.resp_wire.specs.Response.{Response, response_of}
-use Rattle.resp_wire.specs.declared.reply.Reply.{Reply}
+use Rattle.resp_messages.specs.declared.reply.Reply.{Reply}
 use Rattle.ripple_column.specs.Content.{ColumnState}
 use Rattle.zset_core.specs.SortedSet.{Members}
 use Rattle.zset_commands.specs.AbstractCommand.{Meaning}

@@ -12,8 +12,8 @@ use Rattle.std.specs.contracts.random_state.RandomStateBuildHasher.TheImpl as st
 use Rattle.std.specs.contracts.prelude.DefaultHasherHasher.TheImpl as hashes
 use Rattle.std.specs.contracts.impls.GlobalAllocator.TheImpl as blocks
 use Rattle.std.specs.declared.sync.ledger.Ledger as ledger
-use Rattle.resp_wire.specs.declared.device.ByteSource as source
-use Rattle.resp_wire.specs.declared.device.ByteDrain as drain
+use Rattle.byte_devices.specs.declared.device.ByteSource as source
+use Rattle.byte_devices.specs.declared.device.ByteDrain as drain
 use Rattle.append_log.specs.declared.log_sinks.LogSink as sink
 use Rattle.std.specs.contracts.sync.Mutex as Mutex
 use Rattle.std.proofs.sync.Mutex.TheSendSync as mutex

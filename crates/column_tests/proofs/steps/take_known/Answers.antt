@@ -1,6 +1,6 @@
 use Rattle.std.proofs.Common.{◌≡◌, ◌≤◌, ℕ, ℤ, Bool, cond, List, get_or, count_by, ap, ◌∙◌, sym, arith}
 use Rattle.std.proofs.lemmas.List.Sums.{get_or-le-sum_by}
-use Rattle.ripple_column.proofs.Counts.{count_swapped_out}
+use Rattle.column_rows.proofs.Counts.{count_swapped_out}
 use Rattle.column_tests.proofs.steps.take_known.Goals as goal
 
 pub delete-requires-clause-there : goal.delete-requires-clause-there

@@ -1,7 +1,7 @@
 use Rattle.std.proofs.Common.{◌∷◌, [], length, arith, ◌∙◌}
 use Rattle.std.proofs.lemmas.List.{length_push, take-append-le}
 use Rattle.std.proofs.lemmas.List.Elements.{All-push}
-use Rattle.resp_wire.specs.RequestEncoding.{IsArgument}
+use Rattle.resp_messages.specs.RequestEncoding.{IsArgument}
 use Rattle.resp_wire.proofs.Items.{argument_takes}
 use Rattle.resp_wire.proofs.StepLemmas.{arguments_more, argument_shorter}
 use Rattle.resp_wire.proofs.decoder_steps.fill.Goals as goal

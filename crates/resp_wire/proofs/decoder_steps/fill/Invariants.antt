@@ -1,6 +1,6 @@
 use Rattle.std.proofs.Common.{◌≡◌, ◌++◌, ◌≤◌, ◌-◌, length, take, All}
 use Rattle.std.specs.List.{flat_map}
-use Rattle.resp_wire.specs.RequestEncoding.{argument, IsArgument}
+use Rattle.resp_messages.specs.RequestEncoding.{argument, IsArgument}
 use Rattle.resp_wire.proofs.decoder_steps.fill.Given as goal
 
 abbrev pub invariant-arguments : goal.invariant-arguments

@@ -1,4 +1,4 @@
-use Rattle.ripple_column.proofs.Counts.{none_left}
+use Rattle.column_rows.proofs.Counts.{none_left}
 use Rattle.ripple_column.proofs.merge.merge_all.Goals as goal
 
 pub returns-clause-merged_deletions : goal.returns-clause-merged_deletions

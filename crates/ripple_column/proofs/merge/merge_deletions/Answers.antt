@@ -4,9 +4,9 @@ use Rattle.std.proofs.lemmas.List.Elements.{AllWithin-more}
 use Rattle.score_bounds.specs.declared.ranges_and_cuts.Range.{Range}
 use Rattle.crack_kernel.specs.RowBag.{Test}
 use Rattle.crack_kernel.proofs.PartMoves.{holds_read}
-use Rattle.ripple_column.specs.Content.{has_score_in}
-use Rattle.ripple_column.proofs.Counts.{Contains-sub_bag, count_taken, count_swapped_out, count_zero, and_not}
-use Rattle.ripple_column.proofs.Frames.{KeepsFrame-more}
+use Rattle.column_rows.specs.Content.{has_score_in}
+use Rattle.column_rows.proofs.Counts.{Contains-sub_bag, count_taken, count_swapped_out, count_zero, and_not}
+use Rattle.column_rows.proofs.Frames.{KeepsFrame-more}
 use Rattle.ripple_column.proofs.merge.merge_deletions.Goals as goal
 
 pub ripple_remove-gone-requires-clause-there : goal.ripple_remove-gone-requires-clause-there

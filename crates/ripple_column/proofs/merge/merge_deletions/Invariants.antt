@@ -1,8 +1,8 @@
 use Rattle.std.proofs.Common.{◌≡◌, ◌≤◌, ◌+◌, ◌-◌, false, length, count_by}
 use Rattle.std.specs.List.{AllWithin}
 use Rattle.crack_kernel.specs.RowBag.{Test, IsSubBag}
-use Rattle.ripple_column.specs.Content.{has_score_in, SameOutside}
-use Rattle.ripple_column.specs.MergeEffects.{KeepsFrame}
+use Rattle.column_rows.specs.Content.{has_score_in, SameOutside}
+use Rattle.column_rows.specs.MergeEffects.{KeepsFrame}
 use Rattle.ripple_column.proofs.merge.merge_deletions.Given as goal
 
 abbrev pub invariant-loop-i : goal.invariant-loop-i

@@ -1,9 +1,9 @@
 use Rattle.std.proofs.Common.{◌∙◌, true, arith}
 use Rattle.crack_kernel.specs.RowBag.{Test}
-use Rattle.ripple_column.specs.Content.{has_score_in}
-use Rattle.ripple_column.proofs.Counts.{count_all, count_split}
-use Rattle.ripple_column.proofs.Frames.{KeepsFrame-more}
-use Rattle.ripple_column.proofs.Tails.{SameOutside-taken, count_within_tail, outside-taken}
+use Rattle.column_rows.specs.Content.{has_score_in}
+use Rattle.column_rows.proofs.Counts.{count_all, count_split}
+use Rattle.column_rows.proofs.Frames.{KeepsFrame-more}
+use Rattle.column_rows.proofs.Tails.{SameOutside-taken, count_within_tail, outside-taken}
 use Rattle.ripple_column.proofs.merge.merge_gathered.Goals as goal
 
 pub merge_many-requires-clause-room : goal.merge_many-requires-clause-room

@@ -5,9 +5,9 @@ use Rattle.std.proofs.lemmas.List.Sorted.{length_permutation}
 use Rattle.score_bounds.specs.declared.ranges_and_cuts.Range.{Range}
 use Rattle.crack_kernel.specs.RowBag.{Test}
 use Rattle.crack_kernel.proofs.PartMoves.{holds_read}
-use Rattle.ripple_column.specs.Content.{has_score_in}
-use Rattle.ripple_column.proofs.Counts.{count_push, count_moved, count_swapped_out, count_zero, and_not}
-use Rattle.ripple_column.proofs.Frames.{KeepsFrame-more}
+use Rattle.column_rows.specs.Content.{has_score_in}
+use Rattle.column_rows.proofs.Counts.{count_push, count_moved, count_swapped_out, count_zero, and_not}
+use Rattle.column_rows.proofs.Frames.{KeepsFrame-more}
 use Rattle.ripple_column.proofs.merge.merge_insertions.Goals as goal
 
 pub ripple_insert-requires-clause-room : goal.ripple_insert-requires-clause-room

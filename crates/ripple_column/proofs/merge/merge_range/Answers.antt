@@ -1,7 +1,7 @@
 use Rattle.std.proofs.Common.{◌∙◌, ◌&&◌, not, arith}
 use Rattle.crack_kernel.specs.RowBag.{Test}
-use Rattle.ripple_column.specs.Content.{has_score_in}
-use Rattle.ripple_column.proofs.Counts.{count_moved}
+use Rattle.column_rows.specs.Content.{has_score_in}
+use Rattle.column_rows.proofs.Counts.{count_moved}
 use Rattle.ripple_column.proofs.merge.merge_range.Goals as goal
 
 pub merge_gathered-requires-clause-part : goal.merge_gathered-requires-clause-part

@@ -2,8 +2,8 @@ use Rattle.std.proofs.Common.{◌≡◌, ◌≤◌, ◌+◌, ◌-◌, ◌++◌, 
 use Rattle.std.proofs.lemmas.Int.{ints}
 use Rattle.crack_kernel.specs.PivotList.{IsRising, RisesPast, shifted}
 use Rattle.crack_kernel.proofs.PivotOrder.{IsRising-shifted, length-shifted, values-shifted, RisesPast-same}
-use Rattle.ripple_column.specs.MergeGap.{AllParted}
-use Rattle.ripple_column.proofs.Hole.{Inserting, Inserting-start, Inserting-step, Inserting-end}
+use Rattle.column_rows.specs.MergeGap.{AllParted}
+use Rattle.column_rows.proofs.Hole.{Inserting, Inserting-start, Inserting-step, Inserting-end}
 use Rattle.ripple_column.proofs.ripple.carry_in.Goals as goal
 
 pub loop-i-init : goal.loop-i-init

@@ -1,5 +1,5 @@
 use Rattle.std.proofs.Common.{◌≡◌, ◌≤◌, ◌++◌, ◌∷◌, [], length, vec_capacity}
-use Rattle.ripple_column.proofs.Hole.{Inserting}
+use Rattle.column_rows.proofs.Hole.{Inserting}
 use Rattle.ripple_column.proofs.ripple.carry_in.Given as goal
 
 abbrev pub invariant-loop-i : goal.invariant-loop-i

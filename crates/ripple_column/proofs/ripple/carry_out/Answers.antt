@@ -3,10 +3,10 @@ use Rattle.std.proofs.lemmas.Int.{ints}
 use Rattle.std.proofs.lemmas.List.{get_or_past, get_or-drop}
 use Rattle.crack_kernel.specs.PivotList.{IsRising, RisesPast, shifted}
 use Rattle.crack_kernel.proofs.PivotOrder.{IsRising-shifted, length-shifted, values-shifted, RisesPast-same}
-use Rattle.ripple_column.specs.StandsWithin.{StandsWithin}
-use Rattle.ripple_column.specs.MergeGap.{AllParted}
-use Rattle.ripple_column.proofs.Carried.{start_is}
-use Rattle.ripple_column.proofs.Hole.{Removing, Removing-start, Removing-step, Removing-end, StandsWithin-piece, start_from, Places, Places-from_law, bound_within, bound_from}
+use Rattle.column_rows.specs.StandsWithin.{StandsWithin}
+use Rattle.column_rows.specs.MergeGap.{AllParted}
+use Rattle.column_rows.proofs.Carried.{start_is}
+use Rattle.column_rows.proofs.Hole.{Removing, Removing-start, Removing-step, Removing-end, StandsWithin-piece, start_from, Places, Places-from_law, bound_within, bound_from}
 use Rattle.ripple_column.proofs.ripple.carry_out.Goals as goal
 use Rattle.ripple_column.proofs.ripple.carry_out.Goals.{In-Some}
 

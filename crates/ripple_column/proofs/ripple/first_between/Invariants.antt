@@ -1,4 +1,4 @@
-use Rattle.ripple_column.specs.StandsWithin.{StandsWithin}
+use Rattle.column_rows.specs.StandsWithin.{StandsWithin}
 use Rattle.ripple_column.proofs.ripple.first_between.Given as goal
 
 abbrev pub invariant-loop-at : goal.invariant-loop-at

@@ -1,7 +1,7 @@
-use Rattle.ripple_column.specs.ShownPivots.{IsAmong}
-use Rattle.ripple_column.specs.EffectsOnPieces.{shown}
-use Rattle.ripple_column.proofs.InnerPivots.{among_found, among_own, found_own}
-use Rattle.ripple_column.proofs.Values.{IsUncracked-kept}
+use Rattle.column_rows.specs.ShownPivots.{IsAmong}
+use Rattle.column_rows.specs.EffectsOnPieces.{shown}
+use Rattle.column_rows.proofs.InnerPivots.{among_found, among_own, found_own}
+use Rattle.column_rows.proofs.Values.{IsUncracked-kept}
 use Rattle.ripple_column.proofs.select.crack_and_show.Goals as goal
 
 pub show_cuts-requires-clause-among : goal.show_cuts-requires-clause-among

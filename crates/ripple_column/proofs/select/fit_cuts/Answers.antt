@@ -1,6 +1,6 @@
 use Rattle.std.proofs.Common.{◌≡◌, ◌+◌, ◌<◌, ◌≤◌, length, ap, sym, ◌∙◌, arith}
 use Rattle.std.proofs.lemmas.Bool.Decides.{nat_tests}
-use Rattle.ripple_column.proofs.InnerPivots.{among_own, new_values_less, shown_is_all, shown_is_own, values_among}
+use Rattle.column_rows.proofs.InnerPivots.{among_own, new_values_less, shown_is_all, shown_is_own, values_among}
 use Rattle.ripple_column.proofs.select.fit_cuts.Goals as goal
 
 pub returns-then-needed_all-gt-MAX_PIVOTS-clause-spare : goal.returns-then-needed_all-gt-MAX_PIVOTS-clause-spare

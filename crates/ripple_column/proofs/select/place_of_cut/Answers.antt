@@ -1,6 +1,6 @@
 use Rattle.std.proofs.Common.{arith}
 use Rattle.std.proofs.lemmas.Int.{ints}
-use Rattle.ripple_column.proofs.Selection.{found-exact}
+use Rattle.column_rows.proofs.Selection.{found-exact}
 use Rattle.ripple_column.proofs.select.place_of_cut.Goals as goal
 
 pub returns-in-At-clause-exact : goal.returns-in-At-clause-exact

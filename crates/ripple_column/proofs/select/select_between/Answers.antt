@@ -1,8 +1,8 @@
 use Rattle.std.proofs.Common.{ℕ, ℤ, List, Contains, count_by, ap, arith}
 use Rattle.crack_kernel.specs.RowBag.{Test}
-use Rattle.ripple_column.specs.RangeCutsAsPivots.{values}
-use Rattle.ripple_column.proofs.Counts.{count_moved}
-use Rattle.ripple_column.proofs.InnerPivots.{new_values_less, new_values_one, values_among}
+use Rattle.column_rows.specs.RangeCutsAsPivots.{values}
+use Rattle.column_rows.proofs.Counts.{count_moved}
+use Rattle.column_rows.proofs.InnerPivots.{new_values_less, new_values_one, values_among}
 use Rattle.ripple_column.proofs.select.select_between.Goals as goal
 
 pub crack_and_show-requires-clause-few : goal.crack_and_show-requires-clause-few

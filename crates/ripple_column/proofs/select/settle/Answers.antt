@@ -2,10 +2,10 @@ use Rattle.std.proofs.Common.{ℕ, ℤ, List, Contains, count_by, sym, subst, �
 use Rattle.std.proofs.lemmas.Bool.{false≢true}
 use Rattle.std.proofs.lemmas.List.Sorted.{length_permutation}
 use Rattle.crack_kernel.specs.RowBag.{Test}
-use Rattle.ripple_column.specs.Content.{has_score_in}
-use Rattle.ripple_column.proofs.Counts.{count_moved}
-use Rattle.ripple_column.proofs.InnerPivots.{found_among, own_values, values_among}
-use Rattle.ripple_column.proofs.Tails.{last_none}
+use Rattle.column_rows.specs.Content.{has_score_in}
+use Rattle.column_rows.proofs.Counts.{count_moved}
+use Rattle.column_rows.proofs.InnerPivots.{found_among, own_values, values_among}
+use Rattle.column_rows.proofs.Tails.{last_none}
 use Rattle.ripple_column.proofs.select.settle.Goals as goal
 
 pub merge_gathered-requires-clause-part : goal.merge_gathered-requires-clause-part

@@ -1,6 +1,6 @@
 use Rattle.std.proofs.Common.{◌<◌, ◌-◌, min, vec_len, vec_capacity, sym, subst, arith}
-use Rattle.ripple_column.specs.Content.{ColumnState}
-use Rattle.ripple_column.proofs.Counts.{length-sub_bag}
+use Rattle.column_rows.specs.Content.{ColumnState}
+use Rattle.column_rows.proofs.Counts.{length-sub_bag}
 use Rattle.ripple_column.proofs.Merged.{PendsCounts-from, IsScored-pended}
 use Rattle.ripple_column.proofs.column.Column.insert.Goals as goal
 

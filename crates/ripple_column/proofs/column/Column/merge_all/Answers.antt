@@ -1,5 +1,5 @@
 use Rattle.std.proofs.Common.{arith}
-use Rattle.ripple_column.proofs.Counts.{length-sub_bag}
+use Rattle.column_rows.proofs.Counts.{length-sub_bag}
 use Rattle.ripple_column.proofs.Merged.{IsScored-merged}
 use Rattle.ripple_column.proofs.column.Column.merge_all.Goals as goal
 
@@ -7,9 +7,9 @@ pub invariant_of-self : goal.invariant_of-self
 invariant_of-self g c =
     let inv = c.self.invariant in
     let old = c.self.inside in
-    let new = c.merge_all.new in
-    let m = c.merge_all.ensures.merges in
-    let scored = IsScored-merged old.pieces.cracked.rows.items new.self.cracked.rows.items old.pending.insertions.items new.pending.insertions.items old.pending.deletions.items new.pending.deletions.items inv.scored_rows inv.scored_insertions m.content m.less_deletions in
+    let new = c.merge_all_pieces.new in
+    let m = c.merge_all_pieces.ensures.merges in
+    let scored = IsScored-merged old.pieces.cracked.rows.items new.pieces.cracked.rows.items old.pending.insertions.items new.pending.insertions.items old.pending.deletions.items new.pending.deletions.items inv.scored_rows inv.scored_insertions m.content m.less_deletions in
     record {
       part = m.part;
       scored_rows = scored.0;

@@ -1,15 +1,15 @@
 use Rattle.std.proofs.Common.{◌≡◌, ◌∙◌, sym, subst, refl, ◌≤ℤ◌, List, ℤ, ℕ, length, arith}
 use Rattle.std.proofs.lemmas.List.Sorted.{All-permutation, IsPermutation-trans, length_permutation}
 use Rattle.score_bounds.specs.ScoreTexts.{greatest}
-use Rattle.ripple_column.specs.RangeAnswer.{IsAnswer}
-use Rattle.ripple_column.specs.RangeEffects.{Narrows}
-use Rattle.ripple_column.specs.Content.{ColumnState}
+use Rattle.column_rows.specs.RangeAnswer.{IsAnswer}
+use Rattle.column_rows.specs.RangeEffects.{Narrows}
+use Rattle.column_rows.specs.Content.{ColumnState}
 use Rattle.ripple_column.specs.ColumnViewAndInvariant.{state}
-use Rattle.ripple_column.specs.EffectsOnPieces.{shown}
-use Rattle.ripple_column.proofs.Selection.{CutsPart-any, HoldsRange-answer}
-use Rattle.ripple_column.proofs.Counts.{count_moved}
-use Rattle.ripple_column.proofs.InnerPivots.{IsAnswer-same, among_found}
-use Rattle.ripple_column.proofs.InnerCracks.{AreCracked-more}
+use Rattle.column_rows.specs.EffectsOnPieces.{shown}
+use Rattle.column_rows.proofs.Selection.{CutsPart-any, HoldsRange-answer}
+use Rattle.column_rows.proofs.Counts.{count_moved}
+use Rattle.column_rows.proofs.InnerPivots.{IsAnswer-same, among_found}
+use Rattle.column_rows.proofs.InnerCracks.{AreCracked-more}
 use Rattle.ripple_column.proofs.column.Column.narrow.Goals as goal
 
 pub invariant_of-self : goal.invariant_of-self

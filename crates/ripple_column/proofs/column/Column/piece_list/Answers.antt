@@ -1,5 +1,5 @@
-use Rattle.ripple_column.specs.EffectsOnPieces.{shown}
-use Rattle.ripple_column.proofs.InnerPivots.{among_found}
+use Rattle.column_rows.specs.EffectsOnPieces.{shown}
+use Rattle.column_rows.proofs.InnerPivots.{among_found}
 use Rattle.ripple_column.proofs.column.Column.piece_list.Goals as goal
 
 pub returns-clause-among : goal.returns-clause-among

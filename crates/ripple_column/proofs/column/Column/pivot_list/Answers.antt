@@ -1,5 +1,5 @@
-use Rattle.ripple_column.specs.EffectsOnPieces.{shown}
-use Rattle.ripple_column.proofs.InnerPivots.{ObeysPivots-among, among_found}
+use Rattle.column_rows.specs.EffectsOnPieces.{shown}
+use Rattle.column_rows.proofs.InnerPivots.{ObeysPivots-among, among_found}
 use Rattle.ripple_column.proofs.column.Column.pivot_list.Goals as goal
 
 pub returns-clause-law : goal.returns-clause-law

@@ -1,10 +1,10 @@
 use Rattle.std.proofs.Common.{◌≡◌, true, false, sym, subst, ◌∙◌}
-use Rattle.ripple_column.specs.RangeAnswer.{low_cut, high_cut, IsAnswer, IsSettled}
-use Rattle.ripple_column.specs.Content.{ColumnState}
-use Rattle.ripple_column.specs.RangeCutsAsPivots.{is_before}
+use Rattle.column_rows.specs.RangeAnswer.{low_cut, high_cut, IsAnswer, IsSettled}
+use Rattle.column_rows.specs.Content.{ColumnState}
+use Rattle.column_rows.specs.RangeCutsAsPivots.{is_before}
 use Rattle.ripple_column.specs.ColumnViewAndInvariant.{state}
-use Rattle.ripple_column.proofs.InnerPivots.{among_found}
-use Rattle.ripple_column.proofs.Selection.{CutsPart, HoldsRange-empty, HoldsRange-ready, IsAnswer-ready}
+use Rattle.column_rows.proofs.InnerPivots.{among_found}
+use Rattle.column_rows.proofs.Selection.{CutsPart, HoldsRange-empty, HoldsRange-ready, IsAnswer-ready}
 use Rattle.ripple_column.proofs.column.Column.ready.Goals as goal
 
 pub returns-then-not-is_before-clause-rows : goal.returns-then-not-is_before-clause-rows

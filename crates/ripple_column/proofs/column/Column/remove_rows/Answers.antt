@@ -1,14 +1,14 @@
 use Rattle.std.proofs.Common.{ℕ, sym, subst, refl}
 use Rattle.score_bounds.specs.declared.ranges_and_cuts.Range.{Range}
-use Rattle.ripple_column.specs.Content.{ColumnState}
+use Rattle.column_rows.specs.Content.{ColumnState}
 use Rattle.ripple_column.specs.ColumnViewAndInvariant.{ColumnViewAndInvariant, state}
-use Rattle.ripple_column.specs.RangeAnswer.{HoldsRange, IsAnswer}
-use Rattle.ripple_column.specs.RangeEffects.{Removes, TakesOut}
+use Rattle.column_rows.specs.RangeAnswer.{HoldsRange, IsAnswer}
+use Rattle.column_rows.specs.RangeEffects.{Removes, TakesOut}
 use Rattle.ripple_column.specs.declared.column.Column.TheInside.{Inside}
-use Rattle.ripple_column.proofs.InnerPivots.{among_found}
+use Rattle.column_rows.proofs.InnerPivots.{among_found}
 use Rattle.ripple_column.proofs.Merged.{IsScored-less}
-use Rattle.ripple_column.proofs.Removal.{IsAnswer-closed_up, IsClosedUp, content_closed_up, none_closed_up, part_closed_up, rows_closed_up}
-use Rattle.ripple_column.proofs.Selection.{CutsPart-any, HoldsRange-answer, IsAnswer-one}
+use Rattle.column_rows.proofs.Removal.{IsAnswer-closed_up, IsClosedUp, content_closed_up, none_closed_up, part_closed_up, rows_closed_up}
+use Rattle.column_rows.proofs.Selection.{CutsPart-any, HoldsRange-answer, IsAnswer-one}
 use Rattle.ripple_column.proofs.column.Column.remove_rows.Goals as goal
 
 -- the rows between the places of an answer are those of its range

@@ -1,11 +1,11 @@
 use Rattle.std.proofs.Common.{inl, arith}
-use Rattle.ripple_column.specs.Content.{ColumnState}
+use Rattle.column_rows.specs.Content.{ColumnState}
 use Rattle.ripple_column.specs.ColumnViewAndInvariant.{state}
-use Rattle.ripple_column.proofs.Counts.{length-sub_bag}
-use Rattle.ripple_column.specs.EffectsOnPieces.{shown}
-use Rattle.ripple_column.proofs.InnerPivots.{among_found}
+use Rattle.column_rows.proofs.Counts.{length-sub_bag}
+use Rattle.column_rows.specs.EffectsOnPieces.{shown}
+use Rattle.column_rows.proofs.InnerPivots.{among_found}
 use Rattle.ripple_column.proofs.Merged.{IsScored-merged}
-use Rattle.ripple_column.proofs.Selection.{CutsPart, IsSettled-selected, IsAnswer-selected, HoldsRange-selected, AddsCuts-selected, Selects-selected}
+use Rattle.column_rows.proofs.Selection.{CutsPart, IsSettled-selected, IsAnswer-selected, HoldsRange-selected, AddsCuts-selected, Selects-selected}
 use Rattle.ripple_column.proofs.column.Column.select.Goals as goal
 
 pub invariant_of-self : goal.invariant_of-self

@@ -1,0 +1,15 @@
+pub mod StandsWithin
+pub mod Content
+pub mod RangeCutsAsPivots
+pub mod RangeAnswer
+pub mod RangeEffects
+pub mod MergeGap
+pub mod MergeEffects
+pub mod GapEffects
+pub mod RowHash
+pub mod ScoreSpan
+pub mod PendingBloom
+pub mod ShownPivots
+pub mod EffectsOnPieces
+pub mod ClosedUp
+pub mod FrontRoom

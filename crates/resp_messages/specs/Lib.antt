@@ -1,0 +1,3 @@
+pub mod ByteStringStorage
+pub mod RequestEncoding
+pub mod Response

@@ -1,5 +1,0 @@
-use Rattle.std.proofs.Common.{length, ◌-◌}
-use Rattle.ripple_column.proofs.cracked_with_shown_pivots.shown_pivots.next_from.Given as goal
-
-abbrev pub decreases-loop-i : goal.decreases-loop-i
-decreases-loop-i l = length l.list - l.i

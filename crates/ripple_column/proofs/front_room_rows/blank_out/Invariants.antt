@@ -1,5 +1,0 @@
-use Rattle.std.proofs.Common.{◌≡◌, drop}
-use Rattle.ripple_column.proofs.front_room_rows.blank_out.Given as goal
-
-abbrev pub invariant-loop-at : goal.invariant-loop-at
-invariant-loop-at g l = drop l.to l.rows ≡ drop l.to l.fn.rows

@@ -1,9 +1,0 @@
-use Rattle.std.proofs.Common.{◌≡◌, ◌++◌, replicate, vec_capacity}
-use Rattle.ripple_column.specs.MergeGap.{blank}
-use Rattle.ripple_column.proofs.gapped_rows.push_blanks.Given as goal
-
-abbrev pub invariant-loop-pushed : goal.invariant-loop-pushed
-invariant-loop-pushed g l = record {
-  items : l.rows.items ≡ l.fn.rows.items ++ replicate l._pushed blank;
-  capacity : vec_capacity l.rows ≡ vec_capacity l.fn.rows;
-}

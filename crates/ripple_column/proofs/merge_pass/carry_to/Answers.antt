@@ -1,8 +1,0 @@
-use Rattle.ripple_column.proofs.Carried.{IsCarried-more}
-use Rattle.ripple_column.proofs.merge_pass.carry_to.Goals as goal
-
-pub loop-piece-preserved : goal.loop-piece-preserved
-loop-piece-preserved g c = record {
-  start = c.sink.ensures.start;
-  carried = IsCarried-more c.loop-piece.invariant.carried (IsCarried-more c.next_piece.ensures.carried c.sink.ensures.carried);
-}

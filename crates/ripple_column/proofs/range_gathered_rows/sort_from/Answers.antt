@@ -1,6 +1,0 @@
-use Rattle.std.proofs.Common.{◌-◌, length}
-use Rattle.std.proofs.lemmas.List.Sorted.{IsPermutation-put_mid}
-use Rattle.ripple_column.proofs.range_gathered_rows.sort_from.Goals as goal
-
-pub returns-clause-rows : goal.returns-clause-rows
-returns-clause-rows g c = IsPermutation-put_mid c.args.from (length c.args.rows.now - c.args.from) c.args.rows.now c.sort_falling.new.rows c.sort_falling.ensures

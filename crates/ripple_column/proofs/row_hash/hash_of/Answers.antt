@@ -1,7 +1,0 @@
-use Rattle.std.proofs.Common.{rules}
-use Rattle.ripple_column.specs.RowHash.{hash_of}
-use Rattle.ripple_column.proofs.row_hash.hash_of.Goals as goal
-
-pub returns-clause-is : goal.returns-clause-is
-unfolding hash_of
-returns-clause-is g c = search rules
