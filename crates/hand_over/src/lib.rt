@@ -6,18 +6,11 @@
 //! told once at the end, as taken by one worker or as left.
 #![tactic(auto)]
 
-mod accepting;
-mod arrivals;
-mod channel_protocol;
-mod handler;
-mod load_balancing;
 mod outcome;
-mod recalling_workers;
 mod run_worker_pool;
 mod starting_workers;
 mod worker;
 
-pub use arrivals::{Arrival, ArrivalKind, Arrivals};
-pub use handler::{Bell, Handler};
+pub use connection_channel::{Arrival, ArrivalKind, Arrivals, Bell, Handler};
 pub use outcome::{HandOverFault, HandedOver};
 pub use run_worker_pool::hand_over;

@@ -3,18 +3,15 @@
 ghost use Rattle.std.specs.Prelude.{ℕ, ◌≡◌, ◌+◌, ◌<◌, ◌≤◌, ◌^◌, ◌++◌, true, [], IfOk, OnErr, All, map, vec_len, vec_capacity};
 ghost use Rattle.crossbeam_channel.specs.Claims.{view, IsSeatAt};
 ghost use Rattle.crossbeam_channel.specs.Ends.{sends_on, receives_on, ruled_capacity};
-ghost use Rattle.hand_over.specs.ChannelInvariant.{pass_view};
+ghost use Rattle.connection_channel.specs.ChannelInvariant.{pass_view};
 ghost use Rattle.hand_over.specs.Outcome.{IsHandedOver};
 
-use crate::accepting::Unsent;
-use crate::arrivals::Arrivals;
-use crate::channel_protocol::{ChannelEnds, ChannelPass, drain};
-use crate::handler::Handler;
-use crate::load_balancing::{Doors, doors_of};
 use crate::outcome::{HandOverFault, HandedOver};
-use crate::recalling_workers::Returned;
-use crate::starting_workers::{Child, desks_of, start_all};
-use crate::worker::Desk;
+use crate::starting_workers::start_all;
+use connection_channel::{
+    Arrivals, ChannelEnds, ChannelPass, Child, Desk, Doors, Handler, Returned, Unsent, desks_of,
+    doors_of, drain,
+};
 use crossbeam_channel::bounded_with;
 use std::alloc::{AllocError, Global};
 use std::sync::Wait;

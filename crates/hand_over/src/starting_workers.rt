@@ -3,37 +3,16 @@
 ghost use Rattle.std.specs.Prelude.{ℕ, ◌≡◌, ◌+◌, ◌<◌, ◌≤◌, ◌^◌, true, false, [], IfOk, IfSome, All, map, vec_len, vec_capacity};
 ghost use Rattle.crossbeam_channel.specs.Claims.{view, IsSeatAt};
 ghost use Rattle.crossbeam_channel.specs.Ends.{sends_on, receives_on, ruled_capacity};
-ghost use Rattle.hand_over.specs.ChannelInvariant.{pass_view};
+ghost use Rattle.connection_channel.specs.ChannelInvariant.{pass_view};
 
-use crate::channel_protocol::{ChannelEnds, ChannelPass, Receiver, SplitPass};
-use crate::handler::Handler;
-use crate::load_balancing::Post;
 use crate::outcome::HandOverFault;
-use crate::worker::{Desk, Finished, Worked, work};
-use std::alloc::{AllocError, Global};
+use crate::worker::work;
+use connection_channel::{
+    ChannelEnds, ChannelPass, Child, Desk, Handler, Post, Receiver, SplitPass, Worked,
+};
 use std::snapshot::Snapshot;
 use std::sync::Wait;
-use std::thread::{PromisedHandle, Scope, Threads};
-
-pub type Child<C, H> = PromisedHandle<Finished<C, H>, Worked<C, H>>;
-
-/// A desk for each handler.
-pub fn desks_of<C, H: Handler<C> + Drop>(
-    alloc: Global,
-    handlers: Vec<H>,
-    limit: usize,
-) -> Result<Vec<Desk<H>>, AllocError>
-    requires room { All (λ h. H.handled h + limit < 2 ^ 64) handlers.items }
-    ensures handlers { IfOk result (λ desks. map (λ d. d.handler) desks.items ≡ handlers.items) }
-    ensures room { IfOk result
-        (λ desks. All (λ d. H.handled d.handler + d.limit < 2 ^ 64) desks.items) }
-{
-    let mut desks = Vec::new(alloc);
-    for handler in handlers {
-        desks.push(Desk::new(alloc, handler, limit)?)?;
-    }
-    Ok(desks)
-}
+use std::thread::Scope;
 
 /// Starts one worker, whose pass is this one.
 fn start<'s, E, C: Drop + Send + 's, H: Handler<C> + Drop + Send + 's, R: Wait + Sync>(

@@ -9,8 +9,8 @@ use Rattle.std.proofs.lemmas.List.Sums.{sum_by-cons}
 use Rattle.std.proofs.lemmas.List.{map-append, take_all, length-map}
 use Rattle.hand_over.specs.ChannelInvariant.{times, once_below}
 use Rattle.hand_over.specs.Outcome.{all_of, HandlersServed, IsHandedOver}
-use Rattle.hand_over.specs.declared.arrivals.ArrivalKind.{ArrivalKind}
-use Rattle.hand_over.specs.declared.arrivals.ArrivalKind.TheVariants.{End, Failure}
+use Rattle.connection_channel.specs.declared.arrivals.ArrivalKind.{ArrivalKind}
+use Rattle.connection_channel.specs.declared.arrivals.ArrivalKind.TheVariants.{End, Failure}
 use Rattle.hand_over.specs.declared.outcome.HandedOver.{HandedOver}
 use Rattle.set_table.specs.TableAndPassViews.{TableView, PassView, IsPassOf}
 use Rattle.table_worker.specs.WorkerAnswers.{WorkerView}

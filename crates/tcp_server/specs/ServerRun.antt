@@ -6,8 +6,8 @@ use Rattle.set_table.specs.Opening.{IsOpened, AreNewPasses}
 use Rattle.set_table.specs.ClosingAudit.{AddsUp, HaveOnePlace}
 use Rattle.set_table.specs.declared.limits.TheConstants.{MAX_RUNS}
 use Rattle.set_table.specs.TableAndPassViews.{TableView, PassView, IsPassOf}
-use Rattle.hand_over.specs.declared.arrivals.ArrivalKind.{ArrivalKind}
-use Rattle.hand_over.specs.declared.arrivals.ArrivalKind.TheVariants as arrived
+use Rattle.connection_channel.specs.declared.arrivals.ArrivalKind.{ArrivalKind}
+use Rattle.connection_channel.specs.declared.arrivals.ArrivalKind.TheVariants as arrived
 use Rattle.hand_over.specs.declared.outcome.HandOverFault.{HandOverFault}
 use Rattle.hand_over.specs.declared.outcome.HandOverFault.TheVariants as hands
 use Rattle.set_table.specs.declared.open.TableOpenFault.{TableOpenFault}

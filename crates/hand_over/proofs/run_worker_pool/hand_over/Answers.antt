@@ -1,6 +1,6 @@
 use Rattle.std.proofs.Common.{◌≡◌, ℕ, ◌≤◌, ap, sym, ◌∙◌, arith, length}
 use Rattle.std.proofs.lemmas.List.{length-map}
-use Rattle.hand_over.proofs.Steps.{begins}
+use Rattle.connection_channel.proofs.Steps.{begins}
 use Rattle.hand_over.proofs.run_worker_pool.hand_over.Goals as goal
 
 as_few : (a b top : ℕ) → a ≡ b → b ≤ top → a ≤ top

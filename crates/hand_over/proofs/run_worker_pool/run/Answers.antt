@@ -1,7 +1,7 @@
 use Rattle.std.proofs.Common.{◌≡◌, ℕ, ◌+◌, ◌-◌, ◌<◌, ◌≤◌, List, ◌++◌, ap, sym, refl, ◌∙◌, arith, rules, length}
 use Rattle.std.proofs.lemmas.List.{length-map}
-use Rattle.hand_over.specs.declared.channel_protocol.ChannelPassView.{ChannelPassView}
-use Rattle.hand_over.specs.ChannelInvariant.{times, once_below}
+use Rattle.connection_channel.specs.declared.channel_protocol.ChannelPassView.{ChannelPassView}
+use Rattle.connection_channel.specs.ChannelInvariant.{times, once_below}
 use Rattle.hand_over.specs.Outcome.{all_of}
 use Rattle.hand_over.proofs.run_worker_pool.run.Goals as goal
 

@@ -1,0 +1,2 @@
+pub mod Iterating
+pub mod Steps

@@ -1,0 +1,4 @@
+pub mod ArrivalCounts
+pub mod ChannelInvariant
+pub mod Finding
+pub mod TakenBack

@@ -1,5 +1,0 @@
-use Rattle.hand_over.proofs.Steps.{sends_stop}
-use Rattle.hand_over.proofs.channel_protocol.send_stop.Goals as goal
-
-pub send_as-requires-clause-rule : goal.send_as-requires-clause-rule
-send_as-requires-clause-rule g c = (sends_stop _ _ _, λ items views h at. tt)
