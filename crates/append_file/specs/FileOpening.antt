@@ -4,7 +4,7 @@ use Rattle.zset_core.specs.SetsByKey.{World}
 use Rattle.append_log.specs.ReloadOutcome.{IsLoaded, FaultAt}
 use Rattle.append_file.specs.declared.file_sink.FileFault.{FileFault}
 use Rattle.append_file.specs.declared.file_sink.FileFault.TheVariants.{Open, NotRegular, Locked, Lock, Cut, Sync, Folder}
-use Rattle.append_log.specs.declared.loading.Loaded.{Loaded}
+use Rattle.log_records.specs.declared.reload_outcome.Loaded.{Loaded}
 use Rattle.append_file.specs.declared.opening.OpenFault.{OpenFault}
 use Rattle.append_file.specs.declared.opening.OpenFault.TheVariants.{File, Reload, Renew}
 

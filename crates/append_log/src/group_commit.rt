@@ -4,7 +4,7 @@ ghost use Rattle.std.specs.Prelude.{◌≡◌, ℕ, ◌<◌, ◌≤◌, Some, No
 ghost use Rattle.resp_wire.specs.Device.{saturating_succ, failures_after, Rose};
 
 use crate::log::Log;
-use crate::log_sinks::{LogSink, SinkFault};
+use log_records::{LogSink, SinkFault};
 use resp_wire::Fuse;
 use std::cell::Cell;
 use std::sync::ledger::Ledger;

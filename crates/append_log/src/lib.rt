@@ -10,22 +10,15 @@
 mod group_commit;
 mod loading;
 mod log;
-mod log_sinks;
 mod logged;
-mod record;
-mod record_count_share;
-mod record_length;
-pub mod replay_laws;
 mod rewriting;
-mod thread_safe_ledger_share;
-mod version;
 
 pub use group_commit::{FuseHandle, SyncHandle, Syncer};
-pub use loading::{Loaded, ReloadFault, reload};
+pub use loading::reload;
 pub use log::Log;
-pub use log_sinks::{FuseSink, LogSink, MemorySink, NoSink, SinkFault};
+pub use log_records::{
+    FuseSink, Loaded, LogSink, MemorySink, NoSink, Record, RecordShare, ReloadFault, RewriteFault,
+    SinkFault, Version, replay_laws,
+};
 pub use logged::LoggedOwner;
-pub use record::Record;
-pub use record_count_share::RecordShare;
-pub use rewriting::{RewriteFault, rewrite};
-pub use version::Version;
+pub use rewriting::rewrite;

@@ -4,104 +4,19 @@ ghost use Rattle.std.specs.Prelude.{◌≡◌, ◌≢◌, ℕ, ◌+◌, ◌-◌,
 ghost use Rattle.std.specs.Io.KnownBytes.{prepend_known, IsAtEnd};
 ghost use Rattle.resp_wire.specs.Device.{Rose, saturating_succ};
 ghost use Rattle.zset_core.specs.SetsByKey.{World as WorldType};
-ghost use Rattle.append_log.specs.Replay.{after, after_reading, is_replayed as is_replayed_by};
-ghost use Rattle.append_log.specs.ReloadOutcome.{ReloadHolds, ReloadReads};
-ghost use Rattle.append_log.specs.ReloadSteps.{IsBetweenReads, ReloadStepped, Drained, ReadsOn, SourceFailed, IsOfBytes, UnreplayedFor, NotTakenFor, Takes};
-ghost use Rattle.append_log.specs.declared.loading.ReloadFault.TheVariants as faults;
+ghost use Rattle.log_records.specs.Replay.{after};
+ghost use Rattle.log_records.specs.ReloadOutcome.{ReloadHolds, ReloadReads};
+ghost use Rattle.log_records.specs.ReloadSteps.{IsBetweenReads, ReloadStepped, Drained, ReadsOn, SourceFailed, IsOfBytes, UnreplayedFor, NotTakenFor, Takes};
+ghost use Rattle.log_records.specs.declared.reload_outcome.ReloadFault.TheVariants as faults;
 
-use crate::record_length::text_len;
-use crate::version::{Version, is_header, names_version, number_of};
+use log_records::replaying::{Unreplayed, replay_command};
+use log_records::version::{is_header, names_version, number_of};
+use log_records::{Loaded, ReloadFault, Version, text_len};
 use resp_wire::{ByteSource, Decoder, MAX_READ_BUFFER, MAX_READS, Request, WireFault, laws};
 use sorted_sets::OneOwner;
-use std::alloc::{AllocError, Allocator};
+use std::alloc::Allocator;
 use std::hash::BuildHasher;
-use thiserror::Error;
 use zset_commands::{Command, Refusal};
-
-/// What a reload took.
-#[derive(Clone, Copy, Debug, PartialEq, Eq)]
-pub struct Loaded {
-    /// How many records were replayed. A header is none.
-    pub records: u64,
-    /// The bytes of the whole records, of the header, and of the skips between them.
-    pub whole: u64,
-    /// The bytes behind them: the torn end of one more record.
-    pub torn: u64,
-    /// The file's version, 1 or 2: 2 where the first record is the header.
-    pub version: u8,
-}
-
-/// Why a reload ended before the end of its file. What was replayed before stands.
-#[derive(Clone, Copy, Debug, PartialEq, Eq, Error)]
-pub enum ReloadFault {
-    #[error("out of memory")]
-    NoMemory,
-    /// The record that begins at this byte, counted from 0, has a byte that no record may have at
-    /// its place.
-    #[error("the append file is damaged at byte {0}")]
-    Damaged(u64),
-    #[error("the append file can't be read")]
-    ReadFault,
-    /// The record that begins at this byte, counted from 0, is no command that changes sets, or is
-    /// refused; or in a file of version 2 it is a ZADD with an option.
-    #[error("the append file has no command at byte {0}")]
-    NotACommand(u64),
-    #[error("the append file was read as often as allowed")]
-    TooManyReads,
-    /// The first record names a version other than 2. Nothing was replayed.
-    #[error("the append file is of an unknown version")]
-    UnknownVersion,
-}
-
-impl From<AllocError> for ReloadFault {
-    ghost from_gives = { λ _ fault. fault ≡ faults.NoMemory };
-
-    fn from(_error: AllocError) -> ReloadFault {
-        ReloadFault::NoMemory
-    }
-}
-
-/// Why a record is not replayed.
-#[derive(Clone, Copy, Debug, PartialEq, Eq)]
-pub(crate) enum Unreplayed {
-    NoMemory,
-    NotACommand,
-    UnknownVersion,
-}
-
-/// Whether a command is replayed in a file of this version.
-fn is_replayed<A: Allocator>(version: Version, command: &Command<A>) -> bool
-    ensures { result ≡ is_replayed_by version command.now.meaning }
-{
-    match version {
-        Version::Commands => command.writes(),
-        Version::Effects => command.writes() && !command.has_options(),
-    }
-}
-
-/// Replays the command of a record. All sets stay where it is not replayed.
-fn replay_command<H: BuildHasher + Clone + Drop, A: Allocator + Copy>(
-    owner: &mut OneOwner<H, A>,
-    version: Version,
-    command: &Command<A>,
-) -> Result<(), Unreplayed>
-    requires idle { owner.old.next ≡ None }
-    ensures idle { owner.new.next ≡ None }
-    ensures ok { OnOk result
-        (after_reading version owner.old.world (Ok command.now.meaning) ≡ Some owner.new.world) }
-    ensures err { OnErr result (owner.new.world ≡ owner.old.world) }
-    ensures cause { IfErr result
-        (λ cause. UnreplayedFor cause (after_reading version owner.old.world (Ok command.now.meaning))) }
-{
-    if !is_replayed(version, command) {
-        return Err(Unreplayed::NotACommand);
-    }
-    match owner.run(command) {
-        Ok(_) => Ok(()),
-        Err(Refusal::NoMemory) => Err(Unreplayed::NoMemory),
-        Err(_) => Err(Unreplayed::NotACommand),
-    }
-}
 
 /// Replays one record. All sets stay where it is not replayed.
 fn replay_one<H: BuildHasher + Clone + Drop, A: Allocator + Copy>(

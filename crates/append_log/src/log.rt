@@ -2,11 +2,10 @@
 
 ghost use Rattle.std.specs.Prelude.{◌≡◌, ◌≢◌, ℕ, ◌+◌, ◌≤◌, ◌^◌, ◌↔◌, length, true, false, OnOk, IfErr, IfSome, IsTrue};
 ghost use Rattle.resp_wire.specs.RequestEncoding.{request};
-ghost use Rattle.append_log.specs.LogViewAndSteps.{Appends, HasRecords, IsLog, NotAppended, NotSettled, Readable, Settles, WroteOut, empty_log, settled_with, share_after, records_after};
+ghost use Rattle.log_records.specs.LogViewAndSteps.{Appends, HasRecords, IsLog, NotAppended, NotSettled, Readable, Settles, WroteOut, empty_log, settled_with, share_after, records_after};
 
-use crate::log_sinks::LogSink;
-use crate::record::Record;
-use crate::record_count_share::RecordShare;
+use log_records::writing_out::put;
+use log_records::{LogSink, Record, RecordShare};
 use resp_wire::laws;
 use std::alloc::Allocator;
 use std::marker::Model;
@@ -31,7 +30,7 @@ pub struct Log<S: LogSink, L: Ledger> {
 
 impl<S: LogSink, L: Ledger> Model for Log<S, L> {
     ghost use Rattle.std.specs.Prelude.{◌≡◌};
-    ghost use Rattle.append_log.specs.LogViewAndSteps.{LogView, IsLog};
+    ghost use Rattle.log_records.specs.LogViewAndSteps.{LogView, IsLog};
 
     ghost Value = { LogView };
 
@@ -62,53 +61,6 @@ impl<S: LogSink, L: Ledger> Model for Log<S, L> {
       broken = a.broken;
       parts = a.rest.parts;
     }) × (a.book.total ≡ a.appended) };
-}
-
-/// How far a piece came into a sink.
-#[derive(Clone, Copy, Debug, PartialEq, Eq)]
-pub(crate) struct Out {
-    /// The bytes that the sink took.
-    pub(crate) taken: usize,
-    /// Whether all went well.
-    pub(crate) whole: bool,
-}
-
-/// Writes until all is out, or the sink fails.
-pub(crate) fn write_out<S: LogSink>(sink: &mut S, bytes: &[u8]) -> Out
-    ensures out { WroteOut (S.told sink.old) (S.told sink.new) (S.failures sink.old)
-        (S.failures sink.new) bytes.now result }
-    ensures synced { S.synced sink.new ≡ S.synced sink.old }
-{
-    let mut taken = 0;
-    while taken < bytes.len() {
-        match sink.write(&bytes[taken..]) {
-            Ok(count) => taken += count,
-            Err(_) => return Out {
-                taken,
-                whole: false,
-            },
-        }
-    }
-    Out { taken, whole: true }
-}
-
-/// Writes all, and then syncs, unless that is deferred.
-fn put<S: LogSink>(sink: &mut S, bytes: &[u8], deferred: bool) -> Out
-    ensures out { WroteOut (S.told sink.old) (S.told sink.new) (S.failures sink.old)
-        (S.failures sink.new) bytes.now result }
-    ensures synced { result.whole ≡ true → deferred ≡ false
-        → IfSome (S.told sink.new) (λ all. S.synced sink.new ≡ length all) }
-    ensures unsynced { deferred ≡ true → S.synced sink.new ≡ S.synced sink.old }
-    ensures not_synced { result.whole ≡ false → S.synced sink.new ≡ S.synced sink.old }
-{
-    let out = write_out(sink, bytes);
-    if !deferred && out.whole && sink.sync().is_err() {
-        return Out {
-            taken: out.taken,
-            whole: false,
-        };
-    }
-    out
 }
 
 /// How many records are settled once one more was appended.

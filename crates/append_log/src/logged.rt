@@ -6,16 +6,14 @@ ghost use Rattle.resp_wire.specs.RequestEncoding.{request};
 ghost use Rattle.zset_commands.specs.AbstractCommand.{is_writing, key_of};
 ghost use Rattle.sorted_sets.specs.SetAndOwnerViews.{IsPreparedAt, IsPreparedFor};
 ghost use Rattle.zset_core.specs.SetsByKey.{World as WorldType, put_set, set_at};
-ghost use Rattle.append_log.specs.EffectRecords.{next_record, prepared_record};
-ghost use Rattle.append_log.specs.LogViewAndSteps.{LogView, Appends, HasRecords, NotSettled, Settles, records_after, share_after};
-ghost use Rattle.append_log.specs.Replay.{after};
-ghost use Rattle.append_log.specs.declared.version.Version.TheVariants.{Effects};
-ghost use Rattle.append_log.specs.LoggedOwnerViewAndRuns.{LoggedView, AreSame, Replays, NotRecorded, Ran, Refused};
+ghost use Rattle.log_records.specs.EffectRecords.{next_record, prepared_record};
+ghost use Rattle.log_records.specs.LogViewAndSteps.{LogView, Appends, HasRecords, NotSettled, Settles, records_after, share_after};
+ghost use Rattle.log_records.specs.Replay.{after};
+ghost use Rattle.log_records.specs.declared.version.Version.TheVariants.{Effects};
+ghost use Rattle.log_records.specs.LoggedOwnerViewAndRuns.{LoggedView, AreSame, Replays, NotRecorded, Ran, Refused};
 
 use crate::log::Log;
-use crate::log_sinks::LogSink;
-use crate::record::Record;
-use crate::record_count_share::RecordShare;
+use log_records::{LogSink, Record, RecordShare};
 use resp_wire::Reply;
 use sorted_sets::{OneOwner, ZSet};
 use std::alloc::Allocator;
@@ -156,7 +154,7 @@ pub struct LoggedOwner<H: BuildHasher, S: LogSink, L: Ledger, A: Allocator + Cop
 }
 
 impl<H: BuildHasher, S: LogSink, L: Ledger, A: Allocator + Copy> Model for LoggedOwner<H, S, L, A> {
-    ghost use Rattle.append_log.specs.LoggedOwnerViewAndRuns.{LoggedView};
+    ghost use Rattle.log_records.specs.LoggedOwnerViewAndRuns.{LoggedView};
 
     ghost Value = { LoggedView };
 

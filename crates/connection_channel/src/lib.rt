@@ -9,6 +9,7 @@
 mod accepting;
 mod arrivals;
 mod channel_protocol;
+mod crew;
 mod desks;
 mod handler;
 mod load_balancing;
@@ -22,9 +23,10 @@ pub use channel_protocol::{
     ChannelEnds, ChannelPass, ChannelPassView, Found, Message, Numbered, Receiver, Sender,
     SplitPass, drain,
 };
-pub use desks::{Desk, desks_of};
+pub use crew::{Crew, crew_of, rooms};
+pub use desks::Desk;
 pub use handler::{Bell, Handler};
-pub use load_balancing::{Doors, Post, doors_of};
+pub use load_balancing::{Doors, Post};
 pub use promise::{Child, Finished, Worked};
 pub use recalling_workers::Returned;
 pub use worker_steps::{finish, next_message};

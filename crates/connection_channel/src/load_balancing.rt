@@ -50,7 +50,7 @@ pub struct Doors<B> {
 }
 
 /// A door for each handler.
-pub fn doors_of<C, H: Handler<C> + Drop>(
+pub(crate) fn doors_of<C, H: Handler<C> + Drop>(
     alloc: Global,
     handlers: &Vec<H>,
 ) -> Result<Doors<H::Bell>, AllocError> {
@@ -67,7 +67,7 @@ pub fn doors_of<C, H: Handler<C> + Drop>(
 
 impl<B> Doors<B> {
     /// Has the worker that holds the fewest connections take the message that is about to be sent.
-    pub fn expect_least(&self) {
+    pub(crate) fn expect_least(&self) {
         let mut best = None;
         let mut fewest = u64::MAX;
         for door in self.doors.iter() {
@@ -83,7 +83,7 @@ impl<B> Doors<B> {
     }
 
     /// Has each worker take a message that is about to be sent.
-    pub fn expect_each(&self) {
+    pub(crate) fn expect_each(&self) {
         for door in self.doors.iter() {
             door.expect();
         }
@@ -102,7 +102,7 @@ impl<B> Doors<B> {
 impl<B: Bell> Doors<B> {
     /// Wakes each worker that is to take a message, once one was sent. One that was woken before, looked into the channel
     /// in vain and rests is woken too: another worker may have taken its message, and then this one is its own.
-    pub fn ring_due(&self) {
+    pub(crate) fn ring_due(&self) {
         for door in self.doors.iter() {
             if door.is_due() {
                 if let Some(bell) = &door.bell {
@@ -126,7 +126,7 @@ impl<'d, B> Post<'d, B> {
     }
 
     /// Whether the worker is to look into the channel.
-    pub fn is_due(&self) -> bool {
+    pub(crate) fn is_due(&self) -> bool {
         match self.door() {
             Some(door) => door.is_due(),
             None => false,
@@ -134,7 +134,7 @@ impl<'d, B> Post<'d, B> {
     }
 
     /// Tells how many connections the worker holds.
-    pub fn tell_live(&self, live: usize) {
+    pub(crate) fn tell_live(&self, live: usize) {
         if let Some(door) = self.door() {
             let live = live as u64;
             // Where all is as it was, no other thread has to hear of it.

@@ -9,44 +9,16 @@ ghost use Rattle.hand_over.specs.Outcome.{IsHandedOver};
 use crate::outcome::{HandOverFault, HandedOver};
 use crate::starting_workers::start_all;
 use connection_channel::{
-    Arrivals, ChannelEnds, ChannelPass, Child, Desk, Doors, Handler, Returned, Unsent, desks_of,
-    doors_of, drain,
+    Arrivals, ChannelEnds, ChannelPass, Crew, Handler, crew_of, drain, rooms,
 };
 use crossbeam_channel::bounded_with;
-use std::alloc::{AllocError, Global};
+use std::alloc::Global;
 use std::sync::Wait;
 use std::thread;
 use std::thread::{Scope, Threads};
 
 /// How many messages wait in the channel at most.
 const WAITING: usize = 16;
-
-/// Workers that have not begun, and how many connections they are to handle at most.
-#[derive(Drop)]
-struct Crew<H> {
-    alloc: Global,
-    desks: Vec<Desk<H>>,
-    limit: u64,
-}
-
-/// The lists that are filled while workers run, each with its room: for so many workers, and for
-/// `limit` numbers.
-fn rooms<C: Drop + Send, H: Handler<C> + Drop + Send>(
-    alloc: Global,
-    workers: usize,
-    limit: u64,
-) -> Result<(Vec<Child<C, H>>, Returned<H>, Unsent), AllocError>
-    ensures children { IfOk result (λ r. (r.0.items ≡ []) × (workers ≤ vec_capacity r.0)) }
-    ensures returned { IfOk result (λ r. (r.1.handlers.items ≡ []) × (r.1.taken.items ≡ [])
-        × (workers ≤ vec_capacity r.1.handlers) × (workers ≤ vec_capacity r.1.taken)) }
-    ensures unsent { IfOk result (λ r. (r.2.numbers.items ≡ [])
-        × (limit ≤ vec_capacity r.2.numbers)) }
-{
-    let children = Vec::with_capacity(alloc, workers)?;
-    let returned = Returned::with_room(alloc, workers)?;
-    let unsent = Unsent::with_room(alloc, limit)?;
-    Ok((children, returned, unsent))
-}
 
 /// Accepts connections while workers handle them. All lists have their room before the first worker
 /// starts, so that nothing is refused while one waits for its stop message.
@@ -141,30 +113,6 @@ where
             (arrivals, given)
         },
     )
-}
-
-/// A crew of these handlers, and the doors to them.
-fn crew_of<C: Drop, H: Handler<C> + Drop>(
-    alloc: Global,
-    handlers: Vec<H>,
-    limit: u64,
-) -> Result<(Doors<H::Bell>, Crew<H>), AllocError>
-    requires room { All (λ handler. H.handled handler + limit < 2 ^ 64) handlers.items }
-    ensures handlers { IfOk result (λ r. map (λ d. d.handler) r.1.desks.items ≡ handlers.items) }
-    ensures limit { IfOk result (λ r. r.1.limit ≡ limit) }
-    ensures room { IfOk result
-        (λ r. All (λ d. H.handled d.handler + d.limit < 2 ^ 64) r.1.desks.items) }
-{
-    let doors = doors_of(alloc, &handlers)?;
-    let desks = desks_of(alloc, handlers, limit as usize)?;
-    Ok((
-        doors,
-        Crew {
-            alloc,
-            desks,
-            limit,
-        },
-    ))
 }
 
 /// Ends a borrow.

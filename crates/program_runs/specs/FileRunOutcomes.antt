@@ -8,12 +8,12 @@ use Rattle.append_log.specs.Dump.{dump}
 use Rattle.append_file.specs.FileOpening.{Opens, OpenFails}
 use Rattle.append_log.specs.LoggedOwnerViewAndRuns.{LoggedView}
 use Rattle.append_file.specs.declared.file_sink.FileFault.TheVariants as files
-use Rattle.append_log.specs.declared.loading.Loaded.{Loaded}
-use Rattle.append_log.specs.declared.loading.ReloadFault.{ReloadFault}
-use Rattle.append_log.specs.declared.loading.ReloadFault.TheVariants as faults
+use Rattle.log_records.specs.declared.reload_outcome.Loaded.{Loaded}
+use Rattle.log_records.specs.declared.reload_outcome.ReloadFault.{ReloadFault}
+use Rattle.log_records.specs.declared.reload_outcome.ReloadFault.TheVariants as faults
 use Rattle.append_file.specs.declared.opening.OpenFault.{OpenFault}
 use Rattle.append_file.specs.declared.opening.OpenFault.TheVariants as opens
-use Rattle.append_log.specs.declared.rewriting.RewriteFault.TheVariants as rewrites
+use Rattle.log_records.specs.declared.dumping.RewriteFault.TheVariants as rewrites
 use Rattle.append_file.specs.declared.new_file.NewFileFault.{NewFileFault}
 use Rattle.append_file.specs.declared.new_file.NewFileFault.TheVariants as new_file_faults
 use Rattle.resp_wire.specs.Response.{Response}

@@ -17,9 +17,9 @@ use Rattle.std.specs.declared.alloc.Allocator as alloc
 use Rattle.std.specs.declared.hash.BuildHasher as builder
 use Rattle.std.specs.declared.hash.Hasher as hasher
 use Rattle.std.specs.declared.sync.ledger.Ledger as ledger
-use Rattle.append_log.specs.declared.log_sinks.LogSink as sink
+use Rattle.log_records.specs.declared.log_sinks.LogSink as sink
 use Rattle.append_log.proofs.log.Log.TheSendSync as log
-use Rattle.append_log.proofs.record_count_share.RecordShare.TheSendSync as share
+use Rattle.log_records.proofs.record_count_share.RecordShare.TheSendSync as share
 use Rattle.sorted_sets.proofs.CallerLemmas.{set_send, set_sync}
 use Rattle.set_table.specs.contracts.cell.Cell as Cell
 use Rattle.set_table.specs.contracts.cell.Cell.TheInside as CellFields

@@ -14,7 +14,7 @@ use Rattle.std.specs.contracts.impls.GlobalAllocator.TheImpl as blocks
 use Rattle.std.specs.declared.sync.ledger.Ledger as ledger
 use Rattle.byte_devices.specs.declared.device.ByteSource as source
 use Rattle.byte_devices.specs.declared.device.ByteDrain as drain
-use Rattle.append_log.specs.declared.log_sinks.LogSink as sink
+use Rattle.log_records.specs.declared.log_sinks.LogSink as sink
 use Rattle.std.specs.contracts.sync.Mutex as Mutex
 use Rattle.std.proofs.sync.Mutex.TheSendSync as mutex
 use Rattle.append_log.specs.contracts.group_commit.Syncer as Syncer

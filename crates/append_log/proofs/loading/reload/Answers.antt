@@ -1,8 +1,8 @@
 use Rattle.std.proofs.Common.{◌≡◌, ◌++◌, length, drop, refl, sym, ◌∙◌, ap, arith, length-append}
 use Rattle.std.proofs.lemmas.List.{length-take-le}
 use Rattle.resp_wire.proofs.CallerLemmas.{err_is}
-use Rattle.append_log.proofs.ReloadFaults.{handed_late}
-use Rattle.append_log.proofs.ReloadProgress.{unread, begins, too_many, reads_on, loads, fails}
+use Rattle.log_records.proofs.ReloadFaults.{handed_late}
+use Rattle.log_records.proofs.ReloadProgress.{unread, begins, too_many, reads_on, loads, fails}
 use Rattle.append_log.proofs.loading.reload.Goals as goal
 
 pub returns-in_err-piece-clause-read : goal.returns-in_err-piece-clause-read

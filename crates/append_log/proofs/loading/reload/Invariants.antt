@@ -1,6 +1,6 @@
 use Rattle.std.proofs.Common.{◌≡◌, ◌+◌, ◌-◌, ◌*◌, ◌^◌, ◌≤◌, length, None}
 use Rattle.std.specs.Prelude.{min}
-use Rattle.append_log.specs.ReloadSteps.{IsBetweenReads, Underway}
+use Rattle.log_records.specs.ReloadSteps.{IsBetweenReads, Underway}
 use Rattle.append_log.proofs.loading.reload.Given as goal
 
 abbrev pub invariant-reads : goal.invariant-reads

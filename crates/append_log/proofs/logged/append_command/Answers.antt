@@ -3,7 +3,7 @@ use Rattle.std.specs.Prelude.{◌≢◌}
 use Rattle.zset_core.specs.SortedSet.{Members}
 use Rattle.sorted_sets.specs.SetAndOwnerViews.{IsPreparedAt, Next}
 use Rattle.zset_core.specs.SetsByKey.{set_at}
-use Rattle.append_log.proofs.PreparedRecords.{no_set_prepared, set_prepared}
+use Rattle.log_records.proofs.PreparedRecords.{no_set_prepared, set_prepared}
 use Rattle.append_log.proofs.logged.append_command.Goals as goal
 
 pub append_prepared-requires-clause-prepared : goal.append_prepared-requires-clause-prepared

@@ -1,7 +1,7 @@
 use Rattle.std.proofs.Common.{refl, sym, ap}
 use Rattle.zset_core.specs.SetsByKey.{set_at}
 use Rattle.resp_wire.specs.Response.{response_of}
-use Rattle.append_log.proofs.LoggedOwnerLemmas.{reading-stays, Replays-stay}
+use Rattle.log_records.proofs.LoggedOwnerLemmas.{reading-stays, Replays-stay}
 use Rattle.append_log.proofs.logged.run_reading.Goals as goal
 
 pub returns-in-Ok-clause-same : goal.returns-in-Ok-clause-same

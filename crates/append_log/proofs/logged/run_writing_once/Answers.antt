@@ -5,15 +5,15 @@ use Rattle.sorted_sets.specs.SetAndOwnerViews.{IsPreparedAt, Next}
 use Rattle.zset_core.specs.SetsByKey.{World, put_set, set_at}
 use Rattle.resp_wire.specs.RequestEncoding.{request}
 use Rattle.resp_wire.specs.Response.{response_of}
-use Rattle.append_log.specs.EffectRecords.{change_record, prepared_record, record_made, record_of_owner_next}
-use Rattle.append_log.specs.LogViewAndSteps.{Appends}
-use Rattle.append_log.specs.LoggedOwnerViewAndRuns.{NotRecorded}
-use Rattle.append_log.specs.Records.{Record}
-use Rattle.append_log.specs.Replay.{after}
-use Rattle.append_log.specs.declared.version.Version.TheVariants.{Effects}
-use Rattle.append_log.proofs.SameWorlds.{act-ready}
-use Rattle.append_log.proofs.PreparedRecords.{prepared_some, record_made_is}
-use Rattle.append_log.proofs.LoggedOwnerLemmas.{committed, changes-next, changes-ready, not_run, Replays-push, Replays-stay}
+use Rattle.log_records.specs.EffectRecords.{change_record, prepared_record, record_made, record_of_owner_next}
+use Rattle.log_records.specs.LogViewAndSteps.{Appends}
+use Rattle.log_records.specs.LoggedOwnerViewAndRuns.{NotRecorded}
+use Rattle.log_records.specs.Records.{Record}
+use Rattle.log_records.specs.Replay.{after}
+use Rattle.log_records.specs.declared.version.Version.TheVariants.{Effects}
+use Rattle.log_records.proofs.SameWorlds.{act-ready}
+use Rattle.log_records.proofs.PreparedRecords.{prepared_some, record_made_is}
+use Rattle.log_records.proofs.LoggedOwnerLemmas.{committed, changes-next, changes-ready, not_run, Replays-push, Replays-stay}
 use Rattle.append_log.proofs.logged.run_writing_once.Goals as goal
 use Rattle.append_log.proofs.logged.run_writing_once.Goals.{then-outline+in_default, else-outline}
 

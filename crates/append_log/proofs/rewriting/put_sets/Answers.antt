@@ -3,9 +3,9 @@ use Rattle.std.specs.Option.{option_copied}
 use Rattle.std.specs.FinMap as fin
 use Rattle.std.proofs.lemmas.Result.{err_from_is_err_and}
 use Rattle.zset_core.specs.SetsByKey.{set_at}
-use Rattle.append_log.specs.Dump.{set_records, records_at}
-use Rattle.append_log.proofs.DumpPrefix.{front_of_image, front_in_set, cut_behind, told_set, records_more, all_keys}
-use Rattle.append_log.proofs.KeyWalk.{left_from, left_is, next_key, there_is, headed, ended, shorter}
+use Rattle.log_records.specs.Dump.{set_records, records_at}
+use Rattle.log_records.proofs.DumpPrefix.{front_of_image, front_in_set, cut_behind, told_set, records_more, all_keys}
+use Rattle.log_records.proofs.KeyWalk.{left_from, left_is, next_key, there_is, headed, ended, shorter}
 use Rattle.append_log.proofs.rewriting.put_sets.Goals as goal
 
 pub keys-init : goal.keys-init

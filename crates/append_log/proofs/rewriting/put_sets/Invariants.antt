@@ -2,9 +2,9 @@ use Rattle.std.proofs.Common.{◌≡◌, ℕ, ◌-◌, ◌^◌, List, ◌++◌, 
 use Rattle.std.specs.Option.{option_copied}
 use Rattle.std.specs.FinMap as fin
 use Rattle.std.specs.Io.KnownBytes.{append_known}
-use Rattle.append_log.specs.Dump.{records_at}
-use Rattle.append_log.specs.Records.{text_of_records}
-use Rattle.append_log.proofs.KeyWalk.{left_from}
+use Rattle.log_records.specs.Dump.{records_at}
+use Rattle.log_records.specs.Records.{text_of_records}
+use Rattle.log_records.proofs.KeyWalk.{left_from}
 use Rattle.append_log.proofs.rewriting.put_sets.Given as goal
 
 abbrev pub invariant-keys : goal.invariant-keys

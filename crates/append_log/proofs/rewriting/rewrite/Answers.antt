@@ -1,10 +1,10 @@
 use Rattle.std.proofs.lemmas.Result.{err_from_is_err_and}
 use Rattle.resp_wire.specs.RequestEncoding.{request}
-use Rattle.append_log.specs.Dump.{dump}
-use Rattle.append_log.specs.Records.{text_of_records}
-use Rattle.append_log.specs.Replay.{header}
-use Rattle.append_log.proofs.DumpRequests.{header_text}
-use Rattle.append_log.proofs.RecordPieces.{front_first, written_behind}
+use Rattle.log_records.specs.Dump.{dump}
+use Rattle.log_records.specs.Records.{text_of_records}
+use Rattle.log_records.specs.Replay.{header}
+use Rattle.log_records.proofs.DumpRequests.{header_text}
+use Rattle.log_records.proofs.RecordPieces.{front_first, written_behind}
 use Rattle.append_log.proofs.rewriting.rewrite.Goals as goal
 
 pub returns-in_err-put_bytes-clause-written : goal.returns-in_err-put_bytes-clause-written

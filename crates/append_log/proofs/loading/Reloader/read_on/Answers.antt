@@ -1,5 +1,5 @@
 use Rattle.std.proofs.Common.{take}
-use Rattle.append_log.proofs.ReloadFaults.{of_bytes, not_late}
+use Rattle.log_records.proofs.ReloadFaults.{of_bytes, not_late}
 use Rattle.append_log.proofs.loading.Reloader.read_on.Goals as goal
 
 pub returns-in_err-take_piece-in-Ok-clause-failures : goal.returns-in_err-take_piece-in-Ok-clause-failures

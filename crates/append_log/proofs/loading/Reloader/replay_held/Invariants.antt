@@ -1,7 +1,7 @@
 use Rattle.std.proofs.Common.{◌≡◌, ℕ, ◌+◌, List, length, None}
 use Rattle.zset_core.specs.SetsByKey.{World}
-use Rattle.append_log.specs.ReloadOutcome.{ReloadHolds}
-use Rattle.append_log.specs.ReloadSteps.{IsBetweenReads}
+use Rattle.log_records.specs.ReloadOutcome.{ReloadHolds}
+use Rattle.log_records.specs.ReloadSteps.{IsBetweenReads}
 use Rattle.append_log.proofs.loading.Reloader.replay_held.Given as goal
 
 abbrev pub invariant-records : goal.invariant-records

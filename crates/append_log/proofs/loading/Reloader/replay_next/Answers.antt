@@ -1,5 +1,5 @@
 use Rattle.resp_wire.proofs.CallerLemmas.{gave_at, waits_at, stops_at}
-use Rattle.append_log.proofs.HeldReplay.{waits, gave_taken, damaged, gives, no_command, unknown}
+use Rattle.log_records.proofs.HeldReplay.{waits, gave_taken, damaged, gives, no_command, unknown}
 use Rattle.append_log.proofs.loading.Reloader.replay_next.Goals as goal
 
 pub returns-in-Err-Protocol-clause-stepped : goal.returns-in-Err-Protocol-clause-stepped

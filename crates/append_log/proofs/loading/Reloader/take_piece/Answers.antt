@@ -1,5 +1,5 @@
 use Rattle.resp_wire.proofs.CallerLemmas.{err_is}
-use Rattle.append_log.proofs.HeldReplay.{no_room}
+use Rattle.log_records.proofs.HeldReplay.{no_room}
 use Rattle.append_log.proofs.loading.Reloader.take_piece.Goals as goal
 
 pub returns-in_err-feed-clause-drained : goal.returns-in_err-feed-clause-drained

@@ -2,8 +2,8 @@ use Rattle.std.proofs.Common.{◌≡◌, rules, refl, ◌∙◌, ap, arith, leng
 use Rattle.std.proofs.lemmas.List.{take_all}
 use Rattle.std.specs.Io.KnownBytes.{append_known}
 use Rattle.resp_wire.specs.RequestEncoding.{request}
-use Rattle.append_log.specs.LogViewAndSteps.{LogView}
-use Rattle.append_log.proofs.LogInvariant.{is_log_appends, is_log_breaks, has_appends, has_breaks}
+use Rattle.log_records.specs.LogViewAndSteps.{LogView}
+use Rattle.log_records.proofs.LogInvariant.{is_log_appends, is_log_breaks, has_appends, has_breaks}
 use Rattle.append_log.proofs.log.Log.append.Goals as goal
 
 pub rise-requires : goal.rise-requires

@@ -1,4 +1,4 @@
-use Rattle.append_log.proofs.LogInvariant.{is_log_broken_off}
+use Rattle.log_records.proofs.LogInvariant.{is_log_broken_off}
 use Rattle.append_log.proofs.log.Log.break_off.Goals as goal
 
 pub invariant_of-self : goal.invariant_of-self

@@ -1,6 +1,6 @@
 use Rattle.std.proofs.Common.{ap, ◌∙◌}
-use Rattle.append_log.specs.LogViewAndSteps.{LogView}
-use Rattle.append_log.proofs.LogInvariant.{is_log_new}
+use Rattle.log_records.specs.LogViewAndSteps.{LogView}
+use Rattle.log_records.proofs.LogInvariant.{is_log_new}
 use Rattle.append_log.proofs.log.Log.deferred.Goals as goal
 
 pub invariant_of-log : goal.invariant_of-log

@@ -1,4 +1,4 @@
-use Rattle.append_log.proofs.PrefixReload.{readable_told}
+use Rattle.log_records.proofs.PrefixReload.{readable_told}
 use Rattle.append_log.proofs.log.Log.into_sink.Goals as goal
 
 pub returns-clause-prefixes : goal.returns-clause-prefixes

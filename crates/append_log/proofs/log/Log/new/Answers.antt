@@ -1,5 +1,5 @@
 use Rattle.std.proofs.Common.{refl, arith}
-use Rattle.append_log.proofs.LogInvariant.{is_log_new}
+use Rattle.log_records.proofs.LogInvariant.{is_log_new}
 use Rattle.append_log.proofs.log.Log.new.Goals as goal
 
 pub invariant_of-result : goal.invariant_of-result

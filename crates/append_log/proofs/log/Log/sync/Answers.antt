@@ -1,6 +1,6 @@
 use Rattle.std.proofs.Common.{◌≡◌, refl, rules, true}
-use Rattle.append_log.specs.LogViewAndSteps.{LogView}
-use Rattle.append_log.proofs.LogInvariant.{is_log_unsettled, has_unsettled}
+use Rattle.log_records.specs.LogViewAndSteps.{LogView}
+use Rattle.log_records.proofs.LogInvariant.{is_log_unsettled, has_unsettled}
 use Rattle.append_log.proofs.log.Log.sync.Goals as goal
 
 pub invariant_of-self : goal.invariant_of-self

@@ -1,5 +1,5 @@
 use Rattle.std.proofs.Common.{ap, ◌∙◌}
-use Rattle.append_log.proofs.LoggedOwnerLemmas.{Replays-fresh}
+use Rattle.log_records.proofs.LoggedOwnerLemmas.{Replays-fresh}
 use Rattle.append_log.proofs.logged.LoggedOwner.new.Goals as goal
 
 pub returns-clause-replays : goal.returns-clause-replays

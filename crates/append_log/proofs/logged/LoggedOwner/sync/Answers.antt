@@ -1,6 +1,6 @@
 use Rattle.std.proofs.Common.{refl, sym, subst}
-use Rattle.append_log.specs.LoggedOwnerViewAndRuns.{LoggedView, Replays}
-use Rattle.append_log.proofs.LoggedOwnerLemmas.{Replays-stay}
+use Rattle.log_records.specs.LoggedOwnerViewAndRuns.{LoggedView, Replays}
+use Rattle.log_records.proofs.LoggedOwnerLemmas.{Replays-stay}
 use Rattle.append_log.proofs.logged.LoggedOwner.sync.Goals as goal
 
 pub returns-clause-replays : goal.returns-clause-replays

@@ -1,8 +1,0 @@
-use denote.RattleType.{RattleType}
-use denote.Param.Send.{IsSync}
-use Rattle.std.specs.declared.sync.ledger.Ledger.{Ghosts}
-use Rattle.append_log.specs.contracts.thread_safe_ledger_share.LedgerShare.{the_row}
-use Rattle.append_log.proofs.LedgerShareSend.{ledger_share_sync}
-
-pub sync : (L : RattleType) (g : Ghosts L.Denot) → IsSync (the_row L g)
-sync = ledger_share_sync

@@ -1,0 +1,25 @@
+pub mod RecordTexts
+pub mod LogInvariant
+pub mod AppendRefusals
+pub mod PrefixReload
+pub mod ReplayLemmas
+pub mod ReloadFaults
+pub mod HeldReplay
+pub mod ReloadProgress
+pub mod SameWorlds
+pub mod OutlineLemmas
+pub mod PreparedRecords
+pub mod LoggedOwnerLemmas
+pub mod RecordPieces
+pub mod DumpPrefix
+pub mod WholeListing
+pub mod SetUnion
+pub mod AddRecord
+pub mod DumpReplay
+pub mod DumpRequests
+pub mod KeyWalk
+pub mod EffectReplay
+pub mod EffectArguments
+pub mod EntryTexts
+pub mod RecordedEffects
+mod LedgerShareSend

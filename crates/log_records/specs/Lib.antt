@@ -1,0 +1,11 @@
+pub mod Records
+pub mod Replay
+pub mod SyncedBytes
+pub mod LedgerShareView
+pub mod LogViewAndSteps
+pub mod ReloadOutcome
+pub mod ReloadSteps
+pub mod LoggedOwnerViewAndRuns
+pub mod Dump
+pub mod EffectRecords
+pub mod RewriteOutcome
