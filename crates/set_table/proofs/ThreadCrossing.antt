@@ -30,7 +30,7 @@ use Rattle.zset_commands.specs.contracts.command.Command as Command
 use Rattle.set_table.specs.contracts.worker_pass.Pass as Pass
 use Rattle.set_table.proofs.worker_pass.Pass.TheSendSync as pass
 use Rattle.set_table.proofs.member_change_counts.Tally.TheSendSync as tally
-use Rattle.set_table.proofs.naming.names.Names.TheSendSync as names
+use Rattle.place_names.proofs.names_set_once.Names.TheSendSync as names
 
 word_send : IsSend u64
 word_send = search sendable

@@ -1,10 +1,7 @@
 pub mod PassTallies
 pub mod LoggedStep
 pub mod CellViewAndRuns
-pub mod Naming
-pub mod LookupCaches
+pub use Rattle.place_names.specs.Naming
+pub mod Claiming
 pub mod TableAndPassViews
 pub mod TableAnswers
-pub mod Opening
-pub mod ClosingAudit
-pub mod ClosingSteps

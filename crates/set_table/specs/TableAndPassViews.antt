@@ -2,7 +2,7 @@
 use Rattle.std.specs.Prelude.{◌≡◌, ℕ, ◌≤◌, ◌<◌, ◌⊎◌, List, length, false}
 use Rattle.std.proofs.Math.ListN.{get_or, set}
 use Rattle.zset_commands.specs.AbstractCommand.{Asked, is_writing}
-use Rattle.set_table.specs.Naming.{NotesView, AreNotesOf}
+use Rattle.place_names.specs.Naming.{NotesView, AreNotesOf}
 use Rattle.set_table.specs.PassTallies.{ShareView, share_after_run, empty_tally, no_counts}
 use Rattle.set_table.specs.LoggedStep.{AnswerView, IsLawful}
 

@@ -7,7 +7,7 @@ use Rattle.zset_core.specs.Semantics.{step}
 use Rattle.zset_core.specs.SortedSet.{Members}
 use Rattle.zset_commands.specs.declared.refusal.Refusal.{Refusal}
 use Rattle.zset_commands.specs.declared.refusal.Refusal.TheVariants.{NoMemory, TableFull, ScoreOverflow, LogBroken, LogFull, LogRefused, Spent, OutOfStep}
-use Rattle.set_table.specs.Naming.{IsPlace, IsFull}
+use Rattle.place_names.specs.Naming.{IsPlace, IsFull}
 use Rattle.set_table.specs.PassTallies.{ShareView}
 use Rattle.set_table.specs.LoggedStep.{AnswerView}
 use Rattle.set_table.specs.TableAndPassViews.{TableView, PassView, IsPassOf, WasAnswered}

@@ -23,6 +23,7 @@ use crate::limits::MAX_RUNS;
 use crate::member_change_counts::{Counts, OwnCounts, Tally};
 use crate::pass_tally_at_place::Shares;
 use append_log::{Log, LogSink, RecordShare};
+pub use closing_numbers::CellNumbers;
 use resp_wire::Reply;
 use sorted_sets::ZSet;
 use std::alloc::{AllocError, Allocator};
@@ -250,7 +251,7 @@ impl<H: BuildHasher, L: Ledger, A: Allocator + Copy> Cell<H, L, A> {
     }
 
     /// Whether the cell and a pass's shares tell the same numbers.
-    pub(crate) fn is_in_step(&self, shares: &Shares) -> bool
+    pub fn is_in_step(&self, shares: &Shares) -> bool
         ensures { IsTrue result ↔ InStep self.now shares.now }
     {
         self.place == shares.place

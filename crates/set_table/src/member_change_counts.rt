@@ -32,10 +32,10 @@ impl OwnCounts {
 
 /// How many runs a pass was answered at a place, and how many members came in and left in these.
 #[derive(Clone, Copy, Debug, PartialEq, Eq)]
-pub(crate) struct Tally {
-    pub(crate) runs: u64,
-    pub(crate) added: u64,
-    pub(crate) removed: u64,
+pub struct Tally {
+    pub runs: u64,
+    pub added: u64,
+    pub removed: u64,
 }
 
 impl Tally {

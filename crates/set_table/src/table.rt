@@ -2,19 +2,20 @@
 
 ghost use Rattle.std.specs.Prelude.{◌≡◌, ◌<◌, ◌≤◌, false, length, IfOk, IfErr, IfSome, OnErr, OnOk, IsTrue, MatchOption};
 ghost use Rattle.zset_commands.specs.AbstractCommand.{is_creating, is_writing};
-ghost use Rattle.set_table.specs.Naming.{NamingGrows, IsPlace};
+ghost use Rattle.place_names.specs.Naming.{NamingGrows, IsPlace};
 ghost use Rattle.set_table.specs.TableAndPassViews.{IsPassOf, kept_back};
 ghost use Rattle.set_table.specs.TableAnswers.{HasNoPlace, IsAnswered, IsAnsweredAt, IsClaimRefusal, IsTableRefusal, KeepsPass, MayBeAskedAt};
 
-mod closing_audit;
+mod parts;
 
 use crate::answer_with_counts::Answer;
 use crate::cell::Cell;
-use crate::naming::names::{ClaimFault, Names};
+use crate::naming::names::{ClaimFault, claim, find};
 use crate::test_gate::TestGate;
 use crate::worker_pass::Pass;
 use append_log::{Log, LogSink, SyncHandle, Syncer};
-pub use closing_audit::{CloseFault, Totals};
+pub use parts::TableParts;
+use place_names::Names;
 use resp_wire::Reply;
 use sorted_sets::reply_without_set;
 use std::alloc::Allocator;
@@ -91,7 +92,7 @@ impl<H: BuildHasher, S: LogSink, L: Ledger, A: Allocator + Copy> Table<H, S, L, 
         ensures found { MatchOption result (HasNoPlace pass.old key.now)
             (λ place. IsPlace pass.new.notes.known key.now place) }
     {
-        self.names.find(&mut pass.knowledge, key)
+        find(&self.names, &mut pass.knowledge, key)
     }
 
     /// The key's place, which is given one where it has none. It waits for nobody.
@@ -107,7 +108,7 @@ impl<H: BuildHasher, S: LogSink, L: Ledger, A: Allocator + Copy> Table<H, S, L, 
         ensures ok { IfOk result (λ place. IsPlace pass.new.notes.known key.now place) }
         ensures err { IfErr result (λ refusal. IsClaimRefusal pass.new key.now refusal) }
     {
-        match self.names.claim(&mut pass.knowledge, key) {
+        match claim(&self.names, &mut pass.knowledge, key) {
             Ok(place) => Ok(place),
             Err(ClaimFault::NoMemory) => Err(Refusal::NoMemory),
             Err(ClaimFault::TableFull) => Err(Refusal::TableFull),

@@ -2,14 +2,12 @@
 
 ghost use Rattle.std.specs.Prelude.{◌≡◌, ◌<◌, length, Some, IfSome};
 ghost use Rattle.std.proofs.Math.ListN.{get_or};
-ghost use Rattle.set_table.specs.ClosingAudit.{share_at};
-ghost use Rattle.set_table.specs.Naming.{AreNotesOf, name_at_place};
+ghost use Rattle.place_names.specs.Naming.{AreNotesOf, name_at_place};
+ghost use Rattle.set_table.specs.TableAndPassViews.{no_share};
 
-use crate::naming::hashed_key::Name;
-use crate::naming::names::Names;
-use crate::naming::pass_lookup_state::Knowledge;
 use crate::pass_tally_at_place::Shares;
 use once_cell::race::Note;
+use place_names::{Knowledge, Name, Names};
 use sorted_sets::Spare;
 use std::alloc::Allocator;
 use std::cell;
@@ -37,6 +35,26 @@ impl<A: Allocator> Model for Pass<A> {
 }
 
 impl<A: Allocator> Pass<A> {
+    /// A pass with this number, which knows these names, has these shares, and keeps nothing back. Only for
+    /// `table_lifetime`, which makes a table's passes when it opens it. Shares that are made tell of no run: where two
+    /// passes had one number, a cell that told the first of a run would refuse the second.
+    pub fn new(alloc: A, number: usize, knowledge: Knowledge, shares: Vec<Shares, A>) -> Self
+        ensures { result ≡ record {
+          number = number;
+          notes = knowledge;
+          shares = shares.items;
+          kept = 0;
+        } }
+    {
+        Pass {
+            number,
+            knowledge,
+            shares,
+            spare: Spare::new(alloc),
+            told: cell::Cell::new(0),
+        }
+    }
+
     /// The pass's number, from 0 on.
     pub fn number(&self) -> usize
         ensures { result ≡ self.now.number }
@@ -47,7 +65,7 @@ impl<A: Allocator> Pass<A> {
     /// How often a name was compared with a key to find a place, a number that wraps: what finding
     /// places costs, of which nothing is promised.
     pub fn compared(&self) -> u64 {
-        self.knowledge.compared
+        self.knowledge.compared()
     }
 
     /// The log's number of the last record that the answers since this was last asked may tell of: the last of any set
@@ -66,15 +84,16 @@ impl<A: Allocator> Pass<A> {
     }
 
     /// What it was answered at a place.
-    pub(crate) fn share(&self, place: usize) -> &Shares
+    pub fn share(&self, place: usize) -> &Shares
         requires { place < length self.now.shares }
-        ensures { result.now ≡ share_at self.now place }
+        ensures { result.now ≡ get_or self.now.shares place no_share }
     {
         &self.shares[place]
     }
 
-    /// The note of all passes learns what this one knows of a place's name.
-    pub(crate) fn tell_name(&mut self, names: &Names, place: usize, all: &mut Note<Name>)
+    /// The note of all passes learns what this one knows of a place's name. Only for `table_lifetime`, which compares
+    /// what a table's passes know.
+    pub fn tell_name(&mut self, names: &Names, place: usize, all: &mut Note<Name>)
         requires own { AreNotesOf names.now self.old.notes }
         requires within { place < length names.now }
         requires all { all.old.cell ≡ get_or names.now place 0 }

@@ -4,10 +4,10 @@ ghost use Rattle.std.specs.Prelude.{◌≡◌, ◌≤◌};
 
 use crate::exchange::owner_of;
 use crate::tables::{FOUR_PLACES, opened};
-use set_table::CloseFault;
 use std::marker::Brand;
 use std::sync::ledger::{Blank, Ledger};
 use std::test::*;
+use table_lifetime::{CloseFault, close};
 
 // Whether a table that is closed with its second pass alone tells that one is missing.
 fn without_the_first<L: Ledger>(rt: &HostRuntime, blank: Blank) -> Result<bool, Fail>
@@ -17,7 +17,7 @@ fn without_the_first<L: Ledger>(rt: &HostRuntime, blank: Blank) -> Result<bool, 
 {
     let alloc = rt.alloc();
     let (table, _first, second) = opened::<L>(alloc, blank, owner_of(rt, &[])?, FOUR_PLACES)?;
-    match table.close(Vec::from_array(alloc, [second])?) {
+    match close(table, Vec::from_array(alloc, [second])?) {
         Ok(_) => Ok(false),
         Err(fault) => Ok(fault == CloseFault::MissingPass),
     }

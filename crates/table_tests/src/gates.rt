@@ -3,11 +3,11 @@
 
 use crate::tables::FOUR_PLACES;
 use crate::workers::{AtOnce, Lists, MANY_TURNS, Manner, commands, race_of};
-use set_table::Totals;
 use std::process::Abort;
 use std::sync::Wait;
 use std::test::*;
 use std::thread::Threads;
+use table_lifetime::Totals;
 
 // So long a run is held that another waits for: long enough for that one to be answered, could it be.
 const FEW_TURNS: u64 = 200_000;

@@ -1,18 +1,19 @@
 //! Tables with two passes, over a log in memory, and what both are told one after the other.
 
 ghost use Rattle.std.specs.Prelude.{◌≡◌, ◌≤◌, ◌^◌, None, length, IfOk, IsTrue};
-ghost use Rattle.set_table.specs.ClosingAudit.{pass_at};
+ghost use Rattle.table_lifetime.specs.ClosingAudit.{pass_at};
 ghost use Rattle.set_table.specs.TableAndPassViews.{IsPassOf};
 
 use crate::exchange::{Owner, SetsOver, answers, owner_of};
 use append_log::{FuseSink, Log, MemorySink};
-use set_table::{NoGate, Pass, Table, TestGate, Totals};
+use set_table::{NoGate, Pass, TestGate};
 use std::alloc::Global;
 use std::marker::Brand;
 use std::process::Abort;
 use std::sync::Wait;
 use std::sync::ledger::{Blank, Ledger};
 use std::test::*;
+use table_lifetime::{Totals, open};
 
 pub type Sink = FuseSink<MemorySink<Global>>;
 
@@ -102,7 +103,7 @@ pub fn opened<L: Ledger>(
     }
     let sink = FuseSink::new(MemorySink::new(alloc, plan.chunk), plan.fails_at);
     let log = log_of::<L>(blank, sink, plan.is_deferred);
-    match Table::open(alloc, owner, log, plan.places, 2, plan.max_runs) {
+    match open(alloc, owner, log, plan.places, 2, plan.max_runs) {
         Ok((table, passes)) => {
             let (first, second) = pair(passes)?;
             Ok((table, first, second))
@@ -130,7 +131,7 @@ pub fn close<L: Ledger>(
     requires second { IsPassOf table second }
 {
     let passes = Vec::from_array(alloc, [second, first])?;
-    match table.close(passes) {
+    match table_lifetime::close(table, passes) {
         Ok((totals, log)) => Ok(ending(totals, log)),
         Err(_) => Err("not closed")?,
     }

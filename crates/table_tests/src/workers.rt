@@ -8,7 +8,7 @@ use crate::tables::{Plan, close, opened};
 use append_log::LogSink;
 use resp_wire::write_reply;
 use session_core::Exec;
-use set_table::{NoGate, Pass, TestGate, Totals};
+use set_table::{NoGate, Pass, TestGate};
 use std::alloc::Global;
 use std::hash::RandomState;
 use std::marker::Brand;
@@ -18,6 +18,7 @@ use std::sync::ledger::{Blank, Ledger};
 use std::test::*;
 use std::thread;
 use std::thread::Threads;
+use table_lifetime::Totals;
 use table_worker::Worker;
 use zset_commands::Command;
 

@@ -6,13 +6,13 @@ use Rattle.std.proofs.lemmas.List.Elements.{length_all_zip, AllZip-get_or, All-f
 use Rattle.zset_core.specs.SetsByKey.{World}
 use Rattle.hand_over.specs.declared.outcome.HandOverFault.{HandOverFault}
 use Rattle.hand_over.specs.declared.outcome.HandOverFault.TheVariants as hands
-use Rattle.set_table.specs.Opening.{AreNewPasses, IsTableOpenFault, no_pass, pass_at}
-use Rattle.set_table.specs.ClosingAudit.{AreNumbered}
+use Rattle.table_lifetime.specs.Opening.{AreNewPasses, IsTableOpenFault, no_pass, pass_at}
+use Rattle.table_lifetime.specs.ClosingAudit.{AreNumbered}
 use Rattle.set_table.specs.TableAndPassViews.{TableView, PassView, IsPassOf}
-use Rattle.set_table.specs.declared.open.TableOpenFault.{TableOpenFault}
-use Rattle.set_table.specs.declared.open.TableOpenFault.TheVariants as opens
-use Rattle.set_table.specs.declared.table.closing_audit.CloseFault.{CloseFault}
-use Rattle.set_table.specs.declared.table.closing_audit.CloseFault.TheVariants.{MissingPass, OutOfStep}
+use Rattle.table_lifetime.specs.declared.opening.TableOpenFault.{TableOpenFault}
+use Rattle.table_lifetime.specs.declared.opening.TableOpenFault.TheVariants as opens
+use Rattle.table_lifetime.specs.declared.closing_audit.CloseFault.{CloseFault}
+use Rattle.table_lifetime.specs.declared.closing_audit.CloseFault.TheVariants.{MissingPass, OutOfStep}
 use Rattle.table_worker.specs.WorkerRequests.{Keeps, worker_on, AllKeep}
 use Rattle.tcp_server.specs.ServerRun.{IsStartFault, table_open_line, hand_over_line}
 

@@ -2,19 +2,19 @@
 use Rattle.std.specs.Prelude.{◌≡◌, ℕ, ◌+◌, ◌<◌, ◌≤◌, ◌⊎◌, ◌↔◌, Bool, true, false, IsTrue, List, [], ◌∷◌, ◌++◌, All, codes, decimal, Option, None, Some, Result, Ok, Err}
 use Rattle.std.specs.FinMap as fin
 use Rattle.zset_core.specs.SetsByKey.{World}
-use Rattle.set_table.specs.Opening.{IsOpened, AreNewPasses}
-use Rattle.set_table.specs.ClosingAudit.{AddsUp, HaveOnePlace}
+use Rattle.table_lifetime.specs.Opening.{IsOpened, AreNewPasses}
+use Rattle.table_lifetime.specs.ClosingAudit.{AddsUp, HaveOnePlace}
 use Rattle.set_table.specs.declared.limits.TheConstants.{MAX_RUNS}
 use Rattle.set_table.specs.TableAndPassViews.{TableView, PassView, IsPassOf}
 use Rattle.connection_channel.specs.declared.arrivals.ArrivalKind.{ArrivalKind}
 use Rattle.connection_channel.specs.declared.arrivals.ArrivalKind.TheVariants as arrived
 use Rattle.hand_over.specs.declared.outcome.HandOverFault.{HandOverFault}
 use Rattle.hand_over.specs.declared.outcome.HandOverFault.TheVariants as hands
-use Rattle.set_table.specs.declared.open.TableOpenFault.{TableOpenFault}
-use Rattle.set_table.specs.declared.open.TableOpenFault.TheVariants as opens
-use Rattle.set_table.specs.declared.table.closing_audit.totals.Totals.{Totals}
-use Rattle.set_table.specs.declared.table.closing_audit.CloseFault.{CloseFault}
-use Rattle.set_table.specs.declared.table.closing_audit.CloseFault.TheVariants.{OutOfStep}
+use Rattle.table_lifetime.specs.declared.opening.TableOpenFault.{TableOpenFault}
+use Rattle.table_lifetime.specs.declared.opening.TableOpenFault.TheVariants as opens
+use Rattle.table_lifetime.specs.declared.closing_audit.totals.Totals.{Totals}
+use Rattle.table_lifetime.specs.declared.closing_audit.CloseFault.{CloseFault}
+use Rattle.table_lifetime.specs.declared.closing_audit.CloseFault.TheVariants.{OutOfStep}
 use Rattle.exit_lines.specs.DeviceStates.{DrainState}
 use Rattle.exit_lines.specs.ExitStatusAndLines.{status_of, finish_by, IsPrinted}
 use Rattle.table_worker.specs.WorkerRequests.{AllKeep}

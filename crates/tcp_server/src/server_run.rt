@@ -1,7 +1,7 @@
 //! A server: connections handed over to workers that share a table of sets.
 
 ghost use Rattle.std.specs.Prelude.{◌≡◌, ◌<◌, ◌⊎◌, None, All};
-ghost use Rattle.set_table.specs.ClosingAudit.{AreNumbered};
+ghost use Rattle.table_lifetime.specs.ClosingAudit.{AreNumbered};
 ghost use Rattle.set_table.specs.TableAndPassViews.{IsPassOf};
 ghost use Rattle.exit_lines.specs.DeviceStates.{drain_state};
 ghost use Rattle.tcp_server.specs.ServerRun as server;
@@ -15,7 +15,7 @@ use connections::Watched;
 use exit_lines::{Finish, Line};
 use hand_over::{Arrivals, HandOverFault};
 use resp_wire::{ByteDrain, PolledDrain, PolledSource};
-use set_table::{CloseFault, MAX_RUNS, Pass, Table, TableOpenFault, Totals};
+use set_table::{MAX_RUNS, Pass, Table};
 use sorted_sets::OneOwner;
 use std::alloc::{AllocGlobal, Global};
 use std::hash::RandomState;
@@ -24,6 +24,7 @@ use std::sync::ledger::Ledger;
 use std::sync::{Mutex, Wait};
 use std::thread::Threads;
 use std::time::Clock;
+use table_lifetime::{CloseFault, TableOpenFault, Totals, close, open};
 use table_worker::Journal;
 
 /// The line that tells why there is no table.
@@ -58,7 +59,7 @@ fn totals_of<K: LogSink + Drop, L: Ledger>(
     // The totals are those of the passes, or they disagree with what stands in the table.
     ensures { HasTotals result table.opened passes.items }
 {
-    match table.close(passes) {
+    match close(table, passes) {
         Ok((totals, _log)) => Ok(totals),
         Err(fault) => Err(fault),
     }
@@ -135,7 +136,7 @@ where
     } = *settings;
     let Journal { log, handle } = journal;
     let syncer = handle.map(|handle| Mutex::new(Syncer::new(handle)));
-    let (table, passes) = match Table::open(alloc, owner, log, places, workers, MAX_RUNS) {
+    let (table, passes) = match open(alloc, owner, log, places, workers, MAX_RUNS) {
         Ok(opened) => opened,
         Err(fault) => return Finish::by(open_line(fault)),
     };

@@ -8,9 +8,9 @@ ghost use Rattle.tcp_server.specs.ServerRun.{totals_text};
 
 use exit_lines::{Finish, Line, print};
 use resp_wire::ByteDrain;
-use set_table::Totals;
 use std::alloc::{AllocError, Global};
 use std::fmt::Write;
+use table_lifetime::Totals;
 
 /// Adds a count behind a word.
 fn push_count(text: &mut String, word: &str, count: u128) -> Result<(), AllocError>

@@ -1,4 +1,4 @@
-//! The numbers that a cell's table adds up when it is closed.
+//! The numbers that are added up when a cell's table is closed: `table_lifetime` asks for them.
 
 ghost use Rattle.std.specs.Prelude.{◌≡◌, ◌↔◌, length, IsTrue};
 ghost use Rattle.std.specs.FinMap as map;
@@ -14,17 +14,17 @@ use std::sync::ledger::Ledger;
 /// A cell's numbers: its members now and at opening, the runs that it may answer, what all passes were
 /// answered, and the records that were appended for it.
 #[derive(Clone, Copy)]
-pub(crate) struct CellNumbers {
-    pub(crate) members: u64,
-    pub(crate) opened: u64,
-    pub(crate) max_runs: u64,
-    pub(crate) total: Tally,
-    pub(crate) records: u64,
+pub struct CellNumbers {
+    pub members: u64,
+    pub opened: u64,
+    pub max_runs: u64,
+    pub total: Tally,
+    pub records: u64,
 }
 
 impl<H: BuildHasher, L: Ledger, A: Allocator + Copy> Cell<H, L, A> {
     /// The cell's numbers.
-    pub(crate) fn numbers(&self) -> CellNumbers
+    pub fn numbers(&self) -> CellNumbers
         ensures numbers { result ≡ record {
           members = map.len self.now.sorted_set.members;
           opened = self.now.opened;
@@ -44,7 +44,7 @@ impl<H: BuildHasher, L: Ledger, A: Allocator + Copy> Cell<H, L, A> {
     }
 
     /// Whether it has a tally for each of so many passes, and none besides.
-    pub(crate) fn has_tallies(&self, passes: usize) -> bool
+    pub fn has_tallies(&self, passes: usize) -> bool
         ensures { IsTrue result ↔ (length self.now.tallies ≡ passes) }
     {
         self.tallies.len() == passes

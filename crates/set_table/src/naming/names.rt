@@ -1,308 +1,112 @@
-//! The places' names, and the walk by which a key finds its own.
+//! The walks by which a key finds its place, or is given one.
 
-ghost use Rattle.std.specs.Prelude.{◌≡◌, ◌<◌, ◌≤◌, ◌%◌, List, ℕ, None, Some, map, length, IfOk, IfErr, IfSome, IfNone, MatchOption, MatchResult};
-ghost use Rattle.std.proofs.Math.ListN.{get_or};
-ghost use Rattle.once_cell.specs.Once.{cell_name, Agrees};
-ghost use Rattle.set_table.specs.Naming.{AreNotesOf, NamingGrows, IsPlace, IsUnclaimed, Learns, hash_from, name_at_place, walk};
-
-mod comparing_notes_of_passes;
+ghost use Rattle.std.specs.Prelude.{◌≡◌, ◌<◌, ◌≤◌, ℕ, length, IfOk, IfErr, IfSome, IfNone};
+ghost use Rattle.place_names.specs.Naming.{AreNotesOf, NamingGrows, IsPlace};
+ghost use Rattle.set_table.specs.Claiming.{IsUnclaimed};
 
 use crate::limits::MAX_PLACES;
-use crate::naming::hashed_key::{Name, hash};
-use crate::naming::key_cache::{KeyCache, mixed_hash};
-use crate::naming::known_place_names::{Notes, PlaceNote};
-use crate::naming::met_name_hashes::NameHashes;
-use crate::naming::pass_lookup_state::Knowledge;
-use once_cell::race::{Note, OnceBox};
-use std::alloc::{AllocError, Global};
-use std::marker::Model;
-
-/// The places' names, each set once. A contract sees which once cells they stand in; what a cell
-/// holds only a pass's notes can tell.
-#[derive(Drop)]
-pub(crate) struct Names {
-    alloc: Global,
-    names: Vec<OnceBox<Name>>,
-}
-
-impl Model for Names {
-    ghost use Rattle.std.specs.Prelude.{List, ℕ, map};
-    ghost use Rattle.once_cell.specs.Once.{cell_name};
-
-    ghost Value = { List ℕ };
-
-    ghost view = { λ n. map cell_name n.names.items };
-}
+use place_names::{Knowledge, Names, hash, mixed_hash};
 
 /// Why a key gets no place.
 #[derive(Drop)]
-pub(crate) enum ClaimFault {
+pub enum ClaimFault {
     NoMemory,
     TableFull,
 }
 
-impl Names {
-    /// Names for so many places, none of them set.
-    pub(crate) fn new(alloc: Global, places: usize) -> Result<Self, AllocError>
-        ensures { IfOk result (λ names. length names ≡ places) }
-    {
-        let mut names = Vec::new(alloc);
-        for _ in 0..places {
-            names.push(OnceBox::new(alloc))?;
-        }
-        Ok(Names { alloc, names })
+/// The key's place, where the pass or the table knows it. One that the pass met before is found
+/// by its cache of keys; another by the key's walk.
+pub(crate) fn find(names: &Names, known: &mut Knowledge, key: &[u8]) -> Option<usize>
+    requires own { AreNotesOf names.now known.old }
+    requires places { (0 < length names.now) × (length names.now ≤ MAX_PLACES) }
+    ensures own { AreNotesOf names.now known.new }
+    ensures grows { NamingGrows known.old.known known.new.known }
+    ensures found { IfSome result (λ place. IsPlace known.new.known key.now place) }
+    ensures none { IfNone result ((place : ℕ) → IsPlace known.old.known key.now place → ⊥) }
+{
+    let hash = mixed_hash(key);
+    if let Some(place) = names.recall(known, hash, key) {
+        return Some(place);
     }
-
-    /// Notes that know nothing.
-    fn notes(&self, alloc: Global) -> Result<Notes, AllocError>
-        ensures { IfOk result (λ notes. AreNotesOf self.now notes) }
-    {
-        let mut places = Vec::new(alloc);
-        for place in 0..self.names.len() {
-            places.push(PlaceNote {
-                note: self.names[place].note(),
-            })?;
-        }
-        Ok(Notes { places })
-    }
-
-    /// The number of places.
-    pub(crate) fn places(&self) -> usize
-        ensures { result ≡ length self.now }
-    {
-        self.names.len()
-    }
-
-    /// Knowledge of nothing.
-    pub(crate) fn knowledge(&self, alloc: Global) -> Result<Knowledge, AllocError>
-        requires { length self.now ≤ MAX_PLACES }
-        ensures { IfOk result (λ knowledge. AreNotesOf self.now knowledge) }
-    {
-        Ok(Knowledge {
-            notes: self.notes(alloc)?,
-            key_cache: KeyCache::new(alloc, self.places())?,
-            hashes: NameHashes::new(alloc, self.places())?,
-            compared: 0,
-        })
-    }
-
-    /// The key's place, where the pass or the table knows it. One that the pass met before is found
-    /// by its cache of keys; another by the key's walk.
-    pub(crate) fn find(&self, known: &mut Knowledge, key: &[u8]) -> Option<usize>
-        requires own { AreNotesOf self.now known.old }
-        requires places { (0 < length self.now) × (length self.now ≤ MAX_PLACES) }
-        ensures own { AreNotesOf self.now known.new }
-        ensures grows { NamingGrows known.old.known known.new.known }
-        ensures found { IfSome result (λ place. IsPlace known.new.known key.now place) }
-        ensures none { IfNone result ((place : ℕ) → IsPlace known.old.known key.now place → ⊥) }
-    {
-        let hash = mixed_hash(key);
-        if let Some(place) = self.recall(known, hash, key) {
-            return Some(place);
-        }
-        let place = self.find_by_walk(known, key)?;
-        known.key_cache.remember(hash, place);
-        Some(place)
-    }
-
-    /// The key's place, which is given one where it has none.
-    pub(crate) fn claim(&self, known: &mut Knowledge, key: &[u8]) -> Result<usize, ClaimFault>
-        requires own { AreNotesOf self.now known.old }
-        requires places { (0 < length self.now) × (length self.now ≤ MAX_PLACES) }
-        ensures own { AreNotesOf self.now known.new }
-        ensures grows { NamingGrows known.old.known known.new.known }
-        ensures ok { IfOk result (λ place. IsPlace known.new.known key.now place) }
-        ensures err { IfErr result (λ fault. IsUnclaimed fault known.new.known key.now) }
-    {
-        let hash = mixed_hash(key);
-        if let Some(place) = self.recall(known, hash, key) {
-            return Ok(place);
-        }
-        let place = self.claim_by_walk(known, key)?;
-        known.key_cache.remember(hash, place);
-        Ok(place)
-    }
-
-    /// The key's place, where the pass's cache of keys has it: the place that was met with the key's
-    /// hash, if it bears the key.
-    fn recall(&self, known: &mut Knowledge, hash: u32, key: &[u8]) -> Option<usize>
-        requires own { AreNotesOf self.now known.old }
-        ensures own { AreNotesOf self.now known.new }
-        ensures grows { NamingGrows known.old.known known.new.known }
-        ensures found { IfSome result (λ place. IsPlace known.new.known key.now place) }
-    {
-        let place = known.key_cache.place_of(hash)?;
-        let name = self.name_of(&mut known.notes, place)?;
-        if !known.bears(name, key) {
-            return None;
-        }
-        Some(place)
-    }
-
-    /// The key's place, by a walk over the places from where the key's hash says, to the first that
-    /// bears the key or has no name. A name that the pass met is read only where its hash is the key's.
-    fn find_by_walk(&self, known: &mut Knowledge, key: &[u8]) -> Option<usize>
-        requires own { AreNotesOf self.now known.old }
-        requires places { (0 < length self.now) × (length self.now ≤ MAX_PLACES) }
-        ensures own { AreNotesOf self.now known.new }
-        ensures grows { NamingGrows known.old.known known.new.known }
-        ensures found { IfSome result (λ place. IsPlace known.new.known key.now place) }
-        ensures none { IfNone result ((place : ℕ) → IsPlace known.old.known key.now place → ⊥) }
-    {
-        let hash = hash(key);
-        let first = self.first_place(key, hash);
-        for step in 0..self.places() {
-            let place = self.walk(key, first, step);
-            if known.has_other_hash(place, hash) {
-                continue;
-            }
-            let name = self.meet(known, place)?;
-            if name.hash() != hash {
-                continue;
-            }
-            if known.bears(name, key) {
-                return Some(place);
-            }
-        }
-        None
-    }
-
-    /// The key's place, by its walk: the first place that has no name takes the key's, unless
-    /// another thread was quicker there. Then the walk goes on by the name that that thread set.
-    fn claim_by_walk(&self, known: &mut Knowledge, key: &[u8]) -> Result<usize, ClaimFault>
-        requires own { AreNotesOf self.now known.old }
-        requires places { (0 < length self.now) × (length self.now ≤ MAX_PLACES) }
-        ensures own { AreNotesOf self.now known.new }
-        ensures grows { NamingGrows known.old.known known.new.known }
-        ensures ok { IfOk result (λ place. IsPlace known.new.known key.now place) }
-        ensures err { IfErr result (λ fault. IsUnclaimed fault known.new.known key.now) }
-    {
-        let hash = hash(key);
-        let first = self.first_place(key, hash);
-        for step in 0..self.places() {
-            let place = self.walk(key, first, step);
-            if known.has_other_hash(place, hash) {
-                continue;
-            }
-            let given = match self.meet_or_name(known, place, key) {
-                Ok(name) => name,
-                Err(_) => return Err(ClaimFault::NoMemory),
-            };
-            if given.hash() != hash {
-                continue;
-            }
-            if known.bears(given, key) {
-                return Ok(place);
-            }
-        }
-        Err(ClaimFault::TableFull)
-    }
-
-    /// The place where the key's walk begins.
-    fn first_place(&self, key: &[u8], hash: u64) -> usize
-        requires hash { hash ≡ hash_from 7 key.now }
-        requires some { 0 < length self.now }
-        ensures value { result ≡ hash_from 7 key.now % length self.now }
-        ensures within { result < length self.now }
-    {
-        (hash % self.names.len() as u64) as usize
-    }
-
-    /// A place of the key's walk.
-    fn walk(&self, key: &[u8], first: usize, step: usize) -> usize
-        requires first { first ≡ hash_from 7 key.now % length self.now }
-        requires began { first < length self.now }
-        requires within { step < length self.now }
-        requires few { length self.now ≤ MAX_PLACES }
-        ensures value { result ≡ walk (length self.now) key.now step }
-        ensures within { result < length self.now }
-    {
-        let place = first + step;
-        if place < self.names.len() {
-            place
-        } else {
-            place - self.names.len()
-        }
-    }
-
-    /// A place's name, if it has one, which the pass then knows with its hash.
-    fn meet<'a>(&'a self, known: &mut Knowledge, place: usize) -> Option<&'a Name>
-        requires own { AreNotesOf self.now known.old }
-        requires within { place < length self.now }
-        ensures own { AreNotesOf self.now known.new }
-        ensures seen { MatchOption result
-            ((name_at_place known.old.known place ≡ None) × (known.new.known ≡ known.old.known))
-            (λ name. Learns known.old.known known.new.known place name.now) }
-    {
-        let name = self.name_of(&mut known.notes, place)?;
-        known.hashes.learn(place, name.hash());
-        Some(name)
-    }
-
-    /// A place's name, which is the key where it had none, and which the pass then knows with its hash.
-    fn meet_or_name<'a>(
-        &'a self,
-        known: &mut Knowledge,
-        place: usize,
-        key: &[u8],
-    ) -> Result<&'a Name, AllocError>
-        requires own { AreNotesOf self.now known.old }
-        requires within { place < length self.now }
-        ensures own { AreNotesOf self.now known.new }
-        ensures seen { MatchResult result
-            (λ name. Learns known.old.known known.new.known place name.now)
-            (λ _. known.new.known ≡ known.old.known) }
-    {
-        let name = self.name_or_key(&mut known.notes, place, key)?;
-        known.hashes.learn(place, name.hash());
-        Ok(name)
-    }
-
-    /// A place's name, if it has one, which the pass then knows.
-    fn name_of<'a>(&'a self, notes: &mut Notes, place: usize) -> Option<&'a Name>
-        requires own { AreNotesOf self.now notes.old }
-        requires within { place < length self.now }
-        ensures own { AreNotesOf self.now notes.new }
-        ensures seen { MatchOption result
-            ((name_at_place notes.old.known place ≡ None) × (notes.new.known ≡ notes.old.known))
-            (λ name. Learns notes.old.known notes.new.known place name.now) }
-    {
-        let known = &mut notes.places[place];
-        self.names[place].get_as(&mut known.note)
-    }
-
-    /// A place's name, which is the key where it had none.
-    fn name_or_key<'a>(
-        &'a self,
-        notes: &mut Notes,
-        place: usize,
-        key: &[u8],
-    ) -> Result<&'a Name, AllocError>
-        requires own { AreNotesOf self.now notes.old }
-        requires within { place < length self.now }
-        ensures own { AreNotesOf self.now notes.new }
-        ensures seen { MatchResult result
-            (λ name. Learns notes.old.known notes.new.known place name.now)
-            (λ _. notes.new.known ≡ notes.old.known) }
-    {
-        let known = &mut notes.places[place];
-        set_once(self.alloc, &self.names[place], &mut known.note, key)
-    }
+    let place = find_by_walk(names, known, key)?;
+    known.remember(hash, place);
+    Some(place)
 }
 
-/// The name in a cell, which is the key where it had none. Where two threads set it at once, both
-/// are given the one that came first.
-fn set_once<'a>(
-    alloc: Global,
-    cell: &'a OnceBox<Name>,
-    note: &mut Note<Name>,
-    key: &[u8],
-) -> Result<&'a Name, AllocError>
-    requires { note.old.cell ≡ cell_name cell.now }
-    ensures cell { note.new.cell ≡ note.old.cell }
-    ensures name { MatchResult result
-        (λ name. (note.new.known ≡ Some name.now) × Agrees note.old.known name.now)
-        (λ _. (note.old.known ≡ None) × (note.new.known ≡ None)) }
+/// The key's place, which is given one where it has none. Only for `table_lifetime`, while it opens a table: a worker asks
+/// its table.
+pub fn claim(names: &Names, known: &mut Knowledge, key: &[u8]) -> Result<usize, ClaimFault>
+    requires own { AreNotesOf names.now known.old }
+    requires places { (0 < length names.now) × (length names.now ≤ MAX_PLACES) }
+    ensures own { AreNotesOf names.now known.new }
+    ensures grows { NamingGrows known.old.known known.new.known }
+    ensures ok { IfOk result (λ place. IsPlace known.new.known key.now place) }
+    ensures err { IfErr result (λ fault. IsUnclaimed fault known.new.known key.now) }
 {
-    cell.get_or_try_init_as(move || Ok(Box::new(alloc, Name::of(alloc, key)?)?), note)
+    let hash = mixed_hash(key);
+    if let Some(place) = names.recall(known, hash, key) {
+        return Ok(place);
+    }
+    let place = claim_by_walk(names, known, key)?;
+    known.remember(hash, place);
+    Ok(place)
+}
+
+/// The key's place, by a walk over the places from where the key's hash says, to the first that
+/// bears the key or has no name. A name that the pass met is read only where its hash is the key's.
+fn find_by_walk(names: &Names, known: &mut Knowledge, key: &[u8]) -> Option<usize>
+    requires own { AreNotesOf names.now known.old }
+    requires places { (0 < length names.now) × (length names.now ≤ MAX_PLACES) }
+    ensures own { AreNotesOf names.now known.new }
+    ensures grows { NamingGrows known.old.known known.new.known }
+    ensures found { IfSome result (λ place. IsPlace known.new.known key.now place) }
+    ensures none { IfNone result ((place : ℕ) → IsPlace known.old.known key.now place → ⊥) }
+{
+    let hash = hash(key);
+    let first = names.first_place(key, hash);
+    for step in 0..names.places() {
+        let place = names.walk(key, first, step);
+        if known.has_other_hash(place, hash) {
+            continue;
+        }
+        let name = names.meet(known, place)?;
+        if name.hash() != hash {
+            continue;
+        }
+        if known.bears(name, key) {
+            return Some(place);
+        }
+    }
+    None
+}
+
+/// The key's place, by its walk: the first place that has no name takes the key's, unless
+/// another thread was quicker there. Then the walk goes on by the name that that thread set.
+fn claim_by_walk(names: &Names, known: &mut Knowledge, key: &[u8]) -> Result<usize, ClaimFault>
+    requires own { AreNotesOf names.now known.old }
+    requires places { (0 < length names.now) × (length names.now ≤ MAX_PLACES) }
+    ensures own { AreNotesOf names.now known.new }
+    ensures grows { NamingGrows known.old.known known.new.known }
+    ensures ok { IfOk result (λ place. IsPlace known.new.known key.now place) }
+    ensures err { IfErr result (λ fault. IsUnclaimed fault known.new.known key.now) }
+{
+    let hash = hash(key);
+    let first = names.first_place(key, hash);
+    for step in 0..names.places() {
+        let place = names.walk(key, first, step);
+        if known.has_other_hash(place, hash) {
+            continue;
+        }
+        let given = match names.meet_or_name(known, place, key) {
+            Ok(name) => name,
+            Err(_) => return Err(ClaimFault::NoMemory),
+        };
+        if given.hash() != hash {
+            continue;
+        }
+        if known.bears(given, key) {
+            return Ok(place);
+        }
+    }
+    Err(ClaimFault::TableFull)
 }

@@ -1,7 +1,7 @@
 use Rattle.std.proofs.Common.{IfNone, subst}
 use Rattle.set_table.specs.TableAndPassViews.{PassView}
 use Rattle.set_table.specs.TableAnswers.{HasNoPlace}
-use Rattle.set_table.proofs.PlaceLemmas.{joined}
+use Rattle.place_names.proofs.PlaceLemmas.{joined}
 use Rattle.set_table.proofs.table.Table.find.Goals as goal
 
 pub returns-clause-found : goal.returns-clause-found

@@ -1,7 +1,7 @@
 use Rattle.std.proofs.Common.{◌∙◌, sym, subst, inr, List, ℕ}
 use Rattle.zset_commands.specs.AbstractCommand.{key_of}
 use Rattle.set_table.specs.TableAnswers.{HasNoPlace}
-use Rattle.set_table.proofs.PlaceLemmas.{same_some}
+use Rattle.place_names.proofs.PlaceLemmas.{same_some}
 use Rattle.set_table.proofs.table.Table.run.Goals as goal
 
 pub returns-in-None-clause-ok : goal.returns-in-None-clause-ok

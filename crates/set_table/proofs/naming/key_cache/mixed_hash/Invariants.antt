@@ -1,5 +1,0 @@
-use Rattle.std.proofs.Common.{length}
-use Rattle.set_table.proofs.naming.key_cache.mixed_hash.Given as goal
-
-abbrev pub decreases-loop-rest : goal.decreases-loop-rest
-decreases-loop-rest l = length l.rest

@@ -1,6 +1,0 @@
-use Rattle.std.proofs.Common.{◌≡◌, take}
-use Rattle.set_table.specs.Opening.{cards_of}
-use Rattle.set_table.proofs.open.placing.cards.Given as goal
-
-abbrev pub invariant-loop-place : goal.invariant-loop-place
-invariant-loop-place g l = l.cards.items ≡ cards_of (take l.place l.sets)

@@ -1,9 +1,0 @@
-use Rattle.std.proofs.Common.{◌≡◌, ℕ, ◌<◌}
-use Rattle.set_table.specs.ClosingAudit.{AgreeAt}
-use Rattle.set_table.proofs.table.closing_audit.passes_agree_on_names.compare_names.Given as goal
-
-abbrev pub invariant-loop-place : goal.invariant-loop-place
-invariant-loop-place g l = record {
-  same : l.passes.items ≡ l.fn.passes.items;
-  agree : (p : ℕ) → p < l.place → AgreeAt l.fn.passes.items p;
-}

@@ -1,6 +1,0 @@
-use Rattle.std.proofs.Common.{◌≡◌, ℕ, ◌<◌}
-use Rattle.set_table.specs.ClosingAudit.{pass_at}
-use Rattle.set_table.proofs.table.closing_audit.sort_passes_by_number.index_of.Given as goal
-
-abbrev pub invariant-loop-i : goal.invariant-loop-i
-invariant-loop-i g l = (j : ℕ) → j < l.i → (pass_at l.passes.items j).number ≡ l.number → ⊥

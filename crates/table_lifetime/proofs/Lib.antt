@@ -1,0 +1,4 @@
+mod OpeningLemmas
+mod PassOrder
+mod NameAgreement
+mod ClosingLemmas
