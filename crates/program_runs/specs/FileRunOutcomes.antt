@@ -17,9 +17,9 @@ use Rattle.log_records.specs.declared.dumping.RewriteFault.TheVariants as rewrit
 use Rattle.append_file.specs.declared.new_file.NewFileFault.{NewFileFault}
 use Rattle.append_file.specs.declared.new_file.NewFileFault.TheVariants as new_file_faults
 use Rattle.resp_wire.specs.Response.{Response}
-use Rattle.session_core.specs.OwnerAnswers.{LoggedAnswers}
+use Rattle.command_executor.specs.OwnerAnswers.{LoggedAnswers}
 use Rattle.session_core.specs.Exchange.{Exchanges}
-use Rattle.session_core.specs.ExchangesBetweenSyncs.{TalkBetweenSyncs}
+use Rattle.lone_sessions.specs.ExchangesBetweenSyncs.{TalkBetweenSyncs}
 use Rattle.exit_lines.specs.DeviceStates.{SourceState, DrainState}
 use Rattle.exit_lines.specs.ExitStatusAndLines.{finish_by, noticed, IsPrinted}
 use Rattle.program_runs.specs.SessionFinish.{Finishes}

@@ -2,7 +2,7 @@
 use Rattle.std.specs.Prelude.{◌≡◌, ℕ, ◌+◌, ◌-◌, ◌^◌, ◌≤◌, min, List, [], ◌∷◌, Option, None, Some, Result, Ok, Err, MatchResult}
 use Rattle.resp_wire.specs.FaultTexts.{number_of}
 use Rattle.resp_wire.specs.Response.{Response}
-use Rattle.session_core.specs.declared.held_replies.HeldReplies.{HeldReplies}
+use Rattle.held_replies.specs.declared.held_replies.HeldReplies.{HeldReplies}
 use Rattle.session_core.specs.declared.session_end.Ended.{Ended}
 use Rattle.session_core.specs.declared.session_end.SessionFault.{SessionFault}
 use Rattle.session_core.specs.declared.session_end.SessionFault.TheVariants as ends

@@ -6,8 +6,9 @@ ghost use Rattle.exit_lines.specs.DeviceStates.{drain_state, source_state};
 ghost use Rattle.program_runs.specs.SessionFinish.{finish_of, Finishes, most_reads};
 
 use exit_lines::{Finish, Line};
+use lone_sessions::serve;
 use resp_wire::{ByteDrain, ByteSource, MAX_READS, READ_BUFFER};
-use session_core::{Ended, Exec, SessionFault, serve};
+use session_core::{Ended, Exec, SessionFault};
 use std::alloc::Allocator;
 
 /// How the program ends after a session: with status 0 at the end of the input, 4 out of

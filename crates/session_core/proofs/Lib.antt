@@ -3,6 +3,4 @@ pub mod HeldRequests
 pub mod ServeProgress
 pub mod TurnProgress
 pub mod Interleaving
-pub mod SyncedLemmas
-pub mod DeferredProgress
 pub mod ReplySent

@@ -11,9 +11,9 @@ ghost use Rattle.session_core.specs.SendOutcome.{DrainFailed, SendEnds, SentOn};
 ghost use Rattle.session_core.specs.declared.session_end.SessionFault.TheVariants.{NoMemory, WriteFault, Wire};
 ghost use Rattle.session_core.specs.ServeSteps.{IsSmall, SessionIsBetweenReads, AnsweredOne, HaltedOne, Halfway, Answered, Halted, fed};
 
-use crate::command_executor::Exec;
 use crate::reply_sending::{send, tell_fault};
 use crate::session_end::{Ended, SessionFault};
+use command_executor::Exec;
 use resp_wire::{ByteDrain, Decoder, Reply, Request, WireFault, laws};
 use std::alloc::{AllocError, Allocator};
 use std::mem;
@@ -29,7 +29,7 @@ pub struct Progress {
 }
 
 /// A session between its turns, for one who shares its executor among several: pieces of the input
-/// are fed, and the requests in them run turn by turn. [`serve`](crate::serve) is a session that is served alone.
+/// are fed, and the requests in them run turn by turn. `lone_sessions` serves one alone.
 #[derive(Drop)]
 pub struct Session<A: Allocator> {
     alloc: A,
@@ -203,7 +203,7 @@ impl<A: Allocator + Copy> Session<A> {
     ///
     /// # Errors
     ///
-    /// As [`serve`](crate::serve) ends: with no [`SessionFault::ReadFault`] or [`SessionFault::TooManyReads`].
+    /// As a session ends that is served alone: with no [`SessionFault::ReadFault`] or [`SessionFault::TooManyReads`].
     pub fn turn<R, D: ByteDrain, E: Exec<R, A>>(
         &mut self,
         rt: &R,
@@ -269,7 +269,7 @@ impl<A: Allocator + Copy> Session<A> {
 const REPLY_ROOM: usize = 128;
 
 /// Where pieces of the input are read into, and a session before its first read.
-pub(crate) fn begun<A: Allocator + Copy>(
+pub fn begun<A: Allocator + Copy>(
     alloc: A,
     buffer: usize,
 ) -> Result<(Vec<u8, A>, Session<A>), AllocError>

@@ -4,8 +4,10 @@ ghost use Rattle.std.specs.Prelude.{◌≡◌, ◌≤◌};
 
 use crate::exchange::write_words;
 use append_log::{FuseSink, Log, LoggedOwner, MemorySink};
+use held_replies::HeldReplies;
+use lone_sessions::serve_deferred;
 use resp_wire::{MemoryDrain, MemorySource};
-use session_core::{Ended, HeldReplies, SessionFault, serve_deferred};
+use session_core::{Ended, SessionFault};
 use sorted_sets::OneOwner;
 use std::alloc::Global;
 use std::hash::RandomState;

@@ -2,11 +2,12 @@
 
 ghost use Rattle.std.specs.Prelude.{◌≤◌, ◌^◌};
 
+use lone_sessions::serve;
 use resp_wire::{
     Bytes, BytesList, MAX_READ_BUFFER, MAX_READS, MemoryDrain, MemorySource, READ_BUFFER, Request,
     write_request,
 };
-use session_core::{Ended, SessionFault, serve};
+use session_core::{Ended, SessionFault};
 use sorted_sets::OneOwner;
 use std::alloc::Global;
 use std::hash::RandomState;
