@@ -6,11 +6,12 @@ use Rattle.zset_commands.specs.AbstractCommand.{Asked}
 use Rattle.zset_commands.specs.declared.refusal.Refusal.{Refusal}
 use Rattle.session_core.specs.declared.resumable_session.Progress.{Progress}
 use Rattle.session_core.specs.Interleaved.{StateMoves, TakesTurns}
-use Rattle.connections.specs.declared.connection_in_turns.Stage.{Stage}
-use Rattle.connections.specs.declared.connection_in_turns.Stage.TheVariants.{Reads, Runs, Ended}
+use Rattle.connection_turns.specs.declared.connection_in_turns.Stage.{Stage}
+use Rattle.connection_turns.specs.declared.connection_in_turns.Stage.TheVariants.{Reads, Runs, Ended}
 use Rattle.connections.specs.Places.{ValueIsAt, MayPut, EachWas}
-use Rattle.connections.specs.ConnectionTurnState.{VisitState, Stands, GoesOn, HasBegun, visit_state, new_state}
-use Rattle.connections.specs.HeldConnections.{HeldState, HeldConnections, AllGoOn, AllStand, IsAdded, HaveLeft, ConnectionWaits, AllWait, AllMayLeave, RisesBy, TurnsAreTaken}
+use Rattle.connection_turns.specs.ConnectionTurnState.{VisitState, Stands, GoesOn, HasBegun, visit_state, new_state}
+use Rattle.connections.specs.HeldConnections.{HeldState, HeldConnections, AllGoOn, AllStand, IsAdded, HaveLeft, ConnectionWaits, AllWait, AllMayLeave, TurnsAreTaken}
+use Rattle.connection_turns.specs.SettledRecords.{RisesBy}
 use Rattle.session_core.proofs.Interleaving.{moves-refl, moves-trans}
 use Rattle.connections.proofs.PlaceLemmas.{at_set, at_grown, was_trans, was_so, each_now, all_shown, exchanged_alike, exchanged_was, emptied_was}
 

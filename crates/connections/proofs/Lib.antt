@@ -1,3 +1,2 @@
 pub mod HeldLemmas
 pub mod PlaceLemmas
-pub mod VisitLemmas

@@ -5,7 +5,7 @@ use Rattle.zset_commands.specs.AbstractCommand.{Asked}
 use Rattle.zset_commands.specs.declared.refusal.Refusal.{Refusal}
 use Rattle.session_core.specs.Interleaved.{StateMoves}
 use Rattle.connections.specs.Places.{IsGrown, MayPut, EachWas, Each}
-use Rattle.connections.specs.ConnectionTurnState.{VisitState, GoesOn, HasBegun}
+use Rattle.connection_turns.specs.ConnectionTurnState.{VisitState, GoesOn, HasBegun}
 
 -- what contracts see of a connection that is held: its visit, the number of the last record that its replies wait for (0:
 -- none), and the bytes that left, as far as they are known
@@ -70,8 +70,3 @@ MayLeave settled before after = (after.visit ≡ before.visit) × ConnectionWait
 
 abbrev pub AllMayLeave : ℕ → List (Option HeldState) → List (Option HeldState) → Type 0
 AllMayLeave settled old new = EachWas (MayLeave settled) old new
-
--- so many are settled as before, or more, as a settler told
-pub record RisesBy (settles : ℕ → Type 0) (old new : ℕ) : Type 0 where
-  pub rises : old ≤ new
-  pub told : (new ≡ old) ⊎ settles new

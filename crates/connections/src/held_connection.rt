@@ -2,20 +2,19 @@
 
 ghost use Rattle.std.specs.Prelude.{◌≡◌, ◌<◌, ◌⊎◌};
 ghost use Rattle.session_core.specs.Interleaved.{StateMoves};
-ghost use Rattle.connections.specs.declared.connection_in_turns.Next.TheVariants.{Ends, Settles};
+ghost use Rattle.connection_turns.specs.declared.connection_in_turns.Next.TheVariants.{Ends, Settles};
 ghost use Rattle.connections.specs.HeldConnections.{Begins};
-ghost use Rattle.connections.specs.ConnectionTurnState.{GoesOn, WaitsForTold, new_state};
+ghost use Rattle.connection_turns.specs.ConnectionTurnState.{GoesOn, WaitsForTold, new_state};
 
-use crate::buffers::Buffers;
-use crate::connection_in_turns::{Next, Visit};
 use crate::traffic::Traffic;
-use crate::turn_limits::Moment;
 use crate::watch::Watched;
+use connection_turns::{Next, Visit};
 use resp_wire::{PolledDrain, PolledSource};
 use session_core::Exec;
 use std::alloc::Allocator;
 use std::marker::Model;
 use std::time::{Clock, Duration, Instant};
+use turn_resources::{Buffers, Moment};
 
 /// A connection, and what its worker keeps of it beside.
 #[derive(Drop)]
@@ -37,7 +36,7 @@ pub struct Held<S: PolledSource, D: PolledDrain, A: Allocator> {
 /// Seen as its visit shows itself, with what its replies wait for and what left.
 impl<S: PolledSource, D: PolledDrain, A: Allocator> Model for Held<S, D, A> {
     ghost use Rattle.connections.specs.HeldConnections.{HeldState};
-    ghost use Rattle.connections.specs.ConnectionTurnState.{visit_state, told_by_outbox};
+    ghost use Rattle.connection_turns.specs.ConnectionTurnState.{visit_state, told_by_outbox};
 
     ghost Value = { HeldState };
 
@@ -114,7 +113,7 @@ impl<S: PolledSource, D: PolledDrain, A: Allocator + Copy> Held<S, D, A> {
     where
         S: Watched,
     {
-        self.visit.set_waiting(waits)
+        self.visit.source().set_waiting(waits)
     }
 
     /// The number of the last record that its replies wait for, 0 for none.

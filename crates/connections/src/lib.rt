@@ -10,27 +10,20 @@
 //! end of the round a [`Settle`] settles the records of all that wait.
 #![tactic(auto)]
 
-mod buffers;
-mod connection_in_turns;
 mod held_connection;
 mod keep_alive_and_descriptors;
 mod many;
-mod replies;
-mod settle_records;
 mod slots;
 mod traffic;
-mod turn_limits;
 mod turn_lists;
 mod watch;
 mod yields;
 
-pub use buffers::Buffers;
-pub use connection_in_turns::{Next, Stage, Visit};
+pub use connection_turns::{AtOnce, Next, Settle, Stage, Visit};
 pub use keep_alive_and_descriptors::{descriptor_limit, keep_alive};
 pub use many::Connections;
-pub use settle_records::{AtOnce, Settle};
-pub use turn_limits::{
-    MOST_HELD, MOST_PARTS, MOST_REQUESTS, Moment, PART_MICROS, SETTLED_PART_MICROS,
+pub use turn_resources::{
+    Buffers, MOST_HELD, MOST_PARTS, MOST_REQUESTS, Moment, PART_MICROS, SETTLED_PART_MICROS,
 };
 pub use watch::{Ringer, Watched};
 pub use yields::Yields;

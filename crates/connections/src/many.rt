@@ -3,21 +3,20 @@
 ghost use Rattle.std.specs.Prelude.{◌≡◌, IfOk};
 ghost use Rattle.session_core.specs.Interleaved.{StateMoves};
 ghost use Rattle.connections.specs.Places.{IsGrown};
-ghost use Rattle.connections.specs.HeldConnections.{AllGoOn, AllMayLeave, AllWait, HaveLeft, IsAdded, RisesBy, no_connections};
-ghost use Rattle.connections.specs.ConnectionTurnState.{new_state};
+ghost use Rattle.connections.specs.HeldConnections.{AllGoOn, AllMayLeave, AllWait, HaveLeft, IsAdded, no_connections};
+ghost use Rattle.connection_turns.specs.ConnectionTurnState.{new_state};
+ghost use Rattle.connection_turns.specs.SettledRecords.{RisesBy};
 
 mod blocking_reads_when_alone;
 mod serving;
 
-use crate::buffers::Buffers;
 use crate::held_connection::Held;
 use crate::many::blocking_reads_when_alone::WaitingReads;
-use crate::settle_records::{Settle, settle_to};
 use crate::slots::Slots;
-use crate::turn_limits::Moment;
 use crate::turn_lists::TurnLists;
 use crate::watch::{Ringer, Watch, Watched};
 use crate::yields::Yields;
+use connection_turns::{Settle, settle_to};
 use resp_wire::{PolledDrain, PolledSource};
 use session_core::Exec;
 use std::alloc::{AllocError, Allocator};
@@ -25,6 +24,7 @@ use std::marker::Model;
 use std::net::Net;
 use std::time::{Clock, Duration, Instant};
 use std::{io, mem};
+use turn_resources::{Buffers, Moment};
 
 /// After so many seconds it is looked again which connections were silent for too long.
 const LOOKS_AFTER: u64 = 1;

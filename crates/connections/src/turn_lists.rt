@@ -1,8 +1,8 @@
 //! The lists in which the connections of a worker wait for their turns.
 
-use crate::connection_in_turns::Next;
 use crate::traffic::Traffic;
 use crate::watch::Watch;
+use connection_turns::Next;
 use std::alloc::{AllocError, Allocator};
 use std::collections::VecDeque;
 use std::os::fd::RawFd;

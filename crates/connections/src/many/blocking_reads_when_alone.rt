@@ -4,12 +4,12 @@ ghost use Rattle.std.specs.Prelude.{◌≡◌};
 ghost use Rattle.connections.specs.HeldConnections.{TurnsAreTaken};
 
 use crate::many::Connections;
-use crate::turn_limits::Moment;
 use crate::watch::Watched;
 use resp_wire::{PolledDrain, PolledSource};
 use session_core::Exec;
 use std::alloc::Allocator;
 use std::time::Clock;
+use turn_resources::Moment;
 
 /// Reads of a worker's only connection wait after so many turns in a row in which bytes moved. A client that asks seldom
 /// costs one wait in vain for as many requests.

@@ -3,15 +3,15 @@
 ghost use Rattle.std.specs.Prelude.{◌≡◌};
 ghost use Rattle.connections.specs.HeldConnections.{TurnsAreTaken};
 
-use crate::connection_in_turns::Next;
 use crate::many::Connections;
 use crate::traffic::Traffic;
-use crate::turn_limits::{MOST_PARTS, Moment};
 use crate::watch::Watched;
+use connection_turns::Next;
 use resp_wire::{PolledDrain, PolledSource};
 use session_core::{Exec, takes_turns};
 use std::alloc::Allocator;
 use std::time::Clock;
+use turn_resources::{MOST_PARTS, Moment};
 
 impl<S: PolledSource + Watched + Drop, D: PolledDrain + Drop, A: Allocator + Copy> Connections<
     S,

@@ -1,5 +1,6 @@
 use Rattle.std.proofs.Common.{sym, subst}
-use Rattle.connections.specs.HeldConnections.{HeldConnections, AllMayLeave, RisesBy}
+use Rattle.connections.specs.HeldConnections.{HeldConnections, AllMayLeave}
+use Rattle.connection_turns.specs.SettledRecords.{RisesBy}
 use Rattle.connections.proofs.HeldLemmas.{may_leave_refl, may_leave_trans, rises_refl, rises_trans}
 use Rattle.connections.proofs.many.Connections.let_go_settled.Goals as goal
 

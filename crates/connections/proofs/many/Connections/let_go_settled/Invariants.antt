@@ -1,4 +1,5 @@
-use Rattle.connections.specs.HeldConnections.{AllMayLeave, RisesBy}
+use Rattle.connections.specs.HeldConnections.{AllMayLeave}
+use Rattle.connection_turns.specs.SettledRecords.{RisesBy}
 use Rattle.connections.proofs.many.Connections.let_go_settled.Given as goal
 
 abbrev pub invariant-loop-place : goal.invariant-loop-place

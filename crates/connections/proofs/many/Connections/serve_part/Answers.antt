@@ -1,6 +1,6 @@
 use Rattle.std.proofs.Common.{◌≡◌, ◌<◌, ℕ, refl, ◌∙◌, sym, subst, box_value}
 use Rattle.session_core.proofs.Interleaving.{moves-refl}
-use Rattle.connections.specs.ConnectionTurnState.{GoesOn}
+use Rattle.connection_turns.specs.ConnectionTurnState.{GoesOn}
 use Rattle.connections.specs.HeldConnections.{HeldState, ConnectionWaits, AllWait}
 use Rattle.connections.proofs.PlaceLemmas.{all_shown}
 use Rattle.connections.proofs.HeldLemmas.{others_served, left_by, became_by, turns_refl}

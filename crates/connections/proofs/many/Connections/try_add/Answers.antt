@@ -1,7 +1,7 @@
 use Rattle.std.proofs.Common.{◌∙◌, refl, sym, subst, List, Option, None, inr, box_value}
 use Rattle.connections.specs.Places.{MayPut}
 use Rattle.connections.specs.HeldConnections.{HeldState, Begins}
-use Rattle.connections.specs.ConnectionTurnState.{new_state}
+use Rattle.connection_turns.specs.ConnectionTurnState.{new_state}
 use Rattle.connections.proofs.PlaceLemmas.{all_shown, shown_put}
 use Rattle.connections.proofs.many.Connections.try_add.Goals as goal
 

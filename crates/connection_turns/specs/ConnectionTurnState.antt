@@ -11,10 +11,10 @@ use Rattle.session_core.specs.declared.resumable_session.Progress.{Progress}
 use Rattle.session_core.specs.SessionEnd.{Served}
 use Rattle.session_core.specs.ServeSteps.{SessionIsBetweenReads, SessionUnderway, fed}
 use Rattle.session_core.specs.Interleaved.{PartWay, Talk}
-use Rattle.connections.specs.declared.connection_in_turns.Next.{Next}
-use Rattle.connections.specs.declared.connection_in_turns.Next.TheVariants.{Settles}
-use Rattle.connections.specs.declared.connection_in_turns.Stage.{Stage}
-use Rattle.connections.specs.declared.connection_in_turns.Stage.TheVariants.{Reads, Runs, Ended}
+use Rattle.connection_turns.specs.declared.connection_in_turns.Next.{Next}
+use Rattle.connection_turns.specs.declared.connection_in_turns.Next.TheVariants.{Settles}
+use Rattle.connection_turns.specs.declared.connection_in_turns.Stage.{Stage}
+use Rattle.connection_turns.specs.declared.connection_in_turns.Stage.TheVariants.{Reads, Runs, Ended}
 
 -- a session can go on, and its numbers are small: so many pieces came, of 65,536 bytes at most
 pub record IsOpen (wire : DecoderView) (progress : Progress) (pieces : ℕ) : Type 0 where

@@ -1,7 +1,7 @@
 use Rattle.std.proofs.Common.{refl, Ok, Err, true, false}
 use Rattle.session_core.proofs.Interleaving.{moves-refl}
-use Rattle.connections.proofs.VisitLemmas.{runs_on, moves_on}
-use Rattle.connections.proofs.connection_in_turns.Visit.run.Goals as goal
+use Rattle.connection_turns.proofs.VisitLemmas.{runs_on, moves_on}
+use Rattle.connection_turns.proofs.connection_in_turns.Visit.run.Goals as goal
 
 pub loop-count-init : goal.loop-count-init
 loop-count-init g c = record {

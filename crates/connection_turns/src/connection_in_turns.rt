@@ -2,22 +2,20 @@
 
 ghost use Rattle.std.specs.Prelude.{◌≡◌, ◌≤◌, ◌<◌, ◌^◌, ◌⊎◌, false, length};
 ghost use Rattle.session_core.specs.Interleaved.{StateMoves};
-ghost use Rattle.connections.specs.declared.connection_in_turns.Next.TheVariants.{Ends, Settles};
-ghost use Rattle.connections.specs.declared.connection_in_turns.Stage.TheVariants.{Reads, Runs};
-ghost use Rattle.connections.specs.ConnectionTurnState.{VisitIsSound, IsTaken, GoesOn, WaitsForTold, visit_state, new_state};
+ghost use Rattle.connection_turns.specs.declared.connection_in_turns.Next.TheVariants.{Ends, Settles};
+ghost use Rattle.connection_turns.specs.declared.connection_in_turns.Stage.TheVariants.{Reads, Runs};
+ghost use Rattle.connection_turns.specs.ConnectionTurnState.{VisitIsSound, IsTaken, GoesOn, WaitsForTold, visit_state, new_state};
 
 mod sending;
 
-use crate::buffers::Buffers;
-use crate::replies::Replies;
-use crate::turn_limits::{
-    MOST_HELD, MOST_REQUESTS, Moment, PART_MICROS, PartTime, SETTLED_PART_MICROS, UNWAITED_PARTS,
-};
-use crate::watch::Watched;
 use resp_wire::{ByteDrain, ByteSource, MAX_READS, PolledDrain, PolledSource};
 use session_core::{Ended, Exec, Session, SessionFault, takes_turns};
 use std::alloc::Allocator;
 use std::time::Clock;
+use turn_resources::{
+    Buffers, MOST_HELD, MOST_REQUESTS, Moment, PART_MICROS, PartTime, Replies, SETTLED_PART_MICROS,
+    UNWAITED_PARTS,
+};
 
 /// How far a visit is.
 #[derive(Clone, Copy, Debug, PartialEq, Eq)]
@@ -113,12 +111,11 @@ impl<S: PolledSource, D: PolledDrain, A: Allocator + Copy> Visit<S, D, A> {
         self.is_drained = false;
     }
 
-    /// Has reads wait for bytes or no longer, as [`Watched::set_waiting`] says.
-    pub fn set_waiting(&self, waits: bool) -> bool
-    where
-        S: Watched,
+    /// Where its bytes come from.
+    pub fn source(&self) -> &S
+        ensures source { result.now ≡ self.now.source }
     {
-        self.source.set_waiting(waits)
+        &self.source
     }
 
     /// Whether bytes came or went since this was last asked.

@@ -1,5 +1,5 @@
 use Rattle.session_core.proofs.Interleaving.{moves-refl}
-use Rattle.connections.proofs.connection_in_turns.Visit.run_held.Goals as goal
+use Rattle.connection_turns.proofs.connection_in_turns.Visit.run_held.Goals as goal
 
 pub returns-else-eq-clause-moves : goal.returns-else-eq-clause-moves
 returns-else-eq-clause-moves g c = moves-refl g.E.Exec.allows _

@@ -1,6 +1,6 @@
 //! How long a turn of a connection may be.
 
-ghost use Rattle.std.specs.Prelude.{◌≡◌, false};
+ghost use Rattle.std.specs.Prelude.{◌≡◌, ◌+◌, ◌<◌, ◌^◌, None, false, true, unwrap_or};
 
 use std::time::{Clock, Duration, Instant};
 
@@ -90,7 +90,12 @@ pub struct PartTime<'c, C> {
 
 impl<'c, C: Clock> PartTime<'c, C> {
     /// Of a part that begins now, with the request of this number, and takes so many microseconds.
-    pub fn new(clock: &'c C, most_micros: u64, first: u32, may_be_long: bool) -> Self {
+    pub fn new(clock: &'c C, most_micros: u64, first: u32, may_be_long: bool) -> Self
+        ensures unknown { (result.may_be_long ≡ may_be_long) × (result.were_long ≡ None) }
+        // The clock is looked at behind the first request where that may be long, else behind the second.
+        ensures at_once { may_be_long ≡ true → result.next ≡ first }
+        ensures later { may_be_long ≡ false → first + 1 < 2 ^ 32 → result.next ≡ first + 1 }
+    {
         PartTime {
             clock,
             most: Duration::from_micros(most_micros),
@@ -106,12 +111,18 @@ impl<'c, C: Clock> PartTime<'c, C> {
     }
 
     /// Whether it is over behind the request of this number, or can't be told.
-    pub fn is_over(&mut self, number: u32) -> bool {
+    pub fn is_over(&mut self, number: u32) -> bool
+        // Before the next look it is not.
+        ensures early { number < self.old.next → (result ≡ false) × (self.new ≡ self.old) }
+        ensures known { self.new.may_be_long ≡ self.old.may_be_long }
+    {
         number >= self.next && self.look(number)
     }
 
     /// Looks at the clock. Whether the time is up, or can't be told.
-    fn look(&mut self, number: u32) -> bool {
+    fn look(&mut self, number: u32) -> bool
+        ensures known { self.new.may_be_long ≡ self.old.may_be_long }
+    {
         let (Some((begun, last)), Ok(now)) = (self.looks, Instant::now(self.clock)) else {
             return true;
         };
@@ -121,7 +132,9 @@ impl<'c, C: Clock> PartTime<'c, C> {
     }
 
     /// Notes how long the requests since the last look took, up to the one of this number.
-    fn note_time(&mut self, number: u32, took: Duration) {
+    fn note_time(&mut self, number: u32, took: Duration)
+        ensures known { self.new.may_be_long ≡ self.old.may_be_long }
+    {
         let were_long = took >= Duration::from_micros(LONG_MICROS) || self.were_long == Some(true);
         let step = if were_long || self.may_be_long {
             1
@@ -133,7 +146,9 @@ impl<'c, C: Clock> PartTime<'c, C> {
     }
 
     /// Whether the connection's next requests may be long: some of these were, or it is not known.
-    pub fn next_may_be_long(&self) -> bool {
+    pub fn next_may_be_long(&self) -> bool
+        ensures { result ≡ unwrap_or self.now.were_long self.now.may_be_long }
+    {
         self.were_long.unwrap_or(self.may_be_long)
     }
 }

@@ -10,9 +10,9 @@ use Rattle.session_core.specs.declared.resumable_session.Progress.{Progress}
 use Rattle.session_core.specs.ServeSteps.{SessionUnderway}
 use Rattle.session_core.specs.Interleaved.{PartWay, StateMoves, Talk, Turn, TakesTurns}
 use Rattle.session_core.proofs.Interleaving.{moves-trans, moved_by}
-use Rattle.connections.specs.declared.connection_in_turns.Stage.{Stage}
-use Rattle.connections.specs.declared.connection_in_turns.Stage.TheVariants.{Reads, Runs, Ended}
-use Rattle.connections.specs.ConnectionTurnState.{IsTaken, Stands, GoesOn, VisitState, visit_state}
+use Rattle.connection_turns.specs.declared.connection_in_turns.Stage.{Stage}
+use Rattle.connection_turns.specs.declared.connection_in_turns.Stage.TheVariants.{Reads, Runs, Ended}
+use Rattle.connection_turns.specs.ConnectionTurnState.{IsTaken, Stands, GoesOn, VisitState, visit_state}
 
 module _ {S : Type 0} (allows : S → Asked → Result Response Refusal → S → Type 0) where
   -- a piece was read

@@ -1,9 +1,9 @@
 use Rattle.std.proofs.Common.{◌≡◌, drop}
 use Rattle.std.specs.Io.KnownBytes.{append_known}
 use Rattle.session_core.specs.Interleaved.{StateMoves}
-use Rattle.connections.specs.declared.connection_in_turns.Stage.TheVariants.{Runs}
-use Rattle.connections.specs.ConnectionTurnState.{GoesOn, visit_state}
-use Rattle.connections.proofs.connection_in_turns.Visit.run.Given as goal
+use Rattle.connection_turns.specs.declared.connection_in_turns.Stage.TheVariants.{Runs}
+use Rattle.connection_turns.specs.ConnectionTurnState.{GoesOn, visit_state}
+use Rattle.connection_turns.proofs.connection_in_turns.Visit.run.Given as goal
 
 abbrev pub invariant-loop-count : goal.invariant-loop-count
 invariant-loop-count g l = record {

@@ -1,5 +1,5 @@
-use Rattle.connections.proofs.VisitLemmas.{takes}
-use Rattle.connections.proofs.connection_in_turns.Visit.read.Goals as goal
+use Rattle.connection_turns.proofs.VisitLemmas.{takes}
+use Rattle.connection_turns.proofs.connection_in_turns.Visit.read.Goals as goal
 
 pub returns-after-self-clause-goes_on : goal.returns-after-self-clause-goes_on
 returns-after-self-clause-goes_on g c start source₀ drain₀ stands =

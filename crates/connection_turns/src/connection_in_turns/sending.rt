@@ -1,13 +1,13 @@
 //! How the replies of a connection leave.
 
 ghost use Rattle.std.specs.Prelude.{◌≡◌, ◌<◌};
-ghost use Rattle.connections.specs.declared.connection_in_turns.Next.TheVariants.{Settles};
-ghost use Rattle.connections.specs.ConnectionTurnState.{visit_state};
+ghost use Rattle.connection_turns.specs.declared.connection_in_turns.Next.TheVariants.{Settles};
+ghost use Rattle.connection_turns.specs.ConnectionTurnState.{visit_state};
 
 use crate::connection_in_turns::{Next, Stage, Visit};
-use crate::replies::Replies;
 use resp_wire::{ByteDrain, PolledDrain, PolledSource};
 use std::alloc::Allocator;
+use turn_resources::Replies;
 
 impl<S: PolledSource, D: PolledDrain, A: Allocator + Copy> Visit<S, D, A> {
     /// Sends what is held. None where the drain failed.

@@ -1,6 +1,6 @@
 use Rattle.session_core.proofs.Interleaving.{moves-refl}
-use Rattle.connections.proofs.VisitLemmas.{same_goes, goes_still}
-use Rattle.connections.proofs.connection_in_turns.Visit.turn.Goals as goal
+use Rattle.connection_turns.proofs.VisitLemmas.{same_goes, goes_still}
+use Rattle.connection_turns.proofs.connection_in_turns.Visit.turn.Goals as goal
 
 pub returns-then-self-settled-clause-moves : goal.returns-then-self-settled-clause-moves
 returns-then-self-settled-clause-moves g c = moves-refl g.E.Exec.allows _

@@ -1,7 +1,7 @@
 //! Records that are settled later than they are appended.
 
 ghost use Rattle.std.specs.Prelude.{◌≡◌, ◌≢◌, ◌≤◌, ℕ, IfSome, ⊤};
-ghost use Rattle.connections.specs.HeldConnections.{RisesBy};
+ghost use Rattle.connection_turns.specs.SettledRecords.{RisesBy};
 
 /// Settles records, which are numbered from 1 on: until a record is settled, no reply leaves that may tell of it.
 /// `R` is the runtime, for those that wait for others.

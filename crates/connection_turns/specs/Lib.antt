@@ -1,0 +1,2 @@
+pub mod ConnectionTurnState
+pub mod SettledRecords
