@@ -250,7 +250,7 @@ impl<H: BuildHasher, L: Ledger, A: Allocator + Copy> Cell<H, L, A> {
         let _pivots = self.sorted_set.column().pivot_list();
     }
 
-    /// Whether the cell and a pass's shares tell the same numbers.
+    /// Whether the cell and a pass's shares tell the same numbers. Public only for `table_lifetime`.
     pub fn is_in_step(&self, shares: &Shares) -> bool
         ensures { IsTrue result ↔ InStep self.now shares.now }
     {

@@ -83,7 +83,7 @@ impl<A: Allocator> Pass<A> {
         }
     }
 
-    /// What it was answered at a place.
+    /// What it was answered at a place. Only for `table_lifetime`.
     pub fn share(&self, place: usize) -> &Shares
         requires { place < length self.now.shares }
         ensures { result.now ≡ get_or self.now.shares place no_share }

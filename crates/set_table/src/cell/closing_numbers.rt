@@ -23,7 +23,7 @@ pub struct CellNumbers {
 }
 
 impl<H: BuildHasher, L: Ledger, A: Allocator + Copy> Cell<H, L, A> {
-    /// The cell's numbers.
+    /// The cell's numbers. Only for `table_lifetime`.
     pub fn numbers(&self) -> CellNumbers
         ensures numbers { result ≡ record {
           members = map.len self.now.sorted_set.members;
@@ -43,7 +43,7 @@ impl<H: BuildHasher, L: Ledger, A: Allocator + Copy> Cell<H, L, A> {
         }
     }
 
-    /// Whether it has a tally for each of so many passes, and none besides.
+    /// Whether it has a tally for each of so many passes, and none besides. Only for `table_lifetime`.
     pub fn has_tallies(&self, passes: usize) -> bool
         ensures { IsTrue result ↔ (length self.now.tallies ≡ passes) }
     {
