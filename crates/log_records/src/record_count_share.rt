@@ -52,7 +52,7 @@ impl<L: Ledger> RecordShare<L> {
         self.last
     }
 
-    // One record more, in the share and in the book: the log's record of this number.
+    /// One record more, in the share and in the book: the log's record of this number.
     pub fn rise(&mut self, book: &mut Book<L>, number: u64)
         requires { book.old.total < 2 ^ 40 }
         ensures share { self.new ≡ self.old + 1 }
