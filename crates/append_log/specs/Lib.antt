@@ -6,6 +6,7 @@ pub use Rattle.log_records.specs.LogViewAndSteps
 pub use Rattle.log_records.specs.ReloadOutcome
 pub use Rattle.log_records.specs.ReloadSteps
 pub use Rattle.log_records.specs.LoggedOwnerViewAndRuns
+pub mod LoggedAnswers
 pub use Rattle.log_records.specs.Dump
 pub use Rattle.log_records.specs.EffectRecords
 pub use Rattle.log_records.specs.RewriteOutcome

@@ -7,6 +7,7 @@
 //! that was answered.
 #![tactic(auto)]
 
+mod executor;
 mod group_commit;
 mod loading;
 mod log;

@@ -1,18 +1,13 @@
 //! What runs commands.
 
-ghost use Rattle.std.specs.Prelude.{◌≡◌, ℕ, Result, ⊤};
+ghost use Rattle.std.specs.Prelude.{◌≡◌, ℕ, Result};
 ghost use Rattle.resp_wire.specs.Response.{Response};
 ghost use Rattle.zset_commands.specs.AbstractCommand.{Asked};
 ghost use Rattle.zset_commands.specs.declared.refusal.Refusal.{Refusal as RefusalValue};
-ghost use Rattle.command_executor.specs.OwnerAnswers.{OwnerIsIdle, OwnerAnswers, LoggedAnswers};
 ghost use Rattle.command_executor.specs.Answer.{answer_of};
 
-use append_log::{LogSink, LoggedOwner};
 use resp_wire::Reply;
-use sorted_sets::OneOwner;
 use std::alloc::Allocator;
-use std::hash::BuildHasher;
-use std::sync::ledger::Ledger;
 use zset_commands::{Command, Refusal};
 
 /// What runs commands: one owner of sets, with an append file or without, or a worker on a shared
@@ -39,43 +34,4 @@ pub trait Exec<R, A: Allocator> {
     fn take_told(&mut self) -> u64
         ensures same { self.new ≡ self.old }
         ensures told { tells self.old result };
-}
-
-/// One owner of sets: a command is answered by its definition, or refused with all sets as they
-/// were.
-impl<R, H: BuildHasher + Clone + Drop, A: Allocator + Copy> Exec<R, A> for OneOwner<H, A> {
-    ghost settled = { OwnerIsIdle };
-
-    ghost allows = { OwnerAnswers };
-
-    // It has no log.
-    ghost tells = { λ _ told. told ≡ 0 };
-
-    fn run(&mut self, _rt: &R, command: &Command<A>) -> Result<Reply<A>, Refusal> {
-        OneOwner::run(self, command)
-    }
-
-    fn take_told(&mut self) -> u64 {
-        0
-    }
-}
-
-/// An owner with an append file: a command that changes sets is answered once its record was appended: synced, unless its
-/// log is deferred. Then its answers wait for [`LoggedOwner::sync`].
-impl<R, H: BuildHasher + Clone + Drop, S: LogSink, L: Ledger, A: Allocator + Copy> Exec<R, A>
-    for LoggedOwner<H, S, L, A> {
-    ghost settled = { λ _. ⊤ };
-
-    ghost allows = { LoggedAnswers };
-
-    // None waits here: its owner settles them.
-    ghost tells = { λ _ told. told ≡ 0 };
-
-    fn run(&mut self, _rt: &R, command: &Command<A>) -> Result<Reply<A>, Refusal> {
-        LoggedOwner::run(self, command)
-    }
-
-    fn take_told(&mut self) -> u64 {
-        0
-    }
 }

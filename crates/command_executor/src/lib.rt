@@ -1,4 +1,5 @@
-//! What runs the commands of sessions: a trait, by which a session knows an executor, and owners of sets as such.
+//! What runs the commands of sessions: a trait, by which a session knows an executor. Owners of sets are such where they
+//! stand: `sorted_sets` has the one, `append_log` the one with an append file.
 #![tactic(auto)]
 
 mod command_executor;

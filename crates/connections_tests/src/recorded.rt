@@ -1,7 +1,7 @@
 //! An executor whose changes have records, what settles them, and a page on which all is written that leaves.
 
 ghost use Rattle.std.specs.Prelude.{⊤};
-ghost use Rattle.command_executor.specs.OwnerAnswers.{OwnerIsIdle, OwnerAnswers};
+ghost use Rattle.sorted_sets.specs.OwnerAnswers.{OwnerIsIdle, OwnerAnswers};
 
 use crate::devices::Sender;
 use connections::{Settle, Watched};

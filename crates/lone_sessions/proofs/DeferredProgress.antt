@@ -10,7 +10,7 @@ use Rattle.session_core.specs.declared.session_end.Ended.{Ended}
 use Rattle.session_core.specs.declared.session_end.SessionFault.{SessionFault}
 use Rattle.session_core.specs.declared.session_end.SessionFault.TheVariants.{NoMemory, ReadFault, WriteFault, Wire, TooManyReads}
 use Rattle.session_core.specs.declared.resumable_session.Progress.{Progress}
-use Rattle.command_executor.specs.OwnerAnswers.{LoggedAnswers}
+use Rattle.append_log.specs.LoggedAnswers.{LoggedAnswers}
 use Rattle.session_core.specs.Exchange.{Exchanges}
 use Rattle.session_core.specs.SessionEnd.{Served}
 use Rattle.session_core.specs.SendOutcome.{DrainFailed, SessionSourceFailed, SentOn}

@@ -4,7 +4,7 @@ use Rattle.resp_wire.specs.DecoderView.{DecoderView}
 use Rattle.resp_wire.specs.Response.{Response}
 use Rattle.append_log.specs.LoggedOwnerViewAndRuns.{LoggedView}
 use Rattle.held_replies.specs.OwnerSync.{IsSynced}
-use Rattle.command_executor.specs.OwnerAnswers.{LoggedAnswers}
+use Rattle.append_log.specs.LoggedAnswers.{LoggedAnswers}
 use Rattle.session_core.specs.declared.session_end.Ended.{Ended}
 use Rattle.session_core.specs.declared.session_end.SessionFault.{SessionFault}
 use Rattle.session_core.specs.declared.resumable_session.Progress.{Progress}

@@ -17,7 +17,7 @@ use Rattle.log_records.specs.declared.dumping.RewriteFault.TheVariants as rewrit
 use Rattle.append_file.specs.declared.new_file.NewFileFault.{NewFileFault}
 use Rattle.append_file.specs.declared.new_file.NewFileFault.TheVariants as new_file_faults
 use Rattle.resp_wire.specs.Response.{Response}
-use Rattle.command_executor.specs.OwnerAnswers.{LoggedAnswers}
+use Rattle.append_log.specs.LoggedAnswers.{LoggedAnswers}
 use Rattle.session_core.specs.Exchange.{Exchanges}
 use Rattle.lone_sessions.specs.ExchangesBetweenSyncs.{TalkBetweenSyncs}
 use Rattle.exit_lines.specs.DeviceStates.{SourceState, DrainState}

@@ -1,4 +1,5 @@
 pub mod SetAndOwnerViews
+pub mod OwnerAnswers
 pub mod MembersWithStagedScores
 pub mod Plan
 pub mod SetViewAndInvariant

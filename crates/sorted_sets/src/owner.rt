@@ -14,6 +14,7 @@ ghost use Rattle.zset_core.specs.SetsByKey.{key_behind, put_set, set_at};
 ghost use Rattle.zset_core.specs.Semantics.{act};
 
 mod boxed_set;
+mod executor;
 mod keys_in_order;
 mod new_empty_set;
 mod prepare_and_commit;
