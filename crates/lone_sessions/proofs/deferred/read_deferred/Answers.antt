@@ -2,6 +2,7 @@ use Rattle.std.proofs.Common.{◌≡◌, ℕ, subst, ap, ◌∙◌, sym, refl, t
 use Rattle.std.specs.Io.KnownBytes.{prepend_known}
 use Rattle.resp_wire.proofs.CallerLemmas.{err_is}
 use Rattle.session_core.specs.declared.session_end.SessionFault.TheVariants.{NoMemory, ReadFault, WriteFault}
+use Rattle.std.proofs.lemmas.Grind.{common_steps}
 use Rattle.lone_sessions.proofs.DeferredProgress.{synced_way, unsent_way, read_fails, read_ends, read_piece, read_unfed, at_fault, unread}
 use Rattle.lone_sessions.proofs.deferred.read_deferred.Goals as goal
 
@@ -45,3 +46,15 @@ pub returns-in_ok-answer_deferred-in-Ok-clause-at : goal.returns-in_ok-answer_de
 returns-in_ok-answer_deferred-in-Ok-clause-at g c = λ start source₀ drain₀ way.
     let cuts = c.cut.ensures in
     c.in_ok-answer_deferred-in-Ok.ensures.past start source₀ _ drain₀ (rw (c.in_ok-feed-in-Ok.ensures.fed, c.feed.ensures.progress) (read_piece start source₀ drain₀ _ _ _ _ _ _ (synced_way start source₀ drain₀ _ _ _ _ _ c.let_go.ensures.synced c.let_go.ensures.told _ _ way) cuts.requests_are cuts.rest_is cuts.fault_is (take c.in-Ok.n c.read.new.buffer) c.in-Ok.ensures.told))
+
+pub feed-requires-clause-small : goal.feed-requires-clause-small
+feed-requires-clause-small g c = grind (arith, common_steps)
+
+pub returns-in_err-feed-in-Ok-clause-source_failures : goal.returns-in_err-feed-in-Ok-clause-source_failures
+returns-in_err-feed-in-Ok-clause-source_failures g c = grind (arith, common_steps)
+
+pub answer_deferred-requires : goal.answer_deferred-requires
+answer_deferred-requires g c = grind (arith, common_steps)
+
+pub returns-in_ok-answer_deferred-in-Ok-clause-small : goal.returns-in_ok-answer_deferred-in-Ok-clause-small
+returns-in_ok-answer_deferred-in-Ok-clause-small g c = grind (arith, common_steps)

@@ -1,5 +1,7 @@
+use Rattle.std.proofs.Common.{arith}
 use Rattle.resp_wire.proofs.CallerLemmas.{gave_at, waits_at, stops_at}
 use Rattle.log_records.proofs.HeldReplay.{waits, gave_taken, damaged, gives, no_command, unknown}
+use Rattle.std.proofs.lemmas.Grind.{common_steps}
 use Rattle.append_log.proofs.loading.Reloader.replay_next.Goals as goal
 
 pub returns-in-Err-Protocol-clause-stepped : goal.returns-in-Err-Protocol-clause-stepped
@@ -50,3 +52,12 @@ returns-in-Err-UnknownVersion-clause-stepped g c = λ start bytes h.
     let gave = gave_at old new c.requires.ready.unfaulted c.in-Ok-Some.field-0 words c.in-Ok-Some.field-0-is c.in-Ok-Some.ensures.next in
     let cause = rw c.in-Err-UnknownVersion.field-0-is at c.in-Err-UnknownVersion.ensures.cause in
     unknown c.longest.ensures.whole c.longest.ensures.most cuts.requests_are cuts.rest_is cuts.fault_is start bytes old new _ _ _ h c.in-Ok-Some.ensures.taken words gave.0 _ c.in-Err-UnknownVersion.ensures.err cause.0 cause.1 cause.2
+
+pub overflow_sub-result : goal.overflow_sub-result
+overflow_sub-result g c = grind (arith, common_steps)
+
+pub returns-in-Ok-None-clause-ready : goal.returns-in-Ok-None-clause-ready
+returns-in-Ok-None-clause-ready g c = grind (arith, common_steps)
+
+pub returns-in-Ok-clause-ready : goal.returns-in-Ok-clause-ready
+returns-in-Ok-clause-ready g c = grind (arith, common_steps)

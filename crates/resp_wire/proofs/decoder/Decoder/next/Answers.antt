@@ -1,4 +1,5 @@
 use Rattle.std.proofs.Common.{◌≡◌, ◌+◌, ◌++◌, drop, refl, sym, ap, ◌∙◌, Some, arith}
+use Rattle.std.proofs.lemmas.Grind.{common_steps}
 use Rattle.resp_wire.specs.declared.decoder_steps.End.TheVariants as ends
 use Rattle.resp_wire.specs.declared.fault.Stop.TheVariants as stops
 use Rattle.resp_wire.specs.DecoderView.{DecoderView, begun}
@@ -122,3 +123,12 @@ returns-in-Wrong-clause-failed g c =
 pub returns-in-Memory-clause-failed : goal.returns-in-Memory-clause-failed
 returns-in-Memory-clause-failed g c =
     some_at _ c.args.self.now.fault (ap (λ (w : DecoderView). w.fault) (sym c.self.view_is) ∙ c.in_default.is)
+
+pub invariant_of-self : goal.invariant_of-self
+invariant_of-self g c = grind (arith, common_steps)
+
+pub of-requires : goal.of-requires
+of-requires g c = grind (arith, common_steps)
+
+pub invariant_of-self-in-Whole : goal.invariant_of-self-in-Whole
+invariant_of-self-in-Whole g c = grind (arith, common_steps)
