@@ -1,27 +1,39 @@
 //! Few rows leave from the midst of many: by a gap that is carried over few pieces, or by closing up where the pieces
 //! are many beside the rows.
 
-use crate::rows::{RISING, Ranges, Scores, add_each, count_each, has_rows, scores_of};
+use crate::rows::{RISING, Ranges, Scores, add_each, count_each, has_rows};
 use crate::steps::is_removed;
+use crack_kernel::Row;
 use ripple_column::Column;
 use score_bounds::{Bound, Range};
 use std::alloc::{AllocError, Global};
 use std::test::Fail;
 
-// The scores of the rows of a column, in the order of these.
-fn in_order(alloc: Global, column: &Column<Global>) -> Result<Vec<i64>, AllocError> {
-    scores_of(alloc, column.rows(0, column.len()))
-}
-
-// Scores but those from `low` on and below `high`.
-fn without(alloc: Global, scores: &[i64], low: i64, high: i64) -> Result<Vec<i64>, AllocError> {
+// The scores of rows, in the order of these, but those from `low` on and below `high`.
+fn without(
+    alloc: Global,
+    rows: &[Row<Global>],
+    low: i64,
+    high: i64,
+) -> Result<Vec<i64>, AllocError> {
     let mut others = Vec::new(alloc);
-    for score in scores {
-        if *score < low || *score >= high {
-            others.push(*score)?;
+    for row in rows {
+        let score = row.score();
+        if score < low || score >= high {
+            others.push(score)?;
         }
     }
     Ok(others)
+}
+
+// Whether rows have just these scores, in this order.
+fn have_scores(rows: &[Row<Global>], scores: &[i64]) -> bool {
+    for (row, score) in rows.iter().zip(scores.iter()) {
+        if row.score() != *score {
+            return false;
+        }
+    }
+    rows.len() == scores.len()
 }
 
 // Selects the scores from one on and below another.
@@ -30,6 +42,14 @@ fn select(column: &mut Column<Global>, low: i64, high: i64) -> Result<(), AllocE
         min: Bound::Incl(low),
         max: Bound::Excl(high),
     })?;
+    Ok(())
+}
+
+// Selects the first score from `low` on, the first two, and those below `high`, so that there are pivots inside.
+fn part(column: &mut Column<Global>, low: i64, high: i64) -> Result<(), AllocError> {
+    for end in [low.saturating_add(1), low.saturating_add(2), high] {
+        select(column, low, end)?;
+    }
     Ok(())
 }
 
@@ -51,14 +71,11 @@ fn have_left(
 ) -> Result<bool, AllocError> {
     let (low, width, is_carried) = *leaving;
     let high = low.saturating_add(i64::from(width));
-    for end in [low.saturating_add(1), low.saturating_add(2), high] {
-        select(column, low, end)?;
-    }
-    let before = in_order(alloc, column)?;
-    let mut left = without(alloc, &before, low, high)?;
+    part(column, low, high)?;
+    let mut left = without(alloc, column.rows(0, column.len()), low, high)?;
     let (min, max) = (Bound::Incl(low), Bound::Excl(high));
     let is_done = is_removed(column, min, max, usize::from(width))?;
-    let keeps_order = in_order(alloc, column)?.as_slice() == left.as_slice();
+    let keeps_order = have_scores(column.rows(0, column.len()), &left);
     left.sort_unstable();
     Ok(is_done && keeps_order != is_carried && has_rows(alloc, column, scores, &left)?)
 }
@@ -88,7 +105,9 @@ fn count_left(
 // The same of a new column.
 fn count_left_anew(alloc: Global, shape: &Shape, all: &[Leaving]) -> Result<usize, AllocError> {
     let mut column = Column::new(alloc);
-    count_left(alloc, &mut column, shape, all)
+    let count = count_left(alloc, &mut column, shape, all);
+    drop(column);
+    count
 }
 
 const FEW_PIVOTS: Shape = Shape {

@@ -277,7 +277,10 @@ fn is_alike(alloc: Global, course: &Course) -> Result<bool, Fail> {
     let (seldom, often) = course.each;
     let mut one = Driven::new(alloc, Numbers { state, scores }, seldom);
     let mut other = Driven::new(alloc, Numbers { state, scores }, often);
-    are_alike_all_along(alloc, &mut one, &mut other, course)
+    let are_alike = are_alike_all_along(alloc, &mut one, &mut other, course);
+    drop(one);
+    drop(other);
+    are_alike
 }
 
 // Rows come, stay as many, go, and come and go.

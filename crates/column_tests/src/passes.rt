@@ -53,7 +53,9 @@ fn time_in(
 
 fn time_of(rt: &HostRuntime, is_each_merged: bool) -> Result<Duration, Fail> {
     let mut column = Column::new(rt.alloc());
-    time_in(rt, &mut column, is_each_merged)
+    let time = time_in(rt, &mut column, is_each_merged);
+    drop(column);
+    time
 }
 
 /// How many times as long the rows take one by one, at the least, in one of so many tries.

@@ -184,7 +184,9 @@ fn is_done<A: Allocator + Copy>(
 
 fn is_done_anew(heap: &LocalHeap, work: &Work) -> Result<bool, AllocError> {
     let mut column = Column::new(heap);
-    is_done(heap, heap, &mut column, work)
+    let is_done = is_done(heap, heap, &mut column, work);
+    drop(column);
+    is_done
 }
 
 /// The same in a heap of its own.

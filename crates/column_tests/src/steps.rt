@@ -303,7 +303,9 @@ pub fn right_steps(
 // The same with a new column.
 fn right_steps_anew(alloc: Global, steps: &[Step]) -> Result<usize, AllocError> {
     let mut column = Column::new(alloc);
-    right_steps(alloc, &mut column, steps)
+    let count = right_steps(alloc, &mut column, steps);
+    drop(column);
+    count
 }
 
 /// Words that tell what becomes of a new column, and the steps that it takes.

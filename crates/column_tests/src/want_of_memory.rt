@@ -196,7 +196,9 @@ fn refuse_anew(
     allocation: u64,
 ) -> Result<After, AllocError> {
     let mut column = Column::new(fuse);
-    refuse(fuse, fuse, room, &mut column, setup, call, allocation)
+    let after = refuse(fuse, fuse, room, &mut column, setup, call, allocation);
+    drop(column);
+    after
 }
 
 fn refused(alloc: Global, setup: Setup, call: Call, allocation: u64) -> Result<After, AllocError> {

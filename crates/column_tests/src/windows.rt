@@ -164,7 +164,9 @@ fn right_turns_anew(alloc: Global, len: u16, turns: &[Turn]) -> Result<usize, Al
         column: Column::new(alloc),
         scores: Vec::new(alloc),
     };
-    right_turns(alloc, &mut window, len, turns)
+    let count = right_turns(alloc, &mut window, len, turns);
+    drop(window);
+    count
 }
 
 // A window of ten rows turns over twice, and once more behind rows in the middle that left, and is emptied.

@@ -1,4 +1,4 @@
-//! Tests of logs and of reloads over memory: what only a library call shows.
+//! Tests of logs and of reloads over memory, and of what takes little memory or none: what only a library call shows.
 //! This crate has nothing but tests.
 #![tactic(auto)]
 
@@ -7,6 +7,10 @@ mod deferred;
 #[cfg(test)]
 mod interrupted;
 #[cfg(test)]
+mod little_room;
+#[cfg(test)]
+mod no_memory;
+#[cfg(test)]
 mod owners;
 #[cfg(test)]
 mod records;
@@ -14,6 +18,8 @@ mod records;
 mod removals;
 #[cfg(test)]
 mod room;
+#[cfg(test)]
+mod sizes;
 #[cfg(test)]
 mod sweeps;
 #[cfg(test)]

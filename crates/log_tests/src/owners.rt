@@ -2,12 +2,11 @@
 
 ghost use Rattle.std.specs.Prelude.{◌≡◌, ◌≤◌, ◌^◌, None};
 
-use append_log::{FuseSink, Log, LogSink, LoggedOwner, MemorySink, ReloadFault, reload};
+use append_log::{FuseSink, Log, LogSink, LoggedOwner, MemorySink, NoSink, ReloadFault, reload};
 use resp_wire::{Bytes, BytesList, FuseSource, MemorySource, Reply, Request, write_reply};
 use sorted_sets::OneOwner;
 use std::alloc::{Allocator, Global};
 use std::hash::RandomState;
-use std::marker::Brand;
 use std::sync::ledger::{Blank, Ledger};
 use std::test::*;
 use zset_commands::{Command, Refusal};
@@ -25,7 +24,10 @@ pub fn request<A: Allocator + Copy>(alloc: A, text: &str) -> Result<Request<A>, 
     for argument in text.split(' ') {
         arguments.push(Bytes::from_slice(alloc, argument.as_bytes())?)?;
     }
-    Ok(Request::new(BytesList::new(arguments)).ok_or("no request")?)
+    match Request::new(BytesList::new(arguments)) {
+        Some(request) => Ok(request),
+        None => Err(Fail::new("no request")),
+    }
 }
 
 pub fn command<A: Allocator + Copy>(alloc: A, text: &str) -> Result<Command<A>, Fail> {
@@ -50,10 +52,12 @@ pub fn put_answer<A: Allocator + Copy>(
 /// These bytes as text, an end of line as `~`, which is in none of them.
 pub fn shown<A: Allocator + Copy>(alloc: A, bytes: &[u8]) -> Result<String<A>, Fail> {
     if bytes.contains(&b'~') {
-        return Err("a tilde in a reply")?;
+        return Err(Fail::new("a tilde in a reply"));
     }
-    let text = std::str::from_utf8(bytes).ok().ok_or("no text")?;
-    Ok(text.replace(alloc, "\r\n", "~")?)
+    match std::str::from_utf8(bytes) {
+        Ok(text) => Ok(text.replace(alloc, "\r\n", "~")?),
+        Err(_) => Err(Fail::new("no text")),
+    }
 }
 
 /// The replies to commands in turn, each with a space behind it.
@@ -75,7 +79,33 @@ pub fn answers<A: Allocator + Copy>(
     shown(alloc, &bytes)
 }
 
-/// Puts the same of an owner with a log.
+/// The replies to commands none of which is refused.
+pub fn accepted<A: Allocator + Copy>(
+    alloc: A,
+    owner: &mut Owner<A>,
+    texts: &[&str],
+) -> Result<String<A>, Fail>
+    requires { owner.old.next ≡ None }
+    ensures { owner.new.next ≡ None }
+{
+    let told = answers(alloc, owner, texts)?;
+    if told.contains("-ERR") {
+        drop(told);
+        return Err(Fail::new("refused"));
+    }
+    Ok(told)
+}
+
+/// `ZADD k` with so many members, each with its number as its score.
+pub fn addition(alloc: Global, members: u64) -> Result<String, Fail> {
+    let mut text = "ZADD k".to_string(alloc)?;
+    for number in 0..members {
+        text.push_str(&format!(in alloc; " {number} member-{number}")?)?;
+    }
+    Ok(text)
+}
+
+/// Puts the replies of an owner with a log.
 pub fn put_replies<S: LogSink, L: Ledger, A: Allocator + Copy>(
     alloc: A,
     owner: &mut Logged<S, L, A>,
@@ -142,51 +172,18 @@ pub fn opened<L: Ledger>(
     Ok(LoggedOwner::new(rt.alloc(), OneOwner::new(rt.alloc(), hasher), log))
 }
 
-/// What commands came to that were run one after the other.
-#[derive(Drop)]
-pub struct Played {
-    /// The replies, a space behind each.
-    pub replies: String,
-    pub appended: u64,
-    pub is_broken: bool,
-    pub sink: Sink,
-}
-
-fn play_with<L: Ledger>(
-    rt: &HostRuntime,
+/// The owner of no sets over a log of ten records that keeps nothing.
+pub fn unkept<L: Ledger, A: Allocator + Copy>(
+    alloc: A,
+    hasher: RandomState,
     blank: Blank,
-    limits: Limits,
-    commands: &[&str],
-) -> Result<Played, Fail>
+) -> Logged<NoSink, L, A>
     requires name { blank.name ≡ L.name }
     requires parts { blank.parts ≡ L.parts }
     requires two { blank.parts ≡ 2 }
-    requires piece { 1 ≤ limits.chunk }
-    requires some { 1 ≤ limits.max_records }
-    requires limited { limits.max_records ≤ 2 ^ 40 }
 {
-    let mut owner = opened::<L>(rt, blank, limits)?;
-    let replies = replies_to(rt.alloc(), &mut owner, commands);
-    let (sets, log) = owner.into_parts();
-    drop(sets);
-    let appended = log.appended();
-    let is_broken = log.is_broken();
-    let sink = log.into_sink();
-    Ok(Played {
-        replies: replies?,
-        appended,
-        is_broken,
-        sink,
-    })
-}
-
-/// What commands came to over a log of their own.
-pub fn play(rt: &HostRuntime, limits: Limits, commands: &[&str]) -> Result<Played, Fail>
-    requires piece { 1 ≤ limits.chunk }
-    requires some { 1 ≤ limits.max_records }
-    requires limited { limits.max_records ≤ 2 ^ 40 }
-{
-    play_with::<Brand>(rt, Blank::new(2), limits, commands)
+    let log = Log::<_, L>::new(blank, NoSink::new(), 10);
+    LoggedOwner::new(alloc, OneOwner::new(alloc, hasher), log)
 }
 
 /// The version of a file, its records, its whole bytes and its torn ones, or why it is not reloaded.

@@ -1,8 +1,15 @@
 //! Logs over memory: what a full one refuses, and how records are reloaded.
 
-use crate::owners::{AMPLE, Found, Limits, WHOLE_READS, play, reloads_to};
+ghost use Rattle.std.specs.Prelude.{◌≡◌};
+
+use crate::owners::{
+    AMPLE, Found, Limits, Logged, Sink, WHOLE_READS, opened, reloads_to, replies_to,
+};
 use crate::versions;
 use append_log::ReloadFault;
+use std::alloc::Global;
+use std::marker::Brand;
+use std::sync::ledger::{Blank, Ledger};
 use std::test::*;
 
 /// Commands over a log of such limits: the replies, the records that were appended, whether the log is broken then, how
@@ -38,22 +45,36 @@ const FULL: Case = Case {
     bytes: RECORD,
 };
 
+/// Whether an owner leaves its log as a case says.
+fn leaves_log<L: Ledger>(owner: Logged<Sink, L, Global>, case: &Case) -> bool {
+    let (sets, log) = owner.into_parts();
+    drop(sets);
+    let is_so = (log.appended(), log.is_broken()) == (case.appended, case.is_broken);
+    let sink = log.into_sink();
+    let is_called = sink.calls() == case.calls;
+    let inner = sink.into_inner();
+    is_so && is_called && inner.bytes() == case.bytes
+}
+
 /// Whether commands come to what their case says.
-fn goes_so(rt: &HostRuntime, case: &Case) -> Result<bool, Fail> {
+fn goes_so<L: Ledger>(rt: &HostRuntime, blank: Blank, case: &Case) -> Result<bool, Fail>
+    requires name { blank.name ≡ L.name }
+    requires parts { blank.parts ≡ L.parts }
+    requires two { blank.parts ≡ 2 }
+{
     let limits = case.limits;
     if limits.chunk == 0 || limits.max_records == 0 || limits.max_records > 10 {
-        return Err("no limits of a log")?;
+        return Err(Fail::new("no limits of a log"));
     }
-    let played = play(rt, limits, case.commands)?;
-    let is_told = played.replies.as_str() == case.replies
-        && (played.appended, played.is_broken) == (case.appended, case.is_broken)
-        && played.sink.calls() == case.calls;
-    Ok(is_told && played.sink.into_inner().bytes() == case.bytes)
+    let mut owner = opened::<L>(rt, blank, limits)?;
+    let replies = replies_to(rt.alloc(), &mut owner, case.commands);
+    let is_left = leaves_log(owner, case);
+    Ok(replies?.as_str() == case.replies && is_left)
 }
 
 #[test]
 fn a_full_log_refuses_changes(rt: HostRuntime) -> Result<(), Fail> {
-    assert!(rt; goes_so(&rt, &FULL)?);
+    assert!(rt; goes_so::<Brand>(&rt, Blank::new(2), &FULL)?);
     Ok(())
 }
 

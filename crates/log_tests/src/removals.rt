@@ -43,7 +43,7 @@ const REMOVAL: Change = Change {
 };
 
 /// Removals, each with a listing of its set behind it and asked again then, and the most allocations that it makes.
-const REMOVALS: [(Change, u64); 10] = [
+static REMOVALS: [(Change, u64); 10] = [
     (
         Change {
             words: "ZREM k a",
@@ -148,7 +148,7 @@ const REMOVALS: [(Change, u64); 10] = [
 
 #[test]
 fn a_removal_is_made_whichever_allocation_is_refused(rt: HostRuntime) -> Result<(), Fail> {
-    for (removal, most) in REMOVALS.iter() {
+    for (removal, most) in &REMOVALS {
         let made = allocations_of(&rt, Work::Change(removal))?;
         assert!(rt; 1 <= made && made <= *most, "{} made {made}", removal.words);
     }

@@ -3,12 +3,11 @@
 
 ghost use Rattle.std.specs.Prelude.{◌≡◌};
 
-use crate::owners::{Logged, command};
-use append_log::{Log, LoggedOwner, NoSink};
+use crate::owners::{Logged, command, unkept};
+use append_log::NoSink;
 use linked_list_allocator::LocalHeap;
 use resp_wire::Reply;
-use sorted_sets::OneOwner;
-use std::alloc::Global;
+use std::alloc::{AllocError, Allocator, Global};
 use std::hash::RandomState;
 use std::marker::Brand;
 use std::sync::ledger::{Blank, Ledger};
@@ -37,26 +36,35 @@ const COMMANDS: [&str; 5] = [
 /// What they are answered: the first with all the room, the others with [`LEFT`] bytes.
 const ANSWERS: [i64; 5] = [1, 0, -1, 1, 0];
 
-fn read_commands(alloc: Global, heap: &LocalHeap) -> Result<Vec<Command<&LocalHeap>>, Fail> {
-    let mut commands = Vec::new(alloc);
+/// A command whose words have a long one for `~`.
+fn read_command<A: Allocator + Copy>(
+    alloc: Global,
+    heap: A,
+    words: &str,
+) -> Result<Command<A>, Fail> {
     let long = "l".repeat(alloc, LONG)?;
+    let text = words.replace(alloc, "~", long.as_str())?;
+    command(heap, text.as_str())
+}
+
+fn read_commands<A: Allocator + Copy>(alloc: Global, heap: A) -> Result<Vec<Command<A>>, Fail> {
+    let mut commands = Vec::new(alloc);
     for words in COMMANDS {
-        let text = words.replace(alloc, "~", long.as_str())?;
-        commands.push(command(heap, text.as_str())?)?;
+        commands.push(read_command(alloc, heap, words)?)?;
     }
     Ok(commands)
 }
 
 /// Takes all of a heap but [`LEFT`] bytes.
-fn take_room(heap: &LocalHeap) -> Result<Vec<u8, &LocalHeap>, Fail> {
+fn take_room<A: Allocator + Copy>(heap: &LocalHeap, alloc: A) -> Result<Vec<u8, A>, AllocError> {
     let room = heap.free().saturating_sub(LEFT);
-    Ok(Vec::with_capacity(heap, room)?)
+    Vec::with_capacity(alloc, room)
 }
 
 /// The number that an owner answers, or that of its refusal below zero.
-fn answer<'h, L: Ledger>(
-    owner: &mut Logged<NoSink, L, &'h LocalHeap>,
-    command: &Command<&'h LocalHeap>,
+fn answer<L: Ledger, A: Allocator + Copy>(
+    owner: &mut Logged<NoSink, L, A>,
+    command: &Command<A>,
 ) -> i64 {
     let answer = owner.run(command);
     let number = match &answer {
@@ -69,21 +77,29 @@ fn answer<'h, L: Ledger>(
 }
 
 /// What an owner answers. Room is taken behind the first command, and before the last one.
-fn answers_of<'h, L: Ledger>(
-    heap: &'h LocalHeap,
-    owner: &mut Logged<NoSink, L, &'h LocalHeap>,
-    commands: &[Command<&'h LocalHeap>],
+fn answers_of<L: Ledger, A: Allocator + Copy>(
+    heap: &LocalHeap,
+    alloc: A,
+    owner: &mut Logged<NoSink, L, A>,
+    commands: &[Command<A>],
 ) -> Result<[i64; 5], Fail> {
     let [first, moved, long_addition, long_removal, count] = commands else {
-        return Err("other commands")?;
+        return Err(Fail::new("other commands"));
     };
     let first = answer(owner, first);
-    let _taken = take_room(heap)?;
+    let taken = take_room(heap, alloc);
+    let is_taken = taken.is_ok();
     let moved = answer(owner, moved);
     let long_addition = answer(owner, long_addition);
     let long_removal = answer(owner, long_removal);
-    let _rest = take_room(heap)?;
+    let rest = take_room(heap, alloc);
+    let are_taken = is_taken && rest.is_ok();
     let count = answer(owner, count);
+    drop(taken);
+    drop(rest);
+    if !are_taken {
+        return Err(Fail::new("no room to take"));
+    }
     Ok([first, moved, long_addition, long_removal, count])
 }
 
@@ -98,20 +114,25 @@ fn answers_over<'h, L: Ledger>(
     requires parts { blank.parts ≡ L.parts }
     requires two { blank.parts ≡ 2 }
 {
-    let log = Log::<_, L>::new(blank, NoSink::new(), 10);
-    let mut owner = LoggedOwner::new(heap, OneOwner::new(heap, hasher), log);
-    let answers = answers_of(heap, &mut owner, commands);
+    let mut owner = unkept::<L, _>(heap, hasher, blank);
+    let answers = answers_of(heap, heap, &mut owner, commands);
     drop(owner);
+    answers
+}
+
+/// The same in a heap of its own.
+fn answers_in_heap(alloc: Global, hasher: RandomState) -> Result<[i64; 5], Fail> {
+    let heap = LocalHeap::new(alloc, HEAP)?;
+    let commands = read_commands(alloc, &heap)?;
+    let answers = answers_over::<Brand>(&heap, hasher, Blank::new(2), &commands);
+    drop(commands);
     answers
 }
 
 #[test]
 fn removals_have_room_where_additions_have_none(rt: HostRuntime) -> Result<(), Fail> {
-    let heap = LocalHeap::new(rt.alloc(), HEAP)?;
-    let commands = read_commands(rt.alloc(), &heap)?;
     let hasher = RandomState::new(&rt)?;
-    let answers = answers_over::<Brand>(&heap, hasher, Blank::new(2), &commands);
-    drop(commands);
-    assert_eq!(rt; answers?, ANSWERS);
+    let answers = answers_in_heap(rt.alloc(), hasher)?;
+    assert_eq!(rt; answers, ANSWERS);
     Ok(())
 }

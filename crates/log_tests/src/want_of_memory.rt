@@ -3,22 +3,22 @@
 
 ghost use Rattle.std.specs.Prelude.{◌≡◌, None};
 
-use crate::owners::{Logged, Owner, answers, command, put_answer, put_replies, replies_to, shown};
+use crate::owners::{
+    Logged, Owner, accepted, answers, command, put_answer, put_replies, replies_to, shown,
+};
 use crate::records::{LISTING, THREE_RECORDS, TWO_SETS_REWRITTEN};
 use append_log::{
-    FuseSink, Loaded, Log, LoggedOwner, MemorySink, NoSink, ReloadFault, reload, rewrite,
+    FuseSink, Loaded, Log, LogSink, LoggedOwner, MemorySink, NoSink, ReloadFault, reload, rewrite,
 };
 use fuse_alloc::Fuse;
-use resp_wire::MemorySource;
+use resp_wire::{MemorySource, Reply};
 use sorted_sets::OneOwner;
-use std::alloc::Global;
+use std::alloc::{Allocator, Global};
 use std::hash::RandomState;
 use std::marker::Brand;
 use std::sync::ledger::{Blank, Ledger};
 use std::test::*;
-
-/// Memory one of whose allocations is refused.
-type Heap<'f> = &'f Fuse<Global>;
+use zset_commands::Refusal;
 
 /// What came of a run one of whose allocations was to be refused.
 #[derive(Clone, Copy)]
@@ -53,35 +53,49 @@ const WHOLE: Result<Loaded, ReloadFault> = Ok(Loaded {
 });
 
 /// Reloads the three records, and then tells by k, with memory, whether all were replayed, or some first ones.
-fn reload_once<'f>(heap: Heap<'f>, owner: &mut Owner<Heap<'f>>) -> Result<Attempt, Fail>
+fn reload_once<A: Allocator + Copy>(
+    fuse: &Fuse<Global>,
+    alloc: A,
+    owner: &mut Owner<A>,
+) -> Result<Attempt, Fail>
     requires { owner.old.next ≡ None }
     ensures { owner.new.next ≡ None }
 {
     let mut source = MemorySource::new(THREE_RECORDS, 7);
-    let found = reload(heap, &mut source, owner, 35, 1000);
-    let is_whole = heap.is_armed();
-    heap.arm(0);
-    let listed = answers(heap, owner, &[LISTING])?;
-    let is_made = found == WHOLE && listed.as_str() == "*2~$1~b~$1~2~ ";
-    let are_some = matches!(
-        listed.as_str(),
-        "*0~ " | "*2~$1~a~$1~1~ " | "*4~$1~a~$1~1~$1~b~$1~2~ "
-    );
+    let found = reload(alloc, &mut source, owner, 35, 1000);
+    let is_whole = fuse.is_armed();
+    fuse.arm(0);
+    let listed = answers(alloc, owner, &[LISTING])?;
+    let (are_all, are_some) = replayed(listed.as_str());
+    drop(listed);
     Ok((
         is_whole,
-        is_made,
+        found == WHOLE && are_all,
         found == Err(ReloadFault::NoMemory) && are_some,
     ))
 }
 
+/// Whether a listing of k tells that all records were replayed, and whether some first ones.
+fn replayed(listed: &str) -> (bool, bool) {
+    let are_some = matches!(
+        listed,
+        "*0~ " | "*2~$1~a~$1~1~ " | "*4~$1~a~$1~1~$1~b~$1~2~ "
+    );
+    (listed == "*2~$1~b~$1~2~ ", are_some)
+}
+
 /// A reload that may be refused, and another on the same sets, with memory. The first leaves the sets that some first
 /// records replay to. The last record is a removal, which takes what is kept back where it finds no memory.
-fn reload_twice<'f>(heap: Heap<'f>, owner: &mut Owner<Heap<'f>>) -> Result<Outcome, Fail>
+fn reload_twice<A: Allocator + Copy>(
+    fuse: &Fuse<Global>,
+    alloc: A,
+    owner: &mut Owner<A>,
+) -> Result<Outcome, Fail>
     requires { owner.old.next ≡ None }
     ensures { owner.new.next ≡ None }
 {
-    let (is_whole, is_made, is_refused) = reload_once(heap, owner)?;
-    let (_, is_made_again, _) = reload_once(heap, owner)?;
+    let (is_whole, is_made, is_refused) = reload_once(fuse, alloc, owner)?;
+    let (_, is_made_again, _) = reload_once(fuse, alloc, owner)?;
     let is_told = is_made || !is_whole && is_refused;
     Ok(Outcome::of(is_whole, is_told && is_made_again))
 }
@@ -91,39 +105,55 @@ fn reload_refused(rt: &HostRuntime, allocation: u64) -> Result<Outcome, Fail> {
     let hasher = RandomState::new(rt)?;
     let fuse = Fuse::new(rt.alloc(), allocation);
     let mut owner = OneOwner::new(&fuse, hasher);
-    let outcome = reload_twice(&fuse, &mut owner);
+    let outcome = reload_twice(&fuse, &fuse, &mut owner);
     drop(owner);
     outcome
 }
 
 /// Rewrites two sets. Where it is refused it is out of memory, or the sink in memory failed, which could not grow.
-fn rewrite_once<'f>(heap: Heap<'f>, owner: &Owner<Heap<'f>>, allocation: u64) -> Attempt
+fn rewrite_once<A: Allocator + Copy>(
+    fuse: &Fuse<Global>,
+    alloc: A,
+    owner: &Owner<A>,
+    allocation: u64,
+) -> Attempt
     requires { owner.now.next ≡ None }
 {
-    let mut sink = MemorySink::new(heap, 7);
-    heap.arm(allocation);
-    let found = rewrite(heap, owner, &mut sink);
-    let is_whole = heap.is_armed();
-    heap.arm(0);
+    let mut sink = MemorySink::new(alloc, 7);
+    fuse.arm(allocation);
+    let found = rewrite(alloc, owner, &mut sink);
+    let is_whole = fuse.is_armed();
+    fuse.arm(0);
     let is_made = found == Ok(2) && sink.bytes() == TWO_SETS_REWRITTEN;
-    (
-        is_whole,
-        is_made,
-        found.is_err() && sink.bytes().len() < 123,
-    )
+    let is_short = sink.bytes().len() < 123;
+    drop(sink);
+    (is_whole, is_made, found.is_err() && is_short)
 }
 
 /// A rewrite one of whose allocations is refused, and another one with memory.
-fn rewrite_refused(rt: &HostRuntime, allocation: u64) -> Result<Outcome, Fail> {
-    let fuse = Fuse::new(rt.alloc(), 0);
-    let mut owner = OneOwner::new(&fuse, RandomState::new(rt)?);
-    let added = answers(&fuse, &mut owner, &["ZADD k 1 b 1 a 1 B", "ZADD j -3 x"]);
-    let (is_whole, is_made, is_refused) = rewrite_once(&fuse, &owner, allocation);
-    let (_, is_made_again, _) = rewrite_once(&fuse, &owner, 0);
-    drop(owner);
-    drop(added?);
+fn rewrite_twice<A: Allocator + Copy>(
+    fuse: &Fuse<Global>,
+    alloc: A,
+    owner: &mut Owner<A>,
+    allocation: u64,
+) -> Result<Outcome, Fail>
+    requires { owner.old.next ≡ None }
+{
+    drop(accepted(alloc, owner, &["ZADD k 1 b 1 a 1 B", "ZADD j -3 x"])?);
+    let (is_whole, is_made, is_refused) = rewrite_once(fuse, alloc, owner, allocation);
+    let (_, is_made_again, _) = rewrite_once(fuse, alloc, owner, 0);
     let is_told = if is_whole { is_made } else { is_refused };
     Ok(Outcome::of(is_whole, is_told && is_made_again))
+}
+
+/// Refuses one allocation of a rewrite.
+fn rewrite_refused(rt: &HostRuntime, allocation: u64) -> Result<Outcome, Fail> {
+    let hasher = RandomState::new(rt)?;
+    let fuse = Fuse::new(rt.alloc(), 0);
+    let mut owner = OneOwner::new(&fuse, hasher);
+    let outcome = rewrite_twice(&fuse, &fuse, &mut owner, allocation);
+    drop(owner);
+    outcome
 }
 
 /// A change of an owner whose records go to a log that keeps nothing.
@@ -145,43 +175,82 @@ pub struct Change {
     pub refused: (&'static str, u64),
 }
 
+impl Change {
+    /// The replies to it and to those behind it, and how many records the log has then.
+    fn wanted(&self, is_whole: bool) -> (&'static str, u64) {
+        if is_whole { self.whole } else { self.refused }
+    }
+}
+
 /// Refuses one allocation of a change: whether there were fewer, and whether the replies are as they should be.
-fn told<'f, L: Ledger>(
-    heap: Heap<'f>,
-    owner: &mut Logged<FuseSink<NoSink>, L, Heap<'f>>,
+fn told<S: LogSink, L: Ledger, A: Allocator + Copy>(
+    fuse: &Fuse<Global>,
+    alloc: A,
+    owner: &mut Logged<S, L, A>,
     change: &Change,
     allocation: u64,
 ) -> Result<(bool, bool), Fail> {
-    let command = command(heap, change.words)?;
-    heap.arm(allocation);
+    let command = command(alloc, change.words)?;
+    fuse.arm(allocation);
     let answer = owner.run(&command);
-    let is_whole = heap.is_armed();
-    heap.arm(0);
+    let is_whole = fuse.is_armed();
+    fuse.arm(0);
     drop(command);
-    let mut bytes = Vec::new(heap);
+    let told = shown_with(alloc, owner, answer, change.behind)?;
+    let (replies, _) = change.wanted(is_whole);
+    let is_told = told.as_str() == replies;
+    drop(told);
+    Ok((is_whole, is_told))
+}
+
+/// An answer, and the replies to commands behind it.
+fn shown_with<S: LogSink, L: Ledger, A: Allocator + Copy>(
+    alloc: A,
+    owner: &mut Logged<S, L, A>,
+    answer: Result<Reply<A>, Refusal>,
+    behind: &[&str],
+) -> Result<String<A>, Fail> {
+    let mut bytes = Vec::new(alloc);
     put_answer(answer, &mut bytes)?;
-    put_replies(heap, owner, change.behind, &mut bytes)?;
-    let (whole, _) = change.whole;
-    let (refused, _) = change.refused;
-    let wanted = if is_whole { whole } else { refused };
-    Ok((is_whole, shown(heap, &bytes)?.as_str() == wanted))
+    put_replies(alloc, owner, behind, &mut bytes)?;
+    shown(alloc, &bytes)
 }
 
 /// The same behind the commands before it.
-fn told_behind<'f, L: Ledger>(
-    heap: Heap<'f>,
-    owner: &mut Logged<FuseSink<NoSink>, L, Heap<'f>>,
+fn told_behind<S: LogSink, L: Ledger, A: Allocator + Copy>(
+    fuse: &Fuse<Global>,
+    alloc: A,
+    owner: &mut Logged<S, L, A>,
     change: &Change,
     allocation: u64,
 ) -> Result<(bool, bool), Fail> {
-    let before = replies_to(heap, owner, change.before)?;
+    let before = replies_to(alloc, owner, change.before)?;
     let was_told = before.as_str() == change.told_before;
     drop(before);
-    let (is_whole, is_told) = told(heap, owner, change, allocation)?;
+    let (is_whole, is_told) = told(fuse, alloc, owner, change, allocation)?;
     Ok((is_whole, was_told && is_told))
 }
 
-/// The same of an owner with a log of its own, which has as many records then as it should.
+/// The same, with as many records in the log then as there should be.
+fn outcome_behind<S: LogSink + Drop, L: Ledger, A: Allocator + Copy>(
+    fuse: &Fuse<Global>,
+    alloc: A,
+    owner: Logged<S, L, A>,
+    change: &Change,
+    allocation: u64,
+) -> Result<Outcome, Fail> {
+    let mut owner = owner;
+    let told = told_behind(fuse, alloc, &mut owner, change, allocation);
+    let (sets, log) = owner.into_parts();
+    drop(sets);
+    let records = log.appended();
+    drop(log);
+    let (is_whole, is_told) = told?;
+    let (_, wanted) = change.wanted(is_whole);
+    Ok(Outcome::of(is_whole, is_told && records == wanted))
+}
+
+/// The same of an owner with a log of its own.
 fn change_refused<L: Ledger>(
     rt: &HostRuntime,
     blank: Blank,
@@ -193,23 +262,14 @@ fn change_refused<L: Ledger>(
     requires two { blank.parts ≡ 2 }
 {
     if change.max_records == 0 || change.max_records > 10 {
-        return Err("no limits of a log")?;
+        return Err(Fail::new("no limits of a log"));
     }
     let hasher = RandomState::new(rt)?;
     let fuse = Fuse::new(rt.alloc(), 0);
     let sink = FuseSink::new(NoSink::new(), change.fails_at);
     let log = Log::<_, L>::new(blank, sink, change.max_records);
-    let mut owner = LoggedOwner::new(&fuse, OneOwner::new(&fuse, hasher), log);
-    let told = told_behind(&fuse, &mut owner, change, allocation);
-    let (sets, log) = owner.into_parts();
-    drop(sets);
-    let records = log.appended();
-    drop(log);
-    let (is_whole, is_told) = told?;
-    let (_, whole) = change.whole;
-    let (_, refused) = change.refused;
-    let wanted = if is_whole { whole } else { refused };
-    Ok(Outcome::of(is_whole, is_told && records == wanted))
+    let owner = LoggedOwner::new(&fuse, OneOwner::new(&fuse, hasher), log);
+    outcome_behind(&fuse, &fuse, owner, change, allocation)
 }
 
 /// What is done whose allocations are refused.
@@ -239,7 +299,7 @@ pub fn allocations_of(rt: &HostRuntime, work: Work<'_>) -> Result<u64, Fail> {
             Outcome::Wrong => return Ok(0),
         }
     }
-    Err("no end")?
+    Err(Fail::new("no end"))
 }
 
 /// A member gets another score, and another member is added.
@@ -309,7 +369,7 @@ const FAILING: Change = Change {
 };
 
 /// What is done, and the least number of allocations that it makes, a sink's and a record's included.
-const WORKS: [(&str, Work<'static>, u64); 7] = [
+static WORKS: [(&str, Work<'static>, u64); 7] = [
     ("a reload", Work::Reload, 20),
     ("a rewrite", Work::Rewrite, 20),
     ("a logged change", Work::Change(&LOGGED), 5),
@@ -321,9 +381,9 @@ const WORKS: [(&str, Work<'static>, u64); 7] = [
 
 #[test]
 fn each_refused_allocation_is_met(rt: HostRuntime) -> Result<(), Fail> {
-    for (name, work, least) in WORKS {
-        let made = allocations_of(&rt, work)?;
-        assert!(rt; made >= least, "{name}: {made}");
+    for (name, work, least) in &WORKS {
+        let made = allocations_of(&rt, *work)?;
+        assert!(rt; made >= *least, "{name}: {made}");
     }
     Ok(())
 }

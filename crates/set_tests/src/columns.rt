@@ -19,7 +19,7 @@ fn ask(set: &mut Set, command: &Command<Global>) -> Result<Reply<Global>, Fail>
     ensures { set.new.next ≡ None }
 {
     if command.key().is_none() {
-        Err("no key")?;
+        return Err(Fail::new("no key"));
     }
     Ok(set.answer(command)?)
 }
@@ -31,7 +31,7 @@ fn change(set: &mut Set, command: &Command<Global>) -> Result<Reply<Global>, Fai
     ensures { set.new.next ≡ None }
 {
     match set.prepare(command) {
-        Err(_) => Err("refused")?,
+        Err(_) => Err(Fail::new("refused")),
         Ok(_) => Ok(set.commit()),
     }
 }
@@ -42,11 +42,13 @@ pub fn run(alloc: Global, set: &mut Set, text: &str) -> Result<Reply<Global>, Fa
     ensures { set.new.next ≡ None }
 {
     let command = command(alloc, text)?;
-    if command.writes() {
+    let reply = if command.writes() {
         change(set, &command)
     } else {
         ask(set, &command)
-    }
+    };
+    drop(command);
+    reply
 }
 
 /// The bytes of the reply to a command that is run on a set.
@@ -55,7 +57,9 @@ fn reply_of(alloc: Global, set: &mut Set, text: &str) -> Result<String, Fail>
     ensures { set.new.next ≡ None }
 {
     let reply = run(alloc, set, text)?;
-    text_of(alloc, &reply)
+    let shown = text_of(alloc, &reply);
+    drop(reply);
+    shown
 }
 
 /// Runs a command on a set: the reply is as wanted.
@@ -212,8 +216,7 @@ fn count_from(alloc: Global, set: &mut Set, low: u32) -> Result<(), Fail>
     ensures { set.new.next ≡ None }
 {
     let text = format!(in alloc; "ZCOUNT k {} {}", low, low.saturating_add(4))?;
-    run(alloc, set, text.as_str())?;
-    Ok(())
+    run(alloc, set, text.as_str()).map(drop)
 }
 
 // Counts 2,048 ranges, whose cuts are 4,096 pivots.

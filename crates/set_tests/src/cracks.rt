@@ -1,7 +1,6 @@
 use crack_kernel::{Pivots, Row, crack_three, crack_two};
 use short_bytes::ShortBytes;
 use std::alloc::{AllocError, Global};
-use std::process::Abort;
 
 // Rows of these scores, each with a member of one byte.
 fn rows_of(alloc: Global, scores: &[i64]) -> Result<Vec<Row<Global>>, AllocError> {
@@ -89,16 +88,27 @@ fn has_two(pivots: &Pivots<Global>) -> bool {
         && (pivots.find(3), pivots.find(4)) == (Some(2), None)
 }
 
-// The places of two pivots are moved, and close up.
-fn expect_moved<R: Abort>(rt: &R, pivots: &mut Pivots<Global>) {
-    shift_some(rt, pivots, 1, true);
-    assert!(rt; pivots.list() == [(3, 2), (7, 7)].as_slice());
-    shift_some(rt, pivots, 0, false);
-    assert!(rt; pivots.list() == [(3, 1), (7, 6)].as_slice());
+// Shifts pivots that all have room below and above, and says whether they have.
+fn are_shifted(pivots: &mut Pivots<Global>, from_index: usize, up: bool) -> bool {
+    if from_index > pivots.len() {
+        return false;
+    }
+    let moving = &pivots.list()[from_index..];
+    let have_room = moving.iter().all(|pivot| 0 < pivot.1 && pivot.1 < 100);
+    if have_room {
+        pivots.shift(from_index, up);
+    }
+    have_room
+}
+
+// Whether the places of two pivots are moved as they should be, and close up.
+fn are_moved(pivots: &mut Pivots<Global>) -> bool {
+    let are_raised = are_shifted(pivots, 1, true) && pivots.list() == [(3, 2), (7, 7)].as_slice();
+    let are_lowered = are_shifted(pivots, 0, false) && pivots.list() == [(3, 1), (7, 6)].as_slice();
     pivots.close_up(2, 4);
-    assert!(rt; pivots.list() == [(3, 1), (7, 4)].as_slice());
+    let are_closed = pivots.list() == [(3, 1), (7, 4)].as_slice();
     pivots.close_up(0, 3);
-    assert!(rt; pivots.list() == [(3, 0), (7, 1)].as_slice());
+    are_raised && are_lowered && are_closed && pivots.list() == [(3, 0), (7, 1)].as_slice()
 }
 
 #[test]
@@ -111,19 +121,8 @@ fn pivots_are_kept(rt: HostRuntime) -> Result<(), AllocError> {
     pivots.add(7, 6);
     assert!(rt; has_two(&pivots));
     assert!(rt; has_pieces(&pivots));
-    expect_moved(&rt, &mut pivots);
+    assert!(rt; are_moved(&mut pivots));
     pivots.clear();
     assert!(rt; pivots.is_empty() && pivots.len() == 0);
     Ok(())
-}
-
-// Shifts pivots that all have room below and above.
-fn shift_some<R: Abort>(rt: &R, pivots: &mut Pivots<Global>, from_index: usize, up: bool) {
-    assert!(rt; from_index <= pivots.len());
-    assert!(rt;
-        pivots.list()[from_index..]
-            .iter()
-            .all(|pivot| 0 < pivot.1 && pivot.1 < 100)
-    );
-    pivots.shift(from_index, up);
 }

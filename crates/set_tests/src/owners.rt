@@ -19,15 +19,15 @@ pub fn request(alloc: Global, text: &str) -> Result<Request<Global>, Fail> {
     for word in text.split(' ') {
         words.push(Bytes::from_slice(alloc, word.as_bytes())?)?;
     }
-    Ok(Request::new(BytesList::new(words)).ok_or("no request")?)
+    match Request::new(BytesList::new(words)) {
+        Some(request) => Ok(request),
+        None => Err(Fail::new("no request")),
+    }
 }
 
 /// The command of a text's words.
 pub fn command(alloc: Global, text: &str) -> Result<Command<Global>, Fail> {
-    match Command::read(alloc, request(alloc, text)?) {
-        Ok(command) => Ok(command),
-        Err(_) => Err("no command")?,
-    }
+    Command::read(alloc, request(alloc, text)?).map_err(|_| Fail::from("no command"))
 }
 
 /// Fails with a text where something is not so.
@@ -41,7 +41,7 @@ pub fn text_of(alloc: Global, reply: &Reply<Global>) -> Result<String, Fail> {
     write_reply(reply, &mut bytes)?;
     match std::str::from_utf8(bytes.as_slice()) {
         Ok(text) => Ok(text.replace(alloc, "\r\n", "~")?),
-        Err(_) => Err("no text")?,
+        Err(_) => Err(Fail::new("no text")),
     }
 }
 
@@ -51,9 +51,15 @@ fn reply_to(alloc: Global, owner: &mut Owner, text: &str) -> Result<String, Fail
     ensures { owner.new.next ≡ None }
 {
     let command = command(alloc, text)?;
-    match owner.run(&command) {
-        Err(_) => Err("refused")?,
-        Ok(reply) => text_of(alloc, &reply),
+    let answer = owner.run(&command);
+    drop(command);
+    match answer {
+        Ok(reply) => {
+            let shown = text_of(alloc, &reply);
+            drop(reply);
+            shown
+        }
+        Err(_) => Err(Fail::new("refused")),
     }
 }
 

@@ -28,7 +28,9 @@ fn expect_trial(alloc: Global, owner: &mut Owner, trial: &Trial) -> Result<(), F
 
 fn expect_of_owner(alloc: Global, hasher: RandomState, trial: &Trial) -> Result<(), Fail> {
     let mut owner = OneOwner::new(alloc, hasher);
-    expect_trial(alloc, &mut owner, trial)
+    let told = expect_trial(alloc, &mut owner, trial);
+    drop(owner);
+    told
 }
 
 /// For each trial a new owner is as it asks.
@@ -62,7 +64,9 @@ fn expect_set_trial(alloc: Global, set: &mut Set, trial: &SetTrial) -> Result<()
 
 fn expect_of_set(alloc: Global, hasher: RandomState, trial: &SetTrial) -> Result<(), Fail> {
     let mut set = ZSet::with_hasher(alloc, hasher);
-    expect_set_trial(alloc, &mut set, trial)
+    let told = expect_set_trial(alloc, &mut set, trial);
+    drop(set);
+    told
 }
 
 /// For each trial a new set is as it asks.

@@ -8,6 +8,7 @@ use crate::trials::{SetTrial, Trial, expect_of_owners, expect_of_sets};
 use ripple_column::Column;
 use std::alloc::Global;
 use std::test::Fail;
+use zset_commands::Command;
 
 /// `ZADD k` with 500 pairs: each member is `m` and its number, which is its score.
 fn addition(alloc: Global, from: u32) -> Result<String, Fail> {
@@ -86,8 +87,7 @@ fn add(alloc: Global, set: &mut Set, member: u64) -> Result<(), Fail>
 {
     let score = member.wrapping_add(1).wrapping_mul(48271) % 2147483647 % 1_000_000;
     let text = format!(in alloc; "ZADD k {score} m{member}")?;
-    run(alloc, set, text.as_str())?;
-    Ok(())
+    run(alloc, set, text.as_str()).map(drop)
 }
 
 // Adds three thousand members.
@@ -101,15 +101,30 @@ fn add_many(alloc: Global, set: &mut Set) -> Result<(), Fail>
     Ok(())
 }
 
+// Whether a set is ready for a command on a key, and would read many rows for it.
+fn reads_many(set: &Set, command: &Command<Global>) -> bool
+    requires { set.now.next ≡ None }
+{
+    if command.key().is_none() {
+        return false;
+    }
+    let few = set.ready_by_few(command);
+    let are_many = few.is_none();
+    drop(few);
+    let answer = set.ready(command);
+    let is_ready = answer.is_some();
+    drop(answer);
+    are_many && is_ready
+}
+
 // Whether a listing of the ten lowest would read many rows of a set that is ready for it.
 fn is_wide(alloc: Global, set: &Set) -> Result<bool, Fail>
     requires { set.now.next ≡ None }
 {
     let command = command(alloc, "ZRANGEBYSCORE k -inf +inf LIMIT 0 10")?;
-    if command.key().is_none() {
-        Err("no key")?;
-    }
-    Ok(set.ready(&command).is_some() && set.ready_by_few(&command).is_none())
+    let is_wide = reads_many(set, &command);
+    drop(command);
+    Ok(is_wide)
 }
 
 // Runs a command: a listing of the ten lowest is wide then, or is not.

@@ -4,7 +4,7 @@ use crate::tables::{DEFERRED, Example, FOUR_PLACES, Plan, SILENCE, Talk, expect_
 use std::test::*;
 
 // Places of which each set is run so often at most.
-const SPENT: [Example; 3] = [
+static SPENT: [Example; 3] = [
     (
         "a place that answered as many runs as it may still answers under the shared lock",
         Talk {
@@ -63,7 +63,7 @@ fn spent_places_answer_under_the_shared_lock(rt: HostRuntime) -> Result<(), Fail
 }
 
 // Places of keys.
-const PLACES: [Example; 4] = [
+static PLACES: [Example; 4] = [
     (
         "the walk of c begins at the place of a, and b finds none left",
         Talk {
@@ -112,7 +112,7 @@ fn keys_find_their_places(rt: HostRuntime) -> Result<(), Fail> {
 
 // What an answer tells beside its reply: its place, the counts that the command found there, and how many members came
 // in and left by it.
-const COUNTS: [Example; 2] = [
+static COUNTS: [Example; 2] = [
     (
         "of two pairs that name one member, the first adds it and the second changes it",
         Talk {
@@ -147,7 +147,7 @@ fn counts_are_told(rt: HostRuntime) -> Result<(), Fail> {
 }
 
 // Which records answers may tell of.
-const RECORDS: [Example; 1] = [(
+static RECORDS: [Example; 1] = [(
     "an answer tells of its set's last change, whoever made it: one that changes nothing too, and a refusal",
     Talk {
         plan: DEFERRED,

@@ -81,7 +81,7 @@ const READERS: Pair = Pair {
 };
 
 // Pairs with the totals of their tables.
-const COUNTED: [(Pair, Totals); 2] = [
+static COUNTED: [(Pair, Totals); 2] = [
     (
         OF_TWO_KEYS,
         Totals {
@@ -108,9 +108,9 @@ const COUNTED: [(Pair, Totals); 2] = [
 
 #[test]
 fn what_pairs_change_is_in_the_totals(rt: HostRuntime) -> Result<(), Fail> {
-    for (pair, totals) in COUNTED {
-        let told = expect_pair(&rt, &rt, &pair)?;
-        assert_eq!(rt; told, totals, "of {} beside {}", pair.held, pair.beside);
+    for (pair, totals) in &COUNTED {
+        let told = expect_pair(&rt, &rt, pair)?;
+        assert_eq!(rt; told, *totals, "of {} beside {}", pair.held, pair.beside);
     }
     Ok(())
 }
@@ -133,7 +133,7 @@ const IN_TURN: Pair = Pair {
     is_beside: false,
 };
 
-const PAIRS: [Pair; 9] = [
+static PAIRS: [Pair; 9] = [
     // A reading of a range that takes its set's lock alone would let the wait run out.
     OF_RANGES,
     Pair {
@@ -181,8 +181,8 @@ const PAIRS: [Pair; 9] = [
 
 #[test]
 fn a_held_place_leaves_readers(rt: HostRuntime) -> Result<(), Fail> {
-    for pair in PAIRS {
-        expect_pair(&rt, &rt, &pair)?;
+    for pair in &PAIRS {
+        expect_pair(&rt, &rt, pair)?;
     }
     Ok(())
 }

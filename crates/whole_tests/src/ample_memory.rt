@@ -1,6 +1,6 @@
 //! What commands are told by an owner with ample memory, by which those whose allocations are refused are judged.
 
-ghost use Rattle.std.specs.Prelude.{◌≡◌, None, IfOk};
+ghost use Rattle.std.specs.Prelude.{◌≡◌, None};
 
 use resp_wire::{Bytes, BytesList, Reply, Request, write_reply};
 use sorted_sets::OneOwner;
@@ -17,7 +17,10 @@ fn request<A: Allocator + Copy>(alloc: A, words: &str) -> Result<Request<A>, Fai
     for word in words.split(' ') {
         list.push(Bytes::from_slice(alloc, word.as_bytes())?)?;
     }
-    Ok(Request::new(BytesList::new(list)).ok_or("no request")?)
+    match Request::new(BytesList::new(list)) {
+        Some(request) => Ok(request),
+        None => Err(Fail::new("no request")),
+    }
 }
 
 /// The command whose words stand between single blanks.
@@ -35,7 +38,9 @@ fn answer<A: Allocator + Copy>(
     ensures { owner.new.next ≡ None }
 {
     let command = Command::read(alloc, request)?;
-    owner.run(&command)
+    let answer = owner.run(&command);
+    drop(command);
+    answer
 }
 
 /// What a client is told, a refusal by its error reply. None for want of memory.
@@ -64,8 +69,12 @@ fn reply<A: Allocator + Copy>(
     ensures { owner.new.next ≡ None }
 {
     match answer(alloc, owner, request(alloc, words)?) {
-        Ok(reply) => bytes_of(alloc, &reply),
-        Err(_) => Err("refused")?,
+        Ok(reply) => {
+            let bytes = bytes_of(alloc, &reply);
+            drop(reply);
+            bytes
+        }
+        Err(_) => Err(Fail::new("refused")),
     }
 }
 
@@ -79,8 +88,12 @@ fn told_bytes<A: Allocator + Copy>(
     ensures { owner.new.next ≡ None }
 {
     match told(answer(alloc, owner, request(alloc, words)?)) {
-        Some(reply) => bytes_of(alloc, &reply),
-        None => Err("out of memory")?,
+        Some(reply) => {
+            let bytes = bytes_of(alloc, &reply);
+            drop(reply);
+            bytes
+        }
+        None => Err(Fail::new("out of memory")),
     }
 }
 
@@ -94,7 +107,7 @@ fn run_all<A: Allocator + Copy>(
     ensures { owner.new.next ≡ None }
 {
     for words in commands {
-        reply(alloc, owner, words)?;
+        drop(reply(alloc, owner, words)?);
     }
     Ok(())
 }
@@ -108,30 +121,31 @@ pub struct Ample {
     pub reply: Vec<u8>,
 }
 
-/// The owner of the sets that commands set up.
-fn set_up_with_memory(rt: &HostRuntime, setup: &[&str]) -> Result<Owner<Global>, Fail>
-    ensures { IfOk result (λ owner. owner.next ≡ None) }
+/// What an owner of the sets that commands set up gives.
+fn given_by(
+    alloc: Global,
+    owner: &mut Owner<Global>,
+    setup: &[&str],
+    words: &str,
+) -> Result<Ample, Fail>
+    requires { owner.old.next ≡ None }
 {
-    let mut owner = OneOwner::new(rt.alloc(), RandomState::new(rt)?);
-    run_all(rt.alloc(), &mut owner, setup)?;
-    Ok(owner)
-}
-
-fn listed_before(rt: &HostRuntime, setup: &[&str]) -> Result<Vec<u8>, Fail> {
-    let mut owner = set_up_with_memory(rt, setup)?;
-    reply(rt.alloc(), &mut owner, LISTING)
-}
-
-fn told_with_memory(rt: &HostRuntime, setup: &[&str], words: &str) -> Result<Vec<u8>, Fail> {
-    let mut owner = set_up_with_memory(rt, setup)?;
-    told_bytes(rt.alloc(), &mut owner, words)
+    run_all(alloc, owner, setup)?;
+    let before = reply(alloc, owner, LISTING)?;
+    match told_bytes(alloc, owner, words) {
+        Ok(reply) => Ok(Ample { before, reply }),
+        Err(fail) => {
+            drop(before);
+            Err(fail)
+        }
+    }
 }
 
 pub fn with_memory(rt: &HostRuntime, setup: &[&str], words: &str) -> Result<Ample, Fail> {
-    Ok(Ample {
-        before: listed_before(rt, setup)?,
-        reply: told_with_memory(rt, setup, words)?,
-    })
+    let mut owner = OneOwner::new(rt.alloc(), RandomState::new(rt)?);
+    let ample = given_by(rt.alloc(), &mut owner, setup, words);
+    drop(owner);
+    ample
 }
 
 /// What came of one refused allocation of a command.
@@ -153,6 +167,15 @@ impl Outcome {
             true if is_whole => Outcome::Whole,
             true => Outcome::Made,
             false => Outcome::Wrong,
+        }
+    }
+
+    /// That of a refusal for want of memory, by whether the set stayed and is told as with memory then.
+    pub fn of_refusal(recovers: bool) -> Self {
+        if recovers {
+            Outcome::Refused
+        } else {
+            Outcome::Wrong
         }
     }
 }

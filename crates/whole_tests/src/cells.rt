@@ -1,7 +1,7 @@
 //! Each allocation of a cell's answer refused in turn, under its lock alone and beside other readers. The log is called
 //! for the records of changes that are made, and for nothing else.
 
-ghost use Rattle.std.specs.Prelude.{◌≡◌, ◌≤◌, IsSome};
+ghost use Rattle.std.specs.Prelude.{◌≡◌, ◌≤◌, None, IsSome};
 ghost use Rattle.zset_commands.specs.AbstractCommand.{key_of};
 
 use crate::ample_memory::{Ample, LISTING, Outcome, bytes_of, command, with_memory};
@@ -9,8 +9,8 @@ use append_log::{FuseSink, Log, MemorySink};
 use fuse_alloc::Fuse;
 use resp_wire::Reply;
 use set_table::{Answer, Cell, Shares};
-use sorted_sets::OneOwner;
-use std::alloc::Global;
+use sorted_sets::{OneOwner, ZSet};
+use std::alloc::{AllocError, Allocator, Global};
 use std::hash::RandomState;
 use std::marker::Brand;
 use std::sync::ledger::{Blank, Ledger};
@@ -21,13 +21,10 @@ use zset_commands::{Command, Refusal};
 /// A sink that counts its calls, with memory of its own.
 type Sink = FuseSink<MemorySink<Global>>;
 
-/// Memory one of whose allocations is refused.
-type Heap<'f> = &'f Fuse<Global>;
-
 /// A cell, the shares of a pass, and a log.
 #[derive(Drop)]
-struct Single<'f, L: Ledger> {
-    cell: Cell<RandomState, L, Heap<'f>>,
+struct Single<L: Ledger, A: Allocator + Copy> {
+    cell: Cell<RandomState, L, A>,
     shares: Shares,
     log: Mutex<Log<Sink, L>>,
 }
@@ -40,17 +37,19 @@ struct Appended {
 }
 
 /// The log's numbers, once cell and pass are gone.
-fn appended_to<L: Ledger>(single: Single<'_, L>) -> Appended {
+fn appended_to<L: Ledger, A: Allocator + Copy>(single: Single<L, A>) -> Appended {
     let Single {
-        cell: _,
+        cell,
         shares: _,
         log,
     } = single;
+    drop(cell);
     let log = log.into_inner();
-    Appended {
-        records: log.appended(),
-        calls: log.into_sink().calls(),
-    }
+    let records = log.appended();
+    let sink = log.into_sink();
+    let calls = sink.calls();
+    drop(sink);
+    Appended { records, calls }
 }
 
 /// The call by which a cell is asked.
@@ -71,33 +70,39 @@ struct Question<'w> {
 }
 
 /// A cell with an empty set, and a log over a sink.
-fn opened_cell<'f, L: Ledger>(
-    heap: Heap<'f>,
+fn opened_cell<L: Ledger, A: Allocator + Copy>(
+    alloc: A,
     blank: Blank,
     sink: Sink,
-    hasher: RandomState,
-) -> Result<Single<'f, L>, Fail>
+    set: ZSet<RandomState, A>,
+) -> Result<Single<L, A>, AllocError>
+    requires idle { set.next ≡ None }
     requires name { blank.name ≡ L.name }
     requires parts { blank.parts ≡ L.parts }
     requires many { 2 ≤ blank.parts }
 {
-    let set = OneOwner::new(heap, hasher).empty_set()?;
     let mut log = Log::<_, L>::new(blank, sink, 1 << 40);
     let share = log.split();
-    Ok(Single {
-        cell: Cell::new(heap, 0, set, 1000, 1, share)?,
-        shares: Shares::new(0, 0, 0),
-        log: Mutex::new(log),
-    })
+    match Cell::new(alloc, 0, set, 1000, 1, share) {
+        Ok(cell) => Ok(Single {
+            cell,
+            shares: Shares::new(0, 0, 0),
+            log: Mutex::new(log),
+        }),
+        Err(error) => {
+            drop(log);
+            Err(error)
+        }
+    }
 }
 
 /// What the cell answers to a command, by the call that is asked for.
-fn answer<'c, 'f, L: Ledger, R: Wait>(
+fn answer<'c, L: Ledger, A: Allocator + Copy, R: Wait>(
     rt: &R,
-    single: &mut Single<'f, L>,
+    single: &mut Single<L, A>,
     asked: Asked,
-    command: &'c Command<Heap<'f>>,
-) -> Result<Answer<'c, Heap<'f>>, Refusal>
+    command: &'c Command<A>,
+) -> Result<Answer<'c, A>, Refusal>
     requires keyed { IsSome (key_of command.now.meaning) }
 {
     match asked {
@@ -112,12 +117,12 @@ fn answer<'c, 'f, L: Ledger, R: Wait>(
 }
 
 /// The reply to a command on a key, or its refusal.
-fn reply_or_refusal<'f, L: Ledger, R: Wait>(
+fn reply_or_refusal<L: Ledger, A: Allocator + Copy, R: Wait>(
     rt: &R,
-    single: &mut Single<'f, L>,
+    single: &mut Single<L, A>,
     asked: Asked,
-    command: &Command<Heap<'f>>,
-) -> Result<Reply<Heap<'f>>, Refusal> {
+    command: &Command<A>,
+) -> Result<Reply<A>, Refusal> {
     if command.key().is_none() {
         return Err(Refusal::OutOfStep);
     }
@@ -128,82 +133,117 @@ fn reply_or_refusal<'f, L: Ledger, R: Wait>(
 }
 
 /// The bytes of the reply to a command that is not refused.
-fn reply<'f, L: Ledger, R: Wait>(
+fn reply<L: Ledger, A: Allocator + Copy, R: Wait>(
     rt: &R,
-    heap: Heap<'f>,
-    single: &mut Single<'f, L>,
+    alloc: A,
+    single: &mut Single<L, A>,
     words: &str,
-) -> Result<Vec<u8, Heap<'f>>, Fail> {
-    let command = command(heap, words)?;
-    match reply_or_refusal(rt, single, Asked::Run, &command) {
-        Ok(reply) => bytes_of(heap, &reply),
-        Err(_) => Err("refused")?,
+) -> Result<Vec<u8, A>, Fail> {
+    let command = command(alloc, words)?;
+    let found = reply_or_refusal(rt, single, Asked::Run, &command);
+    drop(command);
+    match found {
+        Ok(reply) => {
+            let bytes = bytes_of(alloc, &reply);
+            drop(reply);
+            bytes
+        }
+        Err(_) => Err(Fail::new("refused")),
     }
 }
 
 /// Runs the commands that set up the set.
-fn set_up<'f, L: Ledger, R: Wait>(
+fn set_up<L: Ledger, A: Allocator + Copy, R: Wait>(
     rt: &R,
-    heap: Heap<'f>,
-    single: &mut Single<'f, L>,
+    alloc: A,
+    single: &mut Single<L, A>,
 ) -> Result<(), Fail> {
-    for words in SETUP {
-        let _reply = reply(rt, heap, single, words)?;
+    for words in &SETUP {
+        drop(reply(rt, alloc, single, words)?);
     }
     Ok(())
 }
 
-/// What came of a command: its reply's bytes, or that it was refused for want of memory, and whether there were
-/// fewer allocations than the one that was to be refused.
-fn ask<'f, L: Ledger, R: Wait>(
+/// What came of a command, and whether there were fewer allocations than the one that was to be refused.
+fn ask<L: Ledger, A: Allocator + Copy, R: Wait>(
     rt: &R,
-    heap: Heap<'f>,
-    single: &mut Single<'f, L>,
+    fuse: &Fuse<Global>,
+    alloc: A,
+    single: &mut Single<L, A>,
     question: Question<'_>,
-) -> Result<(Option<Reply<Heap<'f>>>, bool), Fail> {
-    let command = command(heap, question.words)?;
-    heap.arm(question.allocation);
+) -> Result<(Result<Reply<A>, Refusal>, bool), Fail> {
+    let command = command(alloc, question.words)?;
+    fuse.arm(question.allocation);
     let found = reply_or_refusal(rt, single, question.asked, &command);
-    let is_whole = heap.is_armed();
-    heap.arm(0);
+    let is_whole = fuse.is_armed();
+    fuse.arm(0);
+    drop(command);
+    Ok((found, is_whole))
+}
+
+/// The bytes of a reply, or None where it was refused for want of memory.
+fn bytes_unless_refused<A: Allocator + Copy>(
+    alloc: A,
+    found: Result<Reply<A>, Refusal>,
+) -> Result<Option<Vec<u8, A>>, Fail> {
     match found {
-        Ok(reply) => Ok((Some(reply), is_whole)),
-        Err(Refusal::NoMemory) => Ok((None, is_whole)),
-        Err(_) => Err("another refusal")?,
+        Ok(reply) => {
+            let bytes = bytes_of(alloc, &reply);
+            drop(reply);
+            bytes.map(Some)
+        }
+        Err(Refusal::NoMemory) => Ok(None),
+        Err(_) => Err(Fail::new("another refusal")),
     }
 }
 
 /// Whether a command that was refused for want of memory left the set, and is told as with memory now.
-fn recovers<'f, L: Ledger, R: Wait>(
+fn recovers<L: Ledger, A: Allocator + Copy, R: Wait>(
     rt: &R,
-    heap: Heap<'f>,
-    single: &mut Single<'f, L>,
+    alloc: A,
+    single: &mut Single<L, A>,
     words: &str,
     ample: &Ample,
 ) -> Result<bool, Fail> {
-    let has_stayed = reply(rt, heap, single, LISTING)?.as_slice() == ample.before.as_slice();
-    let again = reply(rt, heap, single, words)?;
-    Ok(has_stayed && again.as_slice() == ample.reply.as_slice())
+    let has_stayed = is_told(rt, alloc, single, LISTING, &ample.before)?;
+    let is_made = is_told(rt, alloc, single, words, &ample.reply)?;
+    Ok(has_stayed && is_made)
+}
+
+/// Whether the reply to a command that is not refused has these bytes.
+fn is_told<L: Ledger, A: Allocator + Copy, R: Wait>(
+    rt: &R,
+    alloc: A,
+    single: &mut Single<L, A>,
+    words: &str,
+    wanted: &[u8],
+) -> Result<bool, Fail> {
+    let told = reply(rt, alloc, single, words)?;
+    let is_told = told.as_slice() == wanted;
+    drop(told);
+    Ok(is_told)
 }
 
 /// Sets up the set, and refuses one allocation of a command behind it.
-fn refuse_one<'f, L: Ledger, R: Wait>(
+fn refuse_one<L: Ledger, A: Allocator + Copy, R: Wait>(
     rt: &R,
-    heap: Heap<'f>,
-    single: &mut Single<'f, L>,
+    fuse: &Fuse<Global>,
+    alloc: A,
+    single: &mut Single<L, A>,
     question: Question<'_>,
     ample: &Ample,
 ) -> Result<Outcome, Fail> {
-    set_up(rt, heap, single)?;
-    let (reply, is_whole) = ask(rt, heap, single, question)?;
-    if let Some(reply) = reply {
-        let bytes = bytes_of(heap, &reply)?;
-        return Ok(Outcome::of_reply(is_whole, bytes.as_slice(), ample));
+    set_up(rt, alloc, single)?;
+    let (found, is_whole) = ask(rt, fuse, alloc, single, question)?;
+    match bytes_unless_refused(alloc, found)? {
+        Some(bytes) => {
+            let outcome = Outcome::of_reply(is_whole, bytes.as_slice(), ample);
+            drop(bytes);
+            Ok(outcome)
+        }
+        None if is_whole => Ok(Outcome::Wrong),
+        None => Ok(Outcome::of_refusal(recovers(rt, alloc, single, question.words, ample)?)),
     }
-    if !is_whole && recovers(rt, heap, single, question.words, ample)? {
-        return Ok(Outcome::Refused);
-    }
-    Ok(Outcome::Wrong)
 }
 
 /// The same over a cell of its own. The command is answered once, at once or asked again, and the log has the numbers
@@ -222,9 +262,13 @@ fn refuse<L: Ledger, R: Wait>(
     let hasher = RandomState::new(rt)?;
     let fuse = Fuse::new(rt.alloc(), 0);
     let sink = FuseSink::new(MemorySink::new(rt.alloc(), 65_536), 0);
-    let mut single = opened_cell::<L>(&fuse, blank, sink, hasher)?;
-    let outcome = refuse_one(locks, &fuse, &mut single, question, ample)?;
+    let owner = OneOwner::new(&fuse, hasher);
+    let set = owner.empty_set();
+    drop(owner);
+    let mut single = opened_cell::<L, _>(&fuse, blank, sink, set?)?;
+    let outcome = refuse_one(locks, &fuse, &fuse, &mut single, question, ample);
     let is_logged = appended_to(single) == question.wanted;
+    let outcome = outcome?;
     Ok(if is_logged { outcome } else { Outcome::Wrong })
 }
 
@@ -248,10 +292,12 @@ fn refused<R: Wait>(
         match refuse::<Brand, _>(rt, locks, Blank::new(2), question, &ample)? {
             Outcome::Whole => return Ok(allocation - 1),
             Outcome::Refused => {}
-            Outcome::Made | Outcome::Wrong => return Err("neither refused nor as with memory")?,
+            Outcome::Made | Outcome::Wrong => {
+                return Err(Fail::new("neither refused nor as with memory"));
+            }
         }
     }
-    Err("no end")?
+    Err(Fail::new("no end"))
 }
 
 /// A set whose rows from 4 to 6 stand in pieces and wait for nothing, and one row that waits behind them.
@@ -290,9 +336,9 @@ const COMMANDS: [(Asked, &str, Appended, u64, u64); 11] = [
 
 #[test]
 fn each_command_is_refused_or_answered(rt: HostRuntime) -> Result<(), Fail> {
-    for (asked, words, wanted, least, most) in COMMANDS {
-        let made = refused(&rt, &rt, asked, words, wanted)?;
-        assert!(rt; least <= made && made <= most, "{words}: {made}");
+    for (asked, words, wanted, least, most) in &COMMANDS {
+        let made = refused(&rt, &rt, *asked, words, *wanted)?;
+        assert!(rt; *least <= made && made <= *most, "{words}: {made}");
     }
     Ok(())
 }

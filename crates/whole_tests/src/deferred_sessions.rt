@@ -9,7 +9,7 @@ use lone_sessions::serve_deferred;
 use resp_wire::{MemoryDrain, MemorySource};
 use session_core::{Ended, SessionFault};
 use sorted_sets::OneOwner;
-use std::alloc::Global;
+use std::alloc::{AllocError, Global};
 use std::hash::RandomState;
 use std::marker::Brand;
 use std::sync::ledger::{Blank, Ledger};
@@ -80,9 +80,13 @@ fn opened<L: Ledger>(rt: &HostRuntime, blank: Blank, fails_at: u64) -> Result<Lo
 
 /// How many records are settled, and how often the sink was called.
 fn numbers_of<L: Ledger>(owner: Logged<L>) -> (u64, u64) {
-    let (_, log) = owner.into_parts();
+    let (sets, log) = owner.into_parts();
+    drop(sets);
     let settled = log.settled();
-    (settled, log.into_sink().calls())
+    let sink = log.into_sink();
+    let calls = sink.calls();
+    drop(sink);
+    (settled, calls)
 }
 
 /// How a session ends.
@@ -113,11 +117,19 @@ fn served<L: Ledger>(
     let end = serve_deferred(rt, alloc, &mut source, &mut replies, &mut owner);
     let (drain, held) = replies.into_parts();
     let (settled, calls) = numbers_of(owner);
-    Ok(Outcome {
-        end: told(alloc, end)?,
-        left: Vec::from_slice(alloc, drain.flushed())?,
-        counts: [held as u64, settled, calls],
-    })
+    let left = Vec::from_slice(alloc, drain.flushed());
+    drop(drain);
+    outcome_of(told(alloc, end)?, left, [held as u64, settled, calls])
+}
+
+/// What a session comes to whose bytes that left were copied, if there was memory.
+fn outcome_of(
+    end: String,
+    left: Result<Vec<u8>, AllocError>,
+    counts: [u64; 3],
+) -> Result<Outcome, Fail> {
+    let left = left?;
+    Ok(Outcome { end, left, counts })
 }
 
 /// The same, with a ledger of its own.
@@ -142,7 +154,7 @@ enum Left {
 /// The replies to the changes.
 const REPLIES: &[u8] = b":1\r\n:1\r\n:1\r\n:3\r\n";
 
-const CASES: [(Given, Wanted); 9] = [
+static CASES: [(Given, Wanted); 9] = [
     // records that came at once share a sync; those that come one by one have one each
     (
         (CHANGES, 4096, 0),
@@ -230,7 +242,7 @@ fn is_as_wanted(outcome: &Outcome, wanted: Wanted) -> bool {
 fn goes_so(rt: &HostRuntime, given: Given, wanted: Wanted) -> Result<bool, Fail> {
     let (script, piece, fails_at) = given;
     if piece == 0 {
-        return Err("no piece")?;
+        return Err(Fail::new("no piece"));
     }
     let input = input_of(rt.alloc(), script)?;
     let outcome = ended(rt, &input, piece, fails_at)?;

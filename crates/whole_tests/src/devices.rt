@@ -40,11 +40,16 @@ fn ask<R, E: Exec<R, Global>>(
     ensures { E.settled exec.new }
 {
     let command = command(alloc, words)?;
-    match exec.run(rt, &command) {
-        Ok(reply) => write_reply(&reply, out)?,
-        Err(_) => out.extend_from_slice(b"refused")?,
+    let answer = exec.run(rt, &command);
+    drop(command);
+    match answer {
+        Ok(reply) => {
+            let written = write_reply(&reply, out);
+            drop(reply);
+            Ok(written?)
+        }
+        Err(_) => Ok(out.extend_from_slice(b"refused")?),
     }
-    Ok(())
 }
 
 const LISTING_OF_J: &str = "ZRANGEBYSCORE j -inf +inf WITHSCORES";
@@ -75,10 +80,13 @@ fn serve_with<R, E: Exec<R, Global>>(
     let mut drain = FuseDrain::new(MemoryDrain::new(alloc, to.chunk), to.fails_at);
     let end = serve(rt, alloc, &mut source, &mut drain, exec, 65_536, 1 << 40);
     let drain = drain.into_inner();
+    let written = Vec::from_slice(alloc, drain.bytes());
+    drop(drain);
+    let listed = listing(rt, alloc, exec)?;
     Ok(Broken {
         end,
-        written: Vec::from_slice(alloc, drain.bytes())?,
-        listed: listing(rt, alloc, exec)?,
+        written: written?,
+        listed,
     })
 }
 
@@ -88,7 +96,9 @@ fn serve_over(rt: &HostRuntime, input: &[u8], to: Device) -> Result<Broken, Fail
 {
     let alloc = rt.alloc();
     let mut owner = OneOwner::new(alloc, RandomState::new(rt)?);
-    serve_with(rt, alloc, &mut owner, input, to)
+    let broken = serve_with(rt, alloc, &mut owner, input, to);
+    drop(owner);
+    broken
 }
 
 /// What a session over the two requests comes to: how it ends, the bytes that were written, and the listings of the sets
@@ -148,9 +158,12 @@ fn fails_so(rt: &HostRuntime, to: Device, wanted: Wanted) -> Result<bool, Fail>
 
 #[test]
 fn a_drain_fails_at_each_call(rt: HostRuntime) -> Result<(), Fail> {
-    for (fails_at, wanted) in DRAINS {
-        let to = Device { chunk: 3, fails_at };
-        assert!(rt; fails_so(&rt, to, wanted)?, "call {fails_at}");
+    for (fails_at, wanted) in &DRAINS {
+        let to = Device {
+            chunk: 3,
+            fails_at: *fails_at,
+        };
+        assert!(rt; fails_so(&rt, to, *wanted)?, "call {fails_at}");
     }
     Ok(())
 }

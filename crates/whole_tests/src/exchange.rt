@@ -53,8 +53,11 @@ pub fn serve_limited(
         buffer,
         max_reads,
     );
+    drop(owner);
+    let written = Vec::from_slice(alloc, drain.bytes());
+    drop(drain);
     Ok(Session {
-        written: Vec::from_slice(alloc, drain.bytes())?,
+        written: written?,
         end,
     })
 }

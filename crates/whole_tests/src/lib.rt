@@ -1,5 +1,5 @@
 //! The tests that cross crates, of what a run of the program does not show: how a session ends, drains that fail, replies
-//! that wait, the wire, and a cell's answers. This crate has nothing but tests.
+//! that wait, the wire, a cell's answers, and lines that no run brings about. This crate has nothing but tests.
 #![tactic(auto)]
 
 #[cfg(test)]
@@ -12,6 +12,8 @@ mod deferred_sessions;
 mod devices;
 #[cfg(test)]
 mod exchange;
+#[cfg(test)]
+mod lines;
 #[cfg(test)]
 mod polled_devices;
 #[cfg(test)]

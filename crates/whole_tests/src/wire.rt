@@ -18,11 +18,18 @@ const LITTLE: usize = 512;
 #[test]
 fn an_announced_length_reserves_nothing(rt: HostRuntime) -> Result<(), Fail> {
     let heap = LocalHeap::new(rt.alloc(), LITTLE)?;
-    let mut decoder = Decoder::new(&heap);
-    decoder.feed(b"*1027\r\n$65536\r\n")?;
-    assert!(rt; matches!(decoder.next(), Ok(None)));
-    assert_eq!(rt; (decoder.rest_len(), decoder.taken()), (15, 0));
+    assert!(rt; announces(&heap)?);
     Ok(())
+}
+
+/// Whether a decoder waits for what is announced, and keeps the bytes that announce it.
+fn announces<A: Allocator + Copy>(heap: A) -> Result<bool, Fail> {
+    let mut decoder = Decoder::new(heap);
+    decoder.feed(b"*1027\r\n$65536\r\n")?;
+    let next = decoder.next();
+    let waits = matches!(&next, Ok(None));
+    drop(next);
+    Ok(waits && (decoder.rest_len(), decoder.taken()) == (15, 0))
 }
 
 /// Feeds a piece so many times, and takes a request each time: whether each was given.
@@ -38,22 +45,31 @@ fn are_given<A: Allocator + Copy>(
             return Ok(false);
         }
         decoder.feed(piece)?;
-        if !matches!(decoder.next(), Ok(Some(_))) {
+        let next = decoder.next();
+        let is_given = matches!(&next, Ok(Some(_)));
+        drop(next);
+        if !is_given {
             return Ok(false);
         }
     }
     Ok(true)
 }
 
-/// Whether a decoder with a little heap gives a request behind each of ten thousand pieces, which follow a first one.
-/// These are many times as many bytes as the heap has.
+/// Whether a decoder gives a request behind each of ten thousand pieces, which follow a first one.
+fn gives_all<A: Allocator + Copy>(heap: A, first: &[u8], piece: &[u8]) -> Result<bool, Fail>
+    requires { (length first.now ≤ 100) × (length piece.now ≤ 100) }
+{
+    let mut decoder = Decoder::new(heap);
+    decoder.feed(first)?;
+    Ok(are_given(&mut decoder, piece, 10_000)? && decoder.taken() == 140_000)
+}
+
+/// Whether it does with a little heap. These are many times as many bytes as the heap has.
 fn keeps_little(alloc: Global, first: &[u8], piece: &[u8]) -> Result<bool, Fail>
     requires { (length first.now ≤ 100) × (length piece.now ≤ 100) }
 {
     let heap = LocalHeap::new(alloc, LITTLE)?;
-    let mut decoder = Decoder::new(&heap);
-    decoder.feed(first)?;
-    Ok(are_given(&mut decoder, piece, 10_000)? && decoder.taken() == 140_000)
+    gives_all(&heap, first, piece)
 }
 
 // Where each piece is a request, and where each has the rest of one and the beginning of the next.
@@ -129,7 +145,7 @@ fn feed<A: Allocator + Copy>(
     given: &mut Given,
 ) -> Result<(), Fail> {
     if decoder.taken() > 1000 || decoder.rest_len() > 1000 {
-        return Err("a long text")?;
+        return Err(Fail::new("a long text"));
     }
     if decoder.feed(&[byte]).is_err() {
         given.was_fed_again = true;
@@ -178,8 +194,15 @@ fn decode<A: Allocator + Copy>(alloc: Global, heap: A, text: &[u8]) -> Result<Gi
         was_fed_again: false,
         was_asked_again: false,
     };
-    feed_all(&mut decoder, text, &mut given)?;
-    Ok(given)
+    let fed = feed_all(&mut decoder, text, &mut given);
+    drop(decoder);
+    match fed {
+        Ok(()) => Ok(given),
+        Err(fail) => {
+            drop(given);
+            Err(fail)
+        }
+    }
 }
 
 /// Requests with what is skipped between them, and a byte that begins none.
@@ -201,7 +224,7 @@ fn refuse(alloc: Global, allocation: u64) -> Result<(bool, bool, bool), Fail> {
     let fuse = Fuse::new(alloc, allocation);
     let given = decode(alloc, &fuse, TEXT)?;
     if !is_whole(&given) {
-        return Err("not what stands there")?;
+        return Err(Fail::new("not what stands there"));
     }
     Ok((fuse.is_armed(), given.was_fed_again, given.was_asked_again))
 }
@@ -218,7 +241,7 @@ fn refused(alloc: Global) -> Result<(u64, u64), Fail> {
         fed = fed.saturating_add(u64::from(was_fed_again));
         asked = asked.saturating_add(u64::from(was_asked_again));
     }
-    Err("no end")?
+    Err(Fail::new("no end"))
 }
 
 /// The least number of runs in which a byte was fed again, and in which a request was asked for again.

@@ -3,17 +3,14 @@
 
 ghost use Rattle.std.specs.Prelude.{◌≡◌, ◌≤◌, length, None};
 
-use crate::owners::{Owner, command, replies};
+use crate::owners::{Owner, accepted, command};
 use fuse_alloc::Fuse;
 use resp_wire::Decoder;
 use sorted_sets::OneOwner;
-use std::alloc::Global;
+use std::alloc::{Allocator, Global};
 use std::hash::RandomState;
 use std::test::*;
 use zset_commands::Command;
-
-/// Memory one of whose allocations is refused.
-type Heap<'f> = &'f Fuse<Global>;
 
 /// A set with rows in pieces and rows that wait, and a set of one member.
 const SETUP: [&str; 5] = [
@@ -40,10 +37,10 @@ const CHANGES: [&str; 11] = [
 ];
 
 /// Whether a change is prepared, and then made without an allocation.
-fn is_made_without<'f>(
-    heap: Heap<'f>,
-    owner: &mut Owner<Heap<'f>>,
-    change: &Command<Heap<'f>>,
+fn is_made_without<A: Allocator + Copy>(
+    fuse: &Fuse<Global>,
+    owner: &mut Owner<A>,
+    change: &Command<A>,
 ) -> bool
     requires { owner.old.next ≡ None }
     ensures { owner.new.next ≡ None }
@@ -54,26 +51,27 @@ fn is_made_without<'f>(
     match owner.prepare(change) {
         Err(_refusal) => false,
         Ok(_outline) => {
-            heap.arm(1);
+            fuse.arm(1);
             drop(owner.commit(change));
-            let is_armed = heap.is_armed();
-            heap.arm(0);
+            let is_armed = fuse.is_armed();
+            fuse.arm(0);
             is_armed
         }
     }
 }
 
 /// The first of the changes that is not, where there is one.
-fn first_with_memory<'f>(
-    heap: Heap<'f>,
-    owner: &mut Owner<Heap<'f>>,
+fn first_with_memory<A: Allocator + Copy>(
+    fuse: &Fuse<Global>,
+    alloc: A,
+    owner: &mut Owner<A>,
 ) -> Result<Option<&'static str>, Fail>
     requires { owner.old.next ≡ None }
 {
-    drop(replies(heap, owner, &SETUP)?);
+    drop(accepted(alloc, owner, &SETUP)?);
     for text in CHANGES {
-        let change = command(heap, text)?;
-        let is_made = is_made_without(heap, owner, &change);
+        let change = command(alloc, text)?;
+        let is_made = is_made_without(fuse, owner, &change);
         drop(change);
         if !is_made {
             return Ok(Some(text));
@@ -87,7 +85,7 @@ fn first_with_memory<'f>(
 fn a_prepared_change_takes_no_memory(rt: HostRuntime) -> Result<(), Fail> {
     let fuse = Fuse::new(rt.alloc(), 0);
     let mut owner = OneOwner::new(&fuse, RandomState::new(&rt)?);
-    let first = first_with_memory(&fuse, &mut owner);
+    let first = first_with_memory(&fuse, &fuse, &mut owner);
     drop(owner);
     let first = first?.unwrap_or("none");
     assert!(rt; first == "none", "{first}");
@@ -95,18 +93,29 @@ fn a_prepared_change_takes_no_memory(rt: HostRuntime) -> Result<(), Fail> {
 }
 
 /// Whether keys are told and a set leaves an owner without an allocation.
-fn leaves_without<'f>(heap: Heap<'f>, owner: &mut Owner<Heap<'f>>) -> Result<bool, Fail>
+fn leaves_without<A: Allocator + Copy>(fuse: &Fuse<Global>, owner: &mut Owner<A>) -> bool
     requires { owner.old.next ≡ None }
 {
-    drop(replies(heap, owner, &SETUP)?);
-    heap.arm(1);
+    fuse.arm(1);
     let is_told = owner.key_at(1) == Some(b"k".as_slice());
     let set = owner.take_first();
     let has_left = set.is_some();
     drop(set);
-    let is_armed = heap.is_armed();
-    heap.arm(0);
-    Ok(is_told && has_left && is_armed)
+    let is_armed = fuse.is_armed();
+    fuse.arm(0);
+    is_told && has_left && is_armed
+}
+
+/// The same behind the commands that set up the sets.
+fn leaves_without_behind<A: Allocator + Copy>(
+    fuse: &Fuse<Global>,
+    alloc: A,
+    owner: &mut Owner<A>,
+) -> Result<bool, Fail>
+    requires { owner.old.next ≡ None }
+{
+    drop(accepted(alloc, owner, &SETUP)?);
+    Ok(leaves_without(fuse, owner))
 }
 
 // A server takes the sets of its file over, however many they are.
@@ -114,7 +123,7 @@ fn leaves_without<'f>(heap: Heap<'f>, owner: &mut Owner<Heap<'f>>) -> Result<boo
 fn a_set_that_leaves_takes_no_memory(rt: HostRuntime) -> Result<(), Fail> {
     let fuse = Fuse::new(rt.alloc(), 0);
     let mut owner = OneOwner::new(&fuse, RandomState::new(&rt)?);
-    let leaves = leaves_without(&fuse, &mut owner);
+    let leaves = leaves_without_behind(&fuse, &fuse, &mut owner);
     drop(owner);
     assert!(rt; leaves?);
     Ok(())
@@ -129,19 +138,25 @@ const OF_NINE_WORDS: &[u8] =
       *9\r\n$1\r\n1\r\n$1\r\n2\r\n$1\r\n3\r\n$1\r\n4\r\n$1\r\n5\r\n$1\r\n6\r\n$1\r\n7\r\n$1\r\n8\r\n$1\r\n9\r\n";
 
 /// Whether the second of two requests is read without an allocation, where the first was answered and is reused.
-fn is_read_without(heap: Heap<'_>, two: &[u8]) -> Result<bool, Fail>
+fn is_read_without<A: Allocator + Copy>(
+    fuse: &Fuse<Global>,
+    alloc: A,
+    two: &[u8],
+) -> Result<bool, Fail>
     requires { length two.now ≤ 1000 }
 {
-    let mut decoder = Decoder::new(heap);
+    let mut decoder = Decoder::new(alloc);
     decoder.feed(two)?;
     let Ok(Some(answered)) = decoder.next() else {
-        return Err("no request")?;
+        return Err(Fail::new("no request"));
     };
     decoder.reuse(answered);
-    heap.arm(1);
-    let is_given = matches!(decoder.next(), Ok(Some(_)));
-    let is_armed = heap.is_armed();
-    heap.arm(0);
+    fuse.arm(1);
+    let next = decoder.next();
+    let is_given = matches!(&next, Ok(Some(_)));
+    drop(next);
+    let is_armed = fuse.is_armed();
+    fuse.arm(0);
     Ok(is_given && is_armed)
 }
 
@@ -149,7 +164,7 @@ fn is_read_without(heap: Heap<'_>, two: &[u8]) -> Result<bool, Fail>
 #[test]
 fn a_short_request_behind_another_takes_no_memory(rt: HostRuntime) -> Result<(), Fail> {
     let fuse = Fuse::new(rt.alloc(), 0);
-    assert!(rt; is_read_without(&fuse, OF_TWO_WORDS)?);
-    assert!(rt; !is_read_without(&fuse, OF_NINE_WORDS)?);
+    assert!(rt; is_read_without(&fuse, &fuse, OF_TWO_WORDS)?);
+    assert!(rt; !is_read_without(&fuse, &fuse, OF_NINE_WORDS)?);
     Ok(())
 }

@@ -1,6 +1,9 @@
-//! Each line's text and status. A line that no run brings about is seen here alone.
+//! Each line's text and status, and the end of a session that no run brings about. A line that no run brings about is seen
+//! here alone.
 
-use exit_lines::{Line, Unusable};
+use exit_lines::{Finish, Line, Unusable};
+use program_runs::after_session;
+use session_core::SessionFault;
 use std::test::Fail;
 
 const LINES: [(Line, u8, &str); 19] = [
@@ -60,4 +63,10 @@ fn each_line_has_its_text_and_status(rt: HostRuntime) -> Result<(), Fail> {
         assert_eq!(rt; (line.status(), told.as_str()), (status, text));
     }
     Ok(())
+}
+
+#[test]
+fn too_many_reads_are_told(rt: HostRuntime) {
+    let finish = after_session(Err(SessionFault::TooManyReads));
+    assert_eq!(rt; finish, Finish::with_line(1, Line::ReadTooOften));
 }

@@ -2,9 +2,10 @@
 
 ghost use Rattle.std.specs.Prelude.{◌≡◌, None};
 
-use crate::owners::{Owner, addition, replies};
+use crate::owners::{Owner, accepted, addition};
 use linked_list_allocator::LocalHeap;
 use sorted_sets::OneOwner;
+use std::alloc::{Allocator, Global};
 use std::hash::RandomState;
 use std::test::*;
 
@@ -12,17 +13,28 @@ use std::test::*;
 const HEAP: usize = 1 << 20;
 
 /// The bytes that a set takes once so many members were added to it at once. Another set was there before.
-fn size_of<'h>(
-    heap: &'h LocalHeap,
-    owner: &mut Owner<&'h LocalHeap>,
+fn size_of<A: Allocator + Copy>(
+    heap: &LocalHeap,
+    alloc: A,
+    owner: &mut Owner<A>,
     text: &str,
 ) -> Result<usize, Fail>
     requires { owner.old.next ≡ None }
 {
-    drop(replies(heap, owner, &["ZADD j 1 x"])?);
+    drop(accepted(alloc, owner, &["ZADD j 1 x"])?);
     let before = heap.used();
-    drop(replies(heap, owner, &[text])?);
+    drop(accepted(alloc, owner, &[text])?);
     Ok(heap.used().saturating_sub(before))
+}
+
+/// The same of an owner in a heap of its own, to whose set so many members are added.
+fn size_in_heap(alloc: Global, hasher: RandomState, members: u64) -> Result<usize, Fail> {
+    let text = addition(alloc, members)?;
+    let heap = LocalHeap::new(alloc, HEAP)?;
+    let mut owner = OneOwner::new(&heap, hasher);
+    let bytes = size_of(&heap, &heap, &mut owner, text.as_str());
+    drop(owner);
+    bytes
 }
 
 /// How many members are added, and how many bytes their set takes at the most. Its map and one list of rows that wait
@@ -32,13 +44,7 @@ const SIZES: [(u64, usize); 3] = [(1, 1500), (50, 6600), (200, 23_500)];
 #[test]
 fn a_new_set_keeps_no_room_for_removals(rt: HostRuntime) -> Result<(), Fail> {
     for (members, most) in SIZES {
-        let text = addition(rt.alloc(), members)?;
-        let hasher = RandomState::new(&rt)?;
-        let heap = LocalHeap::new(rt.alloc(), HEAP)?;
-        let mut owner = OneOwner::new(&heap, hasher);
-        let bytes = size_of(&heap, &mut owner, text.as_str());
-        drop(owner);
-        let bytes = bytes?;
+        let bytes = size_in_heap(rt.alloc(), RandomState::new(&rt)?, members)?;
         assert!(rt; bytes <= most, "{members} members: {bytes}");
     }
     Ok(())
