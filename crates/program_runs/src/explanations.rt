@@ -8,8 +8,9 @@ use crate::file_progress_reports::WatchedFiles;
 use append_file::FileFault;
 use exit_lines::{Finish, Line, Unusable};
 use std::alloc::Global;
+use std::fs::Files;
+use std::io;
 use std::net::SocketAddr;
-use std::{fs, io};
 
 /// How the program ends, and what its lines mean in this case.
 #[derive(Drop)]
@@ -33,18 +34,22 @@ fn why_unusable(
     }
 }
 
-/// Why no file of version 2 took an old one's place: by the path of the new one, which stands beside
-/// the old one, where a link leads to that.
-fn why_not_renewed(files: &WatchedFiles<'_>, old: &str, fault: FileFault) -> Option<String> {
+/// The path of the new file, which stands beside the old one, where a link leads to that.
+fn renewed_path(files: &WatchedFiles<'_>, old: &str) -> Option<String> {
     let alloc = files.alloc();
-    let renewed = match fs::symlink_metadata(files, old) {
+    match files.symlink_metadata(old) {
         Ok(found) if found.is_symlink() => {
-            let place = fs::canonicalize(files, old).ok()?;
-            format!(in alloc; "{}.new", place.as_str())
+            let place = files.canonicalize(alloc, old).ok()?;
+            format!(in alloc; "{}.new", place.as_str()).ok()
         }
-        _ => format!(in alloc; "{old}.new"),
-    };
-    why_unusable(alloc, renewed.ok()?.as_str(), fault, files.refusal())
+        _ => format!(in alloc; "{old}.new").ok(),
+    }
+}
+
+/// Why no file of version 2 took an old one's place: by the path of the new one.
+fn why_not_renewed(files: &WatchedFiles<'_>, old: &str, fault: FileFault) -> Option<String> {
+    let renewed = renewed_path(files, old)?;
+    why_unusable(files.alloc(), renewed.as_str(), fault, files.refusal())
 }
 
 /// What to do with a file of an unknown version.
@@ -54,11 +59,33 @@ fn what_is_unknown(alloc: Global, path: &str) -> Option<String> {
 
 /// How much of a file stands from the byte on that is no record's, and how to do without it.
 fn what_is_damaged(files: &WatchedFiles<'_>, path: &str, at: u64) -> Option<String> {
-    let size = fs::metadata(files, path).ok()?.len();
+    let size = Files::metadata(files, path).ok()?.len();
     let behind = size.saturating_sub(at);
     format!(in files.alloc();
         "{path}: {behind} of its {size} bytes stand from byte {at} on; to do without them, copy it, and on the copy: truncate -s {at} COPY\n"
     ).ok()
+}
+
+/// What a line means for an append file: by its path. None where it says all, or says nothing of a file.
+fn explanation_of(
+    files: &WatchedFiles<'_>,
+    line: Option<Line>,
+    old: &str,
+    new: &str,
+) -> Option<String> {
+    let alloc = files.alloc();
+    match line? {
+        Line::CannotUseFile(Unusable::Old(fault)) => {
+            why_unusable(alloc, old, fault, files.refusal())
+        }
+        Line::CannotUseFile(Unusable::New(fault)) => {
+            why_unusable(alloc, new, fault, files.refusal())
+        }
+        Line::CannotUseFile(Unusable::Renewed(fault)) => why_not_renewed(files, old, fault),
+        Line::UnknownVersion => what_is_unknown(alloc, old),
+        Line::FileDamaged(at) | Line::NoCommandInFile(at) => what_is_damaged(files, old, at),
+        _ => None,
+    }
 }
 
 impl Ending {
@@ -76,31 +103,12 @@ impl Ending {
     pub fn of_files(files: &WatchedFiles<'_>, finish: Finish, old: &str, new: &str) -> Self
         ensures { result.finish ≡ finish }
     {
-        let alloc = files.alloc();
-        let mut explanation = None;
-        for line in finish.lines.iter().flatten() {
-            match line {
-                Line::CannotUseFile(Unusable::Old(fault)) => {
-                    explanation = why_unusable(alloc, old, *fault, files.refusal());
-                }
-                Line::CannotUseFile(Unusable::New(fault)) => {
-                    explanation = why_unusable(alloc, new, *fault, files.refusal());
-                }
-                Line::CannotUseFile(Unusable::Renewed(fault)) => {
-                    explanation = why_not_renewed(files, old, *fault);
-                }
-                Line::UnknownVersion => {
-                    explanation = what_is_unknown(alloc, old);
-                }
-                Line::FileDamaged(at) | Line::NoCommandInFile(at) => {
-                    explanation = what_is_damaged(files, old, *at);
-                }
-                _ => {}
-            }
-        }
+        // No end has two lines that are explained.
+        let [first, second] = finish.lines;
+        let explanation = explanation_of(files, first, old, new);
         Ending {
             finish,
-            explanation,
+            explanation: explanation.or(explanation_of(files, second, old, new)),
         }
     }
 
