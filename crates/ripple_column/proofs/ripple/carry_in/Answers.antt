@@ -1,4 +1,5 @@
 use Rattle.std.proofs.Common.{◌≡◌, ◌≤◌, ◌+◌, ◌-◌, ◌++◌, ◌∷◌, [], ℕ, pos, length, sym, ap, ◌∙◌, true, arith}
+use Rattle.std.proofs.lemmas.Grind.{common_steps}
 use Rattle.std.proofs.lemmas.Int.{ints}
 use Rattle.crack_kernel.specs.PivotList.{IsRising, RisesPast, shifted}
 use Rattle.crack_kernel.proofs.PivotOrder.{IsRising-shifted, length-shifted, values-shifted, RisesPast-same}
@@ -58,3 +59,9 @@ returns-clause-frame g c = record {
   spare = c.shift.ensures.spare;
   capacity = c.loop-i.invariant.capacity;
 }
+
+pub swap-requires-clause-j_in_bounds : goal.swap-requires-clause-j_in_bounds
+swap-requires-clause-j_in_bounds g c = grind (arith, common_steps)
+
+pub shift-requires-clause-high : goal.shift-requires-clause-high
+shift-requires-clause-high g c = grind (arith, common_steps)

@@ -1,4 +1,5 @@
 use Rattle.std.proofs.Common.{◌≡◌, ◌<◌, ◌≤◌, ◌+◌, ◌-◌, ℕ, ℤ, List, pos, length, get_or, sym, ap, ◌∙◌, false, cond, eqb, arith, vec_len, Some, length-drop}
+use Rattle.std.proofs.lemmas.Grind.{common_steps}
 use Rattle.std.proofs.lemmas.Int.{ints}
 use Rattle.std.proofs.lemmas.List.{get_or_past, get_or-drop}
 use Rattle.crack_kernel.specs.PivotList.{IsRising, RisesPast, shifted}
@@ -180,3 +181,9 @@ returns-clause-frame g c = record {
   spare = c.shift.ensures.spare;
   capacity = c.in-Some.ensures.capacity ∙ c.loop-i.invariant.capacity;
 }
+
+pub overflow_sub-end : goal.overflow_sub-end
+overflow_sub-end g c = grind (arith, common_steps)
+
+pub overflow_sub-hole-in-loop-i : goal.overflow_sub-hole-in-loop-i
+overflow_sub-hole-in-loop-i g c = grind (arith, common_steps)

@@ -1,4 +1,5 @@
 use Rattle.std.proofs.Common.{ℕ, ℤ, List, Contains, count_by, ap, arith}
+use Rattle.std.proofs.lemmas.Grind.{common_steps}
 use Rattle.crack_kernel.specs.RowBag.{Test}
 use Rattle.column_rows.specs.RangeCutsAsPivots.{values}
 use Rattle.column_rows.proofs.Counts.{count_moved}
@@ -33,3 +34,6 @@ returns-clause-merges g c =
       less_deletions = m.less_deletions;
       less_insertions = m.less_insertions;
     }
+
+pub crack_and_show-requires-clause-few_shown : goal.crack_and_show-requires-clause-few_shown
+crack_and_show-requires-clause-few_shown g c = grind (arith, common_steps)

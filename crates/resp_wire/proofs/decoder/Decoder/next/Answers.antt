@@ -1,4 +1,4 @@
-use Rattle.std.proofs.Common.{◌≡◌, ◌+◌, ◌++◌, drop, refl, sym, ap, ◌∙◌, Some, arith}
+use Rattle.std.proofs.Common.{◌≡◌, ◌+◌, ◌++◌, drop, refl, sym, ap, ◌∙◌, Some, arith, rules}
 use Rattle.std.proofs.lemmas.Grind.{common_steps}
 use Rattle.resp_wire.specs.declared.decoder_steps.End.TheVariants as ends
 use Rattle.resp_wire.specs.declared.fault.Stop.TheVariants as stops
@@ -132,3 +132,6 @@ of-requires g c = grind (arith, common_steps)
 
 pub invariant_of-self-in-Whole : goal.invariant_of-self-in-Whole
 invariant_of-self-in-Whole g c = grind (arith, common_steps)
+
+pub returns-in-Some-clause-failed : goal.returns-in-Some-clause-failed
+returns-in-Some-clause-failed g c = search rules
