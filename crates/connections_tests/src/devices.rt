@@ -5,7 +5,7 @@ use std::io::{Error as IoError, ErrorKind, Read, Result as IoResult, Write};
 use std::time::{Clock, Duration};
 
 /// One side of a client.
-#[derive(Clone, Copy, Debug)]
+#[derive(Clone, Copy)]
 pub struct Device {
     /// How many bytes a call moves at most.
     pub chunk: usize,
@@ -23,7 +23,7 @@ impl Device {
 }
 
 /// Both sides of a client.
-#[derive(Clone, Copy, Debug)]
+#[derive(Clone, Copy)]
 pub struct Devices {
     pub from: Device,
     pub to: Device,

@@ -15,6 +15,8 @@ mod recorded;
 #[cfg(test)]
 mod scripts;
 #[cfg(test)]
+mod served;
+#[cfg(test)]
 mod settling;
 #[cfg(test)]
 mod turns;

@@ -4,21 +4,40 @@ use crate::devices::{Device, Pace, Sender, Taker, TestClock};
 use crate::model::MOST_TURNS;
 use crate::scripts::Script;
 use connections::{Buffers, Moment, Next, Visit};
-use resp_wire::{Reading, Writing};
+use resp_wire::{PolledDrain, PolledSource, Reading, Writing};
 use session_core::Exec;
 use sorted_sets::OneOwner;
 use std::alloc::Global;
 use std::hash::RandomState;
 use std::test::*;
 
-/// Serves a client that sends these at once, by this clock, until its connection has ended.
-fn serve<R, E: Exec<R, Global>>(
+/// Gives a connection turns, by this clock, and tells whether it ends.
+fn ends<R, E: Exec<R, Global>, S: PolledSource, D: PolledDrain>(
+    rt: &R,
+    clock: &TestClock,
+    exec: &mut E,
+    buffers: &mut Buffers<Global>,
+    visit: &mut Visit<S, D, Global>,
+) -> bool
+    requires { E.settled exec.old }
+{
+    let moment = Moment::new(clock, None, false);
+    for _ in 0..MOST_TURNS {
+        if visit.turn(rt, &moment, buffers, exec, u64::MAX) == Next::Ends {
+            return true;
+        }
+    }
+    false
+}
+
+/// The same of the connection of a client that sends these at once.
+fn is_served<R, E: Exec<R, Global>>(
     rt: &R,
     alloc: Global,
     clock: &TestClock,
     script: &Script<'_>,
     exec: &mut E,
-) -> Result<(), Fail>
+) -> Result<bool, Fail>
     requires { E.settled exec.old }
 {
     let mut buffers = Buffers::new(alloc)?;
@@ -31,13 +50,10 @@ fn serve<R, E: Exec<R, Global>>(
     let source = Reading::new(Sender::new(&script.bytes, device));
     let drain = Writing::new(Taker::new(&mut taken, device));
     let mut visit = Visit::new(alloc, source, drain, false);
-    let moment = Moment::new(clock, None, false);
-    for _ in 0..MOST_TURNS {
-        if visit.turn(rt, &moment, &mut buffers, exec, u64::MAX) == Next::Ends {
-            return Ok(());
-        }
-    }
-    Err("no end")?
+    let ends = ends(rt, clock, exec, &mut buffers, &mut visit);
+    drop(visit);
+    drop(buffers);
+    Ok(ends)
 }
 
 /// How often the clock is looked at while a connection that sends so many PINGs at once is served.
@@ -46,8 +62,14 @@ fn looks_behind(rt: &HostRuntime, pace: Pace, requests: usize) -> Result<u64, Fa
     let script = Script::new(alloc, &["PING"], requests)?;
     let mut owner = OneOwner::new(alloc, RandomState::new(rt)?);
     let clock = TestClock::new(pace);
-    serve(rt, alloc, &clock, &script, &mut owner)?;
-    Ok(clock.looks())
+    let is_served = is_served(rt, alloc, &clock, &script, &mut owner);
+    drop(owner);
+    drop(script);
+    if is_served? {
+        Ok(clock.looks())
+    } else {
+        Err(Fail::new("no end"))
+    }
 }
 
 /// Paces, PINGs, and how often the clock is looked at: in each turn of 128 once at its beginning; behind each request of

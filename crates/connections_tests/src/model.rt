@@ -68,7 +68,7 @@ fn are_long(pace: Pace) -> Option<bool> {
 
 /// A connection of the model.
 #[derive(Drop)]
-struct Modelled<'c> {
+pub struct Modelled<'c> {
     script: &'c Script<'c>,
     devices: Devices,
     replies: Vec<u8>,
@@ -86,8 +86,11 @@ struct Modelled<'c> {
     ran: u32,
     /// They may be long.
     may_be_long: bool,
+    /// A call of its device failed.
     has_failed: bool,
     has_ended: bool,
+    /// Which of all turns was its last.
+    ended_at: usize,
 }
 
 impl<'c> Modelled<'c> {
@@ -106,7 +109,28 @@ impl<'c> Modelled<'c> {
             may_be_long: true,
             has_failed: false,
             has_ended: false,
+            ended_at: 0,
         }
+    }
+
+    /// Whether its client is to be told just this, until that of all turns.
+    pub fn is_told(&self, bytes: &[u8], ended_at: usize) -> bool {
+        let sent = self.replies.get(..self.sent).unwrap_or(&[]);
+        bytes == sent && ended_at == self.ended_at
+    }
+
+    pub fn has_failed(&self) -> bool {
+        self.has_failed
+    }
+
+    /// Whether so many of its requests were run.
+    pub fn has_run(&self, requests: usize) -> bool {
+        self.run == requests
+    }
+
+    /// Whether all of its requests were run.
+    pub fn is_whole(&self) -> bool {
+        self.run == self.script.ends.len()
     }
 
     /// A call failed.
@@ -220,23 +244,25 @@ impl<'c> Modelled<'c> {
         }
         Ok(())
     }
-}
 
-/// What a client was told, and at which of all turns its connection ended.
-#[derive(Debug, Drop, PartialEq, Eq)]
-pub struct Told {
-    pub bytes: Vec<u8>,
-    pub ended_at: usize,
-}
-
-/// What the clients are to be told.
-#[derive(Drop)]
-pub struct Wanted {
-    pub told: Vec<Told>,
-    /// How many requests of each were run.
-    pub run: Vec<usize>,
-    /// Whether a call of its device failed.
-    pub failed: Vec<bool>,
+    /// The turn of this number, counted among all, if its connection has not ended before.
+    fn take_turn<R, E: Exec<R, Global>>(
+        &mut self,
+        rt: &R,
+        alloc: Global,
+        exec: &mut E,
+        pace: Pace,
+        number: usize,
+    ) -> Result<(), Fail>
+        requires { E.settled exec.old }
+        ensures { E.settled exec.new }
+    {
+        if self.has_ended {
+            return Ok(());
+        }
+        self.ended_at = number;
+        self.turn(rt, alloc, exec, pace)
+    }
 }
 
 /// The connections of a case before the first turn.
@@ -248,61 +274,52 @@ fn begun<'c>(alloc: Global, case: &Case<'c>) -> Result<Vec<Modelled<'c>>, Fail> 
     Ok(clients)
 }
 
-/// Gives turns until all have ended, and tells when each did.
+fn have_ended(clients: &[Modelled<'_>]) -> bool {
+    for client in clients {
+        if !client.has_ended {
+            return false;
+        }
+    }
+    true
+}
+
+/// Gives turns until all have ended.
 fn play<R, E: Exec<R, Global>>(
     rt: &R,
     alloc: Global,
     exec: &mut E,
     case: &Case<'_>,
-    clients: &mut Vec<Modelled<'_>>,
-) -> Result<Vec<usize>, Fail>
+    clients: &mut [Modelled<'_>],
+) -> Result<(), Fail>
     requires { E.settled exec.old }
 {
     let mut order = case.order;
-    let mut ends = vec![in alloc; 0; clients.len()]?;
     for turn in 0..MOST_TURNS {
-        if clients.iter().all(|client| client.has_ended) {
-            return Ok(ends);
+        if have_ended(clients) {
+            return Ok(());
         }
-        let place = order.next();
-        let client = clients.get_mut(place).ok_or("no client")?;
-        if !client.has_ended {
-            client.turn(rt, alloc, exec, case.pace)?;
-            *ends.get_mut(place).ok_or("no client")? = turn;
+        if let Some(client) = clients.get_mut(order.next()) {
+            client.take_turn(rt, alloc, exec, case.pace, turn)?;
         }
     }
-    Err("no end")?
+    Err(Fail::new("no end"))
 }
 
-/// What came of them.
-fn ended(alloc: Global, clients: &[Modelled<'_>], ends: &[usize]) -> Result<Wanted, Fail> {
-    let mut wanted = Wanted {
-        told: Vec::new(alloc),
-        run: Vec::new(alloc),
-        failed: Vec::new(alloc),
-    };
-    for (client, ended_at) in clients.iter().zip(ends.iter()) {
-        let sent = client.replies.get(..client.sent).unwrap_or(&[]);
-        wanted.told.push(Told {
-            bytes: Vec::from_slice(alloc, sent)?,
-            ended_at: *ended_at,
-        })?;
-        wanted.run.push(client.run)?;
-        wanted.failed.push(client.has_failed)?;
-    }
-    Ok(wanted)
-}
-
-/// What the clients are to be told over this owner.
-pub fn expected<R, E: Exec<R, Global>>(
+/// The connections over this owner when all have ended.
+pub fn played<'c, R, E: Exec<R, Global>>(
     rt: &R,
     alloc: Global,
     exec: &mut E,
-    case: &Case<'_>,
-) -> Result<Wanted, Fail>
+    case: &Case<'c>,
+) -> Result<Vec<Modelled<'c>>, Fail>
     requires { E.settled exec.old }
 {
     let mut clients = begun(alloc, case)?;
-    let ends = play(rt, alloc, exec, case, &mut clients)?;
-    ended(alloc, &clients, &ends)
+    match play(rt, alloc, exec, case, &mut clients) {
+        Ok(()) => Ok(clients),
+        Err(fault) => {
+            drop(clients);
+            Err(fault)
+        }
+    }
 }

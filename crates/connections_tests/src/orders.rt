@@ -4,7 +4,7 @@
 pub const CLIENTS: usize = 3;
 
 /// The order of the turns of three clients.
-#[derive(Clone, Copy, Debug)]
+#[derive(Clone, Copy)]
 pub enum Order {
     /// These, and again from the first.
     Cycle([usize; 3]),

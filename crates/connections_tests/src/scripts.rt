@@ -2,9 +2,9 @@
 
 use resp_wire::{Bytes, BytesList, Reply, Request, write_reply, write_request};
 use session_core::Exec;
-use std::alloc::Global;
+use std::alloc::{AllocError, Allocator, Global};
 use std::test::Fail;
-use zset_commands::Command;
+use zset_commands::{Command, Refusal};
 
 /// What a client sends.
 #[derive(Drop)]
@@ -16,31 +16,65 @@ pub struct Script<'r> {
     pub ends: Vec<usize>,
 }
 
+fn put_word<A: Allocator + Copy>(
+    alloc: A,
+    word: &str,
+    words: &mut Vec<Bytes<A>, A>,
+) -> Result<(), AllocError> {
+    words.push(Bytes::from_slice(alloc, word.as_bytes())?)?;
+    Ok(())
+}
+
 /// The request of a text's words, which single blanks part.
-fn request(alloc: Global, text: &str) -> Result<Request<Global>, Fail> {
+fn request<A: Allocator + Copy>(alloc: A, text: &str) -> Result<Request<A>, Fail> {
     let mut words = Vec::new(alloc);
     for word in text.split(' ') {
-        words.push(Bytes::from_slice(alloc, word.as_bytes())?)?;
+        put_word(alloc, word, &mut words)?;
     }
-    Ok(Request::new(BytesList::new(words)).ok_or("no request")?)
+    match Request::new(BytesList::new(words)) {
+        Some(request) => Ok(request),
+        None => Err(Fail::new("no request")),
+    }
+}
+
+/// Appends the request of a text.
+fn put_request<A: Allocator + Copy>(
+    alloc: A,
+    text: &str,
+    bytes: &mut Vec<u8, A>,
+) -> Result<(), Fail> {
+    let request = request(alloc, text)?;
+    let written = write_request(&request, bytes);
+    drop(request);
+    Ok(written?)
 }
 
 impl<'r> Script<'r> {
     /// The requests in turn, over and over, so many times.
     pub fn new(alloc: Global, requests: &'r [&'r str], times: usize) -> Result<Self, Fail> {
-        let mut bytes = Vec::new(alloc);
-        let mut ends = Vec::new(alloc);
-        for _ in 0..times {
-            for text in requests.iter() {
-                write_request(&request(alloc, text)?, &mut bytes)?;
-                ends.push(bytes.len())?;
+        let mut script = Script {
+            requests,
+            bytes: Vec::new(alloc),
+            ends: Vec::new(alloc),
+        };
+        match script.put(alloc, times) {
+            Ok(()) => Ok(script),
+            Err(fault) => {
+                drop(script);
+                Err(fault)
             }
         }
-        Ok(Script {
-            requests,
-            bytes,
-            ends,
-        })
+    }
+
+    /// Appends the requests, so many times.
+    fn put(&mut self, alloc: Global, times: usize) -> Result<(), Fail> {
+        for _ in 0..times {
+            for text in self.requests {
+                put_request(alloc, text, &mut self.bytes)?;
+                self.ends.push(self.bytes.len())?;
+            }
+        }
+        Ok(())
     }
 
     /// The request at a place, if it is whole after so many bytes.
@@ -50,6 +84,24 @@ impl<'r> Script<'r> {
         let place = place.checked_rem(self.requests.len())?;
         self.requests.get(place).copied().filter(|_| is_whole)
     }
+}
+
+fn command<A: Allocator + Copy>(alloc: A, text: &str) -> Result<Command<A>, Fail> {
+    Command::read(alloc, request(alloc, text)?).map_err(|_| Fail::from("no command"))
+}
+
+/// Appends a reply, or the text of a refusal.
+fn put_answer<A: Allocator + Copy>(
+    answer: Result<Reply<A>, Refusal>,
+    bytes: &mut Vec<u8, A>,
+) -> Result<(), Fail> {
+    let reply = match answer {
+        Ok(reply) => reply,
+        Err(refusal) => Reply::Fault(refusal.text()),
+    };
+    let written = write_reply(&reply, bytes);
+    drop(reply);
+    Ok(written?)
 }
 
 /// Appends the reply to a request.
@@ -63,14 +115,8 @@ pub fn ask<R, E: Exec<R, Global>>(
     requires { E.settled exec.old }
     ensures { E.settled exec.new }
 {
-    let command = match Command::read(alloc, request(alloc, text)?) {
-        Ok(command) => command,
-        Err(_) => return Err("no command")?,
-    };
-    let reply = match exec.run(rt, &command) {
-        Ok(reply) => reply,
-        Err(refusal) => Reply::Fault(refusal.text()),
-    };
-    write_reply(&reply, out)?;
-    Ok(())
+    let command = command(alloc, text)?;
+    let answer = exec.run(rt, &command);
+    drop(command);
+    put_answer(answer, out)
 }

@@ -5,8 +5,8 @@ ghost use Rattle.std.specs.Prelude.{◌≡◌, None, IfOk};
 use crate::devices::{Device, Pace, Sender, TestClock};
 use crate::recorded::{Page, Reader, Recorded, Settler};
 use crate::scripts::Script;
-use connections::Connections;
-use resp_wire::{Reading, Writing};
+use connections::{Connections, Settle, Watched};
+use resp_wire::{PolledDrain, PolledSource, Reading, Writing};
 use session_core::Exec;
 use sorted_sets::OneOwner;
 use std::alloc::Global;
@@ -50,13 +50,16 @@ fn begun<'h>(
 }
 
 /// How many connections are held after some turns, or fewer until none is, while the time goes so.
-fn left<E: Exec<HostRuntime, Global>>(
-    rt: &HostRuntime,
-    held: &mut Held<'_>,
+fn left<R, E: Exec<R, Global>, S, D, T: Settle<R>>(
+    rt: &R,
+    held: &mut Connections<S, D, Global>,
     exec: &mut E,
-    settler: &Settler<'_>,
+    settler: &T,
     turns_at: (u32, Pace),
 ) -> usize
+where
+    S: PolledSource + Watched + Drop,
+    D: PolledDrain + Drop,
     requires { E.settled exec.old }
 {
     let (turns, pace) = turns_at;
@@ -69,6 +72,37 @@ fn left<E: Exec<HostRuntime, Global>>(
     held.count()
 }
 
+/// The same of connections to clients that send these, so many bytes at a time.
+fn left_over<E: Exec<HostRuntime, Global>>(
+    rt: &HostRuntime,
+    scripts: &[Script<'_>],
+    chunk: usize,
+    exec: &mut E,
+    settler: &Settler<'_>,
+    turns_at: (u32, Pace),
+) -> Result<usize, Fail>
+    requires { E.settled exec.old }
+{
+    let mut held = begun(rt, scripts, settler.page, chunk)?;
+    let left = left(rt, &mut held, exec, settler, turns_at);
+    drop(held);
+    Ok(left)
+}
+
+/// The same over an executor without records.
+fn left_anew(
+    rt: &HostRuntime,
+    scripts: &[Script<'_>],
+    chunk: usize,
+    settler: &Settler<'_>,
+    turns_at: (u32, Pace),
+) -> Result<usize, Fail> {
+    let mut recorded = new_recorded(rt)?;
+    let left = left_over(rt, scripts, chunk, &mut recorded, settler, turns_at);
+    drop(recorded);
+    left
+}
+
 /// What leaves in some turns, and how many connections are left then. That many records are settled at a call; None:
 /// no record can be.
 fn played(
@@ -79,14 +113,12 @@ fn played(
     turns: u32,
 ) -> Result<(Vec<u8>, usize), Fail> {
     let page = Page::new(rt.alloc());
-    let mut held = begun(rt, scripts, &page, chunk)?;
     let settler = Settler {
         page: &page,
         most,
         settles_later: true,
     };
-    let turns_at = (turns, Pace::Stands);
-    let left = left(rt, &mut held, &mut new_recorded(rt)?, &settler, turns_at);
+    let left = left_anew(rt, scripts, chunk, &settler, (turns, Pace::Stands))?;
     Ok((page.text(rt.alloc())?, left))
 }
 
@@ -99,53 +131,91 @@ fn clients<'r>(alloc: Global, requests: &[&'r [&'r str]]) -> Result<Vec<Script<'
     Ok(scripts)
 }
 
+/// What clients send, so many bytes at a time, how many records are settled at a call, and how many turns there are; what
+/// leaves in these, and how many connections are left then.
+struct Course {
+    requests: &'static [&'static [&'static str]],
+    chunk: usize,
+    most: Option<u64>,
+    turns: u32,
+    text: &'static [u8],
+    left: usize,
+}
+
+/// Whether that leaves.
+fn is_told(rt: &HostRuntime, course: &Course) -> Result<bool, Fail> {
+    let scripts = clients(rt.alloc(), course.requests)?;
+    let played = played(rt, &scripts, course.chunk, course.most, course.turns);
+    drop(scripts);
+    let (text, left) = played?;
+    Ok(text.as_slice() == course.text && left == course.left)
+}
+
+static SETTLED_AT_ONCE: Course = Course {
+    requests: &[&["ZADD k 1 a"], &["PING"]],
+    chunk: 65_536,
+    most: Some(1),
+    turns: 1,
+    text: b"+PONG\r\n[1]:1\r\n",
+    left: 2,
+};
+
 #[test]
 fn a_change_is_told_once_it_is_settled(rt: HostRuntime) -> Result<(), Fail> {
-    let scripts = clients(rt.alloc(), &[&["ZADD k 1 a"], &["PING"]])?;
-    let (text, left) = played(&rt, &scripts, 65_536, Some(1), 1)?;
-    assert_eq!(rt; text.as_slice(), b"+PONG\r\n[1]:1\r\n".as_slice());
-    assert_eq!(rt; left, 2);
+    assert!(rt; is_told(&rt, &SETTLED_AT_ONCE)?);
     Ok(())
 }
 
 // Each turn reads 14 bytes: a PING, and in the third turn the last of the change.
+static NEVER_SETTLED: Course = Course {
+    requests: &[&["ZADD k 1 a"], &["PING", "PING", "PING", "PING", "PING"]],
+    chunk: 14,
+    most: None,
+    turns: 4,
+    text: b"+PONG\r\n+PONG\r\n+PONG\r\n[1]+PONG\r\n",
+    left: 1,
+};
+
 #[test]
 fn what_is_never_settled_is_never_told(rt: HostRuntime) -> Result<(), Fail> {
-    let requests: [&[&str]; 2] = [&["ZADD k 1 a"], &["PING", "PING", "PING", "PING", "PING"]];
-    let scripts = clients(rt.alloc(), &requests)?;
-    let (text, left) = played(&rt, &scripts, 14, None, 4)?;
-    let wanted = b"+PONG\r\n+PONG\r\n+PONG\r\n[1]+PONG\r\n";
-    assert_eq!(rt; text.as_slice(), wanted.as_slice());
-    assert_eq!(rt; left, 1);
+    assert!(rt; is_told(&rt, &NEVER_SETTLED)?);
     Ok(())
 }
 
+static ALL_OF_A_ROUND: Course = Course {
+    requests: &[&["ZADD k 1 a"], &["ZADD k 1 a"], &["ZADD k 2 b"]],
+    chunk: 65_536,
+    most: Some(3),
+    turns: 1,
+    text: b"[1]:1\r\n:0\r\n:1\r\n",
+    left: 3,
+};
+
 #[test]
 fn one_call_settles_a_round(rt: HostRuntime) -> Result<(), Fail> {
-    let requests: [&[&str]; 3] = [&["ZADD k 1 a"], &["ZADD k 1 a"], &["ZADD k 2 b"]];
-    let scripts = clients(rt.alloc(), &requests)?;
-    let (text, left) = played(&rt, &scripts, 65_536, Some(3), 1)?;
-    assert_eq!(rt; text.as_slice(), b"[1]:1\r\n:0\r\n:1\r\n".as_slice());
-    assert_eq!(rt; left, 3);
+    assert!(rt; is_told(&rt, &ALL_OF_A_ROUND)?);
     Ok(())
+}
+
+/// Whether what leaves behind a change and a fault of the protocol begins so, and ends there just where no record can be
+/// settled.
+fn begins(rt: &HostRuntime, most: Option<u64>, wanted: &[u8]) -> Result<bool, Fail> {
+    let mut scripts = clients(rt.alloc(), &[&["ZADD k 1 a"]])?;
+    for script in scripts.iter_mut() {
+        script.bytes.extend_from_slice(b"*x\r\n")?;
+    }
+    let played = played(rt, &scripts, 65_536, most, 1);
+    drop(scripts);
+    let (text, left) = played?;
+    let goes_on = text.len() > wanted.len();
+    Ok(text.starts_with(wanted) && goes_on == most.is_some() && left == 0)
 }
 
 // A fault of the protocol ends a session, which sends all replies on then.
 #[test]
 fn a_fault_behind_a_change_waits_with_it(rt: HostRuntime) -> Result<(), Fail> {
-    for (most, wanted) in [
-        (None, b"[1]".as_slice()),
-        (Some(1), b"[1]:1\r\n-ERR ".as_slice()),
-    ] {
-        let mut scripts = clients(rt.alloc(), &[&["ZADD k 1 a"]])?;
-        for script in scripts.iter_mut() {
-            script.bytes.extend_from_slice(b"*x\r\n")?;
-        }
-        let (text, left) = played(&rt, &scripts, 65_536, most, 1)?;
-        assert!(rt; text.starts_with(wanted), "{most:?}");
-        assert_eq!(rt; text.len() > wanted.len(), most.is_some());
-        assert_eq!(rt; left, 0);
-    }
+    assert!(rt; begins(&rt, None, b"[1]")?, "unsettled");
+    assert!(rt; begins(&rt, Some(1), b"[1]:1\r\n-ERR ")?, "settled");
     Ok(())
 }
 
@@ -153,29 +223,46 @@ fn a_fault_behind_a_change_waits_with_it(rt: HostRuntime) -> Result<(), Fail> {
 fn pings_and_changes(alloc: Global, pings: usize) -> Result<Script<'static>, Fail> {
     let mut script = Script::new(alloc, &["PING"], pings)?;
     let changes = Script::new(alloc, &["ZADD k 1 a"], 60)?;
-    script.bytes.extend_from_slice(&changes.bytes)?;
-    Ok(script)
+    let extended = script.bytes.extend_from_slice(&changes.bytes);
+    drop(changes);
+    match extended {
+        Ok(()) => Ok(script),
+        Err(_) => {
+            drop(script);
+            Err(Fail::new("no memory"))
+        }
+    }
+}
+
+/// How often a byte is among others.
+fn count_of(byte: u8, bytes: &[u8]) -> usize {
+    let mut count = 0usize;
+    for other in bytes {
+        if *other == byte {
+            count = count.saturating_add(1);
+        }
+    }
+    count
 }
 
 /// How many times records are settled while these are answered. Each look at the clock is 25 microseconds after the look
 /// before.
 fn settled_times(rt: &HostRuntime, settles_later: bool, pings: usize) -> Result<usize, Fail> {
-    let scripts = [pings_and_changes(rt.alloc(), pings)?];
     let page = Page::new(rt.alloc());
-    let mut held = begun(rt, &scripts, &page, 65_536)?;
     let settler = Settler {
         page: &page,
         most: Some(0),
         settles_later,
     };
-    let turns_at = (100, Pace::Trots);
-    left(rt, &mut held, &mut new_recorded(rt)?, &settler, turns_at);
+    let scripts = [pings_and_changes(rt.alloc(), pings)?];
+    let left = left_anew(rt, &scripts, 65_536, &settler, (100, Pace::Trots));
+    drop(scripts);
+    left?;
     let text = page.text(rt.alloc())?;
-    let replies = text.iter().filter(|byte| **byte == b':').count();
-    if replies != 60 {
-        Err("not all were answered")?;
+    if count_of(b':', &text) != 60 {
+        return Err(Fail::new("not all were answered"));
     }
-    Ok(text.iter().filter(|byte| **byte == b'[').count())
+    Ok(count_of(b'[', &text))
 }
 
 /// Whether records are settled later, PINGs before 60 changes, and how many times records are settled. Half a millisecond

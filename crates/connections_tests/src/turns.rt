@@ -1,121 +1,60 @@
 //! Three connections that share one owner of sets.
 
-ghost use Rattle.std.specs.Prelude.{◌≡◌, None, IfOk};
-
-use crate::devices::{Device, Devices, Pace, Sender, Taker, TestClock};
-use crate::model::{Case, MOST_TURNS, Told, Wanted, expected};
+use crate::devices::{Device, Devices, Pace};
+use crate::model::{Case, Modelled, played};
 use crate::orders::{CYCLES, Order, SEEDS};
 use crate::scripts::Script;
-use connections::{Buffers, Moment, Next, Visit};
-use resp_wire::{FuseDrain, FuseSource, Reading, Writing};
-use session_core::Exec;
+use crate::served::{Told, told_over};
 use sorted_sets::OneOwner;
 use std::alloc::Global;
 use std::hash::RandomState;
 use std::test::*;
 
-/// A connection to a client in memory.
-#[derive(Drop)]
-struct Served<'v> {
-    visit: Visit<FuseSource<Reading<Sender<'v>>>, FuseDrain<Writing<Taker<'v>>>, Global>,
-    has_ended: bool,
+/// What three clients are told over an owner without sets.
+fn told_anew(rt: &HostRuntime, case: &Case<'_>) -> Result<Told, Fail> {
+    let mut owner = OneOwner::new(rt.alloc(), RandomState::new(rt)?);
+    let told = told_over(rt, rt.alloc(), &mut owner, case);
+    drop(owner);
+    told
 }
 
-/// The connections of a case before the first turn, and where the clients take their replies.
-fn begun<'v>(
-    alloc: Global,
-    case: &Case<'v>,
-    taken: &'v mut Vec<Vec<u8>>,
-) -> Result<Vec<Served<'v>>, Fail> {
-    let mut clients = Vec::new(alloc);
-    for ((script, devices), taken) in case
-        .scripts
-        .iter()
-        .zip(case.devices.iter())
-        .zip(taken.iter_mut())
-    {
-        let Devices { from, to } = *devices;
-        let sender = Reading::new(Sender::new(&script.bytes, from));
-        let taker = Writing::new(Taker::new(taken, to));
-        let source = FuseSource::new(sender, from.fails_at);
-        let drain = FuseDrain::new(taker, to.fails_at);
-        clients.push(Served {
-            visit: Visit::new(alloc, source, drain, false),
-            has_ended: false,
-        })?;
-    }
-    Ok(clients)
+/// What the model makes of them, over such an owner.
+fn played_anew<'c>(rt: &HostRuntime, case: &Case<'c>) -> Result<Vec<Modelled<'c>>, Fail> {
+    let mut owner = OneOwner::new(rt.alloc(), RandomState::new(rt)?);
+    let played = played(rt, rt.alloc(), &mut owner, case);
+    drop(owner);
+    played
 }
 
-/// Gives turns until all have ended, and tells when each did.
-fn play<R, E: Exec<R, Global>>(
-    rt: &R,
-    alloc: Global,
-    exec: &mut E,
-    case: &Case<'_>,
-    clients: &mut Vec<Served<'_>>,
-) -> Result<Vec<usize>, Fail>
-    requires { E.settled exec.old }
-{
-    let clock = TestClock::new(case.pace);
-    let moment = Moment::new(&clock, None, false);
-    let mut buffers = Buffers::new(alloc)?;
-    let mut order = case.order;
-    let mut ends = vec![in alloc; 0; clients.len()]?;
-    for turn in 0..MOST_TURNS {
-        if clients.iter().all(|client| client.has_ended) {
-            return Ok(ends);
-        }
-        let place = order.next();
-        let client = clients.get_mut(place).ok_or("no client")?;
-        if !client.has_ended {
-            let next = client.visit.turn(rt, &moment, &mut buffers, exec, u64::MAX);
-            client.has_ended = next == Next::Ends;
-            *ends.get_mut(place).ok_or("no client")? = turn;
+/// Whether the clients are told what the model says.
+fn are_told_alike(told: &Told, modelled: &[Modelled<'_>]) -> bool {
+    let clients = told.bytes.iter().zip(told.ended_at.iter());
+    for ((bytes, ended_at), modelled) in clients.zip(modelled.iter()) {
+        if !modelled.is_told(bytes, *ended_at) {
+            return false;
         }
     }
-    Err("no end")?
+    told.bytes.len() == modelled.len() && told.ended_at.len() == modelled.len()
 }
 
-/// What the clients are told by connections over this owner.
-fn told_over<R, E: Exec<R, Global>>(
-    rt: &R,
-    alloc: Global,
-    exec: &mut E,
-    case: &Case<'_>,
-) -> Result<Vec<Told>, Fail>
-    requires { E.settled exec.old }
-{
-    let mut taken = Vec::new(alloc);
-    for _ in case.scripts.iter() {
-        taken.push(Vec::new(alloc))?;
+/// Whether the model has so many requests of each client run.
+fn have_run(modelled: &[Modelled<'_>], requests: [usize; 3]) -> bool {
+    for (modelled, requests) in modelled.iter().zip(requests.iter()) {
+        if !modelled.has_run(*requests) {
+            return false;
+        }
     }
-    let mut clients = begun(alloc, case, &mut taken)?;
-    let ends = play(rt, alloc, exec, case, &mut clients)?;
-    drop(clients);
-    let mut told = Vec::new(alloc);
-    for (bytes, ended_at) in taken.iter().zip(ends.iter()) {
-        told.push(Told {
-            bytes: bytes.clone()?,
-            ended_at: *ended_at,
-        })?;
-    }
-    Ok(told)
+    modelled.len() == requests.len()
 }
 
-/// An owner without sets.
-fn new_owner(rt: &HostRuntime) -> Result<OneOwner<RandomState, Global>, Fail>
-    ensures { IfOk result (λ owner. owner.next ≡ None) }
-{
-    Ok(OneOwner::new(rt.alloc(), RandomState::new(rt)?))
-}
-
-/// What three clients are told, and what the model says.
-fn compared(rt: &HostRuntime, case: &Case<'_>) -> Result<(Vec<Told>, Wanted), Fail> {
-    let alloc = rt.alloc();
-    let told = told_over(rt, alloc, &mut new_owner(rt)?, case)?;
-    let wanted = expected(rt, alloc, &mut new_owner(rt)?, case)?;
-    Ok((told, wanted))
+/// Whether three clients are told what the model says, which has so many requests of each run.
+fn are_answered(rt: &HostRuntime, case: &Case<'_>, requests: [usize; 3]) -> Result<bool, Fail> {
+    let told = told_anew(rt, case)?;
+    let modelled = played_anew(rt, case)?;
+    let are_answered = are_told_alike(&told, &modelled) && have_run(&modelled, requests);
+    drop(told);
+    drop(modelled);
+    Ok(are_answered)
 }
 
 /// A side that moves so many bytes in a call.
@@ -166,27 +105,46 @@ const WORKED: [([usize; 3], [u8; 3]); 6] = [
 ];
 
 /// Whether a client was told this sum, and that the set has one member.
-fn is_told(told: &Told, sum: u8) -> bool {
+fn is_told(bytes: &[u8], sum: u8) -> bool {
     let mut wanted = *b"$1\r\n0\r\n:1\r\n";
     wanted[4] = sum;
-    told.bytes.as_slice() == wanted.as_slice()
+    bytes == wanted.as_slice()
+}
+
+/// Whether each client was told its sum.
+fn are_told(told: &Told, sums: [u8; 3]) -> bool {
+    for (bytes, sum) in told.bytes.iter().zip(sums.iter()) {
+        if !is_told(bytes, *sum) {
+            return false;
+        }
+    }
+    told.bytes.len() == sums.len()
+}
+
+/// Whether the sums of these turns are told.
+fn are_told_in(
+    rt: &HostRuntime,
+    scripts: &[Script<'_>],
+    cycle: [usize; 3],
+    sums: [u8; 3],
+) -> Result<bool, Fail> {
+    let case = Case {
+        scripts,
+        devices: [client(1, 65_536, false); 3],
+        pace: Pace::Stands,
+        order: Order::Cycle(cycle),
+    };
+    let told = told_anew(rt, &case)?;
+    let are_told = are_told(&told, sums);
+    drop(told);
+    Ok(are_told)
 }
 
 #[test]
 fn the_order_of_the_turns_is_told(rt: HostRuntime) -> Result<(), Fail> {
-    let alloc = rt.alloc();
-    let scripts = scripts_of(alloc, SUMS, 1)?;
+    let scripts = scripts_of(rt.alloc(), SUMS, 1)?;
     for (cycle, sums) in WORKED {
-        let case = Case {
-            scripts: &scripts,
-            devices: [client(1, 65_536, false); 3],
-            pace: Pace::Stands,
-            order: Order::Cycle(cycle),
-        };
-        let (told, _) = compared(&rt, &case)?;
-        for (told, sum) in told.iter().zip(sums.iter()) {
-            assert!(rt; is_told(told, *sum), "{cycle:?}: {told:?}");
-        }
+        assert!(rt; are_told_in(&rt, &scripts, cycle, sums)?, "{cycle:?}");
     }
     Ok(())
 }
@@ -215,34 +173,36 @@ const MIXED: [&[&str]; 3] = [
     ],
 ];
 
-/// Orders of the turns.
-fn orders(alloc: Global) -> Result<Vec<Order>, Fail> {
-    let mut orders = Vec::new(alloc);
-    for cycle in CYCLES {
-        orders.push(Order::Cycle(cycle))?;
+/// Whether clients that send a byte at a time are told what the model says, ready ones and slow ones.
+fn are_answered_bytewise(
+    rt: &HostRuntime,
+    scripts: &[Script<'_>],
+    order: Order,
+) -> Result<bool, Fail> {
+    for devices in [client(1, 65_536, false), client(1, 3, true)] {
+        let case = Case {
+            scripts,
+            devices: [devices; 3],
+            pace: Pace::Stands,
+            order,
+        };
+        if !are_answered(rt, &case, [4, 5, 5])? {
+            return Ok(false);
+        }
     }
-    for seed in SEEDS {
-        orders.push(Order::Seed(seed))?;
-    }
-    Ok(orders)
+    Ok(true)
 }
 
 #[test]
 fn bytes_in_each_order_are_answered_as_by_an_owner(rt: HostRuntime) -> Result<(), Fail> {
-    let alloc = rt.alloc();
-    let scripts = scripts_of(alloc, MIXED, 1)?;
-    for order in orders(alloc)? {
-        for devices in [client(1, 65_536, false), client(1, 3, true)] {
-            let case = Case {
-                scripts: &scripts,
-                devices: [devices; 3],
-                pace: Pace::Stands,
-                order,
-            };
-            let (told, wanted) = compared(&rt, &case)?;
-            assert_eq!(rt; told, wanted.told, "{order:?}, {devices:?}");
-            assert_eq!(rt; wanted.run.as_slice(), [4, 5, 5].as_slice());
-        }
+    let scripts = scripts_of(rt.alloc(), MIXED, 1)?;
+    for cycle in CYCLES {
+        let order = Order::Cycle(cycle);
+        assert!(rt; are_answered_bytewise(&rt, &scripts, order)?, "{cycle:?}");
+    }
+    for seed in SEEDS {
+        let order = Order::Seed(seed);
+        assert!(rt; are_answered_bytewise(&rt, &scripts, order)?, "seed {seed}");
     }
     Ok(())
 }
@@ -255,33 +215,40 @@ const FEW_ORDERS: [Order; 3] = [
 ];
 
 /// How the time goes in parts of turns that end before what was read is answered.
-const PACES: [Pace; 6] = [
-    Pace::Stands,
-    Pace::Creeps,
-    Pace::Ambles,
-    Pace::Walks,
-    Pace::Trots,
-    Pace::Fails,
+static PACES: [(&str, Pace); 6] = [
+    ("stands", Pace::Stands),
+    ("creeps", Pace::Creeps),
+    ("ambles", Pace::Ambles),
+    ("walks", Pace::Walks),
+    ("trots", Pace::Trots),
+    ("fails", Pace::Fails),
 ];
+
+/// Whether clients that send much at a time are told what the model says, ready ones and slow ones, in each of some
+/// orders, while the time goes so.
+fn are_answered_at(rt: &HostRuntime, scripts: &[Script<'_>], pace: Pace) -> Result<bool, Fail> {
+    for order in FEW_ORDERS {
+        for devices in [client(16_384, 65_536, false), client(1000, 100, true)] {
+            let case = Case {
+                scripts,
+                devices: [devices; 3],
+                pace,
+                order,
+            };
+            if !are_answered(rt, &case, [160, 200, 200])? {
+                return Ok(false);
+            }
+        }
+    }
+    Ok(true)
+}
 
 // Where the time stands still, a turn ends with its last request or with the 128th.
 #[test]
 fn what_a_turn_leaves_is_answered_in_the_next(rt: HostRuntime) -> Result<(), Fail> {
     let scripts = scripts_of(rt.alloc(), MIXED, 40)?;
-    for order in FEW_ORDERS {
-        for pace in PACES {
-            for devices in [client(16_384, 65_536, false), client(1000, 100, true)] {
-                let case = Case {
-                    scripts: &scripts,
-                    devices: [devices; 3],
-                    pace,
-                    order,
-                };
-                let (told, wanted) = compared(&rt, &case)?;
-                assert!(rt; told == wanted.told, "{order:?}, {pace:?}, {devices:?}");
-                assert_eq!(rt; wanted.run.as_slice(), [160, 200, 200].as_slice());
-            }
-        }
+    for (name, pace) in &PACES {
+        assert!(rt; are_answered_at(&rt, &scripts, *pace)?, "the time {name}");
     }
     Ok(())
 }
@@ -302,45 +269,59 @@ fn failing(broken: usize, is_source: bool, fails_at: u64, is_slow: bool) -> [Dev
 
 /// Whether the model has all requests run of those clients whose device did not fail, and that of one
 /// client alone did.
-fn is_alone(wanted: &Wanted, scripts: &[Script<'_>], broken: usize) -> bool {
-    let mut is_alone = true;
-    for place in 0..scripts.len() {
-        let all = scripts.get(place).map(|script| script.ends.len());
-        let is_whole = wanted.run.get(place).copied() == all;
-        let has_failed = wanted.failed.get(place) == Some(&true);
-        is_alone = is_alone && has_failed == (place == broken) && (has_failed || is_whole);
+fn is_alone(modelled: &[Modelled<'_>], broken: usize) -> bool {
+    for (place, modelled) in modelled.iter().enumerate() {
+        let has_failed = modelled.has_failed();
+        if has_failed != (place == broken) || !(has_failed || modelled.is_whole()) {
+            return false;
+        }
     }
-    is_alone
+    true
+}
+
+/// Whether a call of a client's device failed, and no other client was cut off.
+fn has_failed_alone(told: &Told, modelled: &[Modelled<'_>], broken: usize) -> Result<bool, Fail> {
+    if !are_told_alike(told, modelled) {
+        return Err(Fail::new("the clients were told otherwise"));
+    }
+    match modelled.get(broken) {
+        Some(client) if !client.has_failed() => Ok(false),
+        _ if is_alone(modelled, broken) => Ok(true),
+        _ => Err(Fail::new("others were cut off")),
+    }
+}
+
+/// The same of a case.
+fn fails_alone(rt: &HostRuntime, case: &Case<'_>, broken: usize) -> Result<bool, Fail> {
+    let told = told_anew(rt, case)?;
+    let modelled = played_anew(rt, case)?;
+    let has_failed = has_failed_alone(&told, &modelled, broken);
+    drop(told);
+    drop(modelled);
+    has_failed
 }
 
 /// How many calls of a client's device failed, one in each case, until a case had none that did.
 fn calls_of(
     rt: &HostRuntime,
+    scripts: &[Script<'_>],
     broken: usize,
     is_source: bool,
     is_slow: bool,
     order: Order,
 ) -> Result<u64, Fail> {
-    let scripts = scripts_of(rt.alloc(), MIXED, 1)?;
     for fails_at in 1..1000u64 {
         let case = Case {
-            scripts: &scripts,
+            scripts,
             devices: failing(broken, is_source, fails_at, is_slow),
             pace: Pace::Stands,
             order,
         };
-        let (told, wanted) = compared(rt, &case)?;
-        if told != wanted.told {
-            Err("the clients were told otherwise")?;
-        }
-        if wanted.failed.get(broken) == Some(&false) {
+        if !fails_alone(rt, &case, broken)? {
             return Ok(fails_at - 1);
         }
-        if !is_alone(&wanted, &scripts, broken) {
-            Err("others were cut off")?;
-        }
     }
-    Err("no end")?
+    Err(Fail::new("no end"))
 }
 
 /// Orders of the turns, whether the devices are slow, and how many calls of each client's source and drain there
@@ -355,13 +336,32 @@ const CALLS: [(Order, bool, [(u64, u64); 3]); 2] = [
     (Order::Seed(1), true, [(30, 30), (36, 54), (40, 56)]),
 ];
 
+/// Whether so many calls of each client's source and drain fail alone.
+fn have_calls(
+    rt: &HostRuntime,
+    scripts: &[Script<'_>],
+    order: Order,
+    is_slow: bool,
+    calls: [(u64, u64); 3],
+) -> Result<bool, Fail> {
+    for (broken, (reads, writes)) in calls.iter().enumerate() {
+        if calls_of(rt, scripts, broken, true, is_slow, order)? != *reads
+            || calls_of(rt, scripts, broken, false, is_slow, order)? != *writes
+        {
+            return Ok(false);
+        }
+    }
+    Ok(true)
+}
+
 #[test]
 fn a_failing_call_ends_one_connection_alone(rt: HostRuntime) -> Result<(), Fail> {
+    let scripts = scripts_of(rt.alloc(), MIXED, 1)?;
     for (order, is_slow, calls) in CALLS {
-        for (broken, (reads, writes)) in calls.iter().enumerate() {
-            assert_eq!(rt; calls_of(&rt, broken, true, is_slow, order)?, *reads);
-            assert_eq!(rt; calls_of(&rt, broken, false, is_slow, order)?, *writes);
-        }
+        assert!(rt;
+            have_calls(&rt, &scripts, order, is_slow, calls)?,
+            "slow: {is_slow}"
+        );
     }
     Ok(())
 }

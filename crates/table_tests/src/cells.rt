@@ -3,7 +3,7 @@
 ghost use Rattle.std.specs.Prelude.{◌≡◌, ◌≤◌, None};
 
 use crate::exchange::{Owner, command, owner_of, refusal_text, reply_text};
-use append_log::{Log, LogSink, MemorySink};
+use append_log::{Log, LogSink, NoSink};
 use set_table::{Cell, Shares};
 use std::alloc::Global;
 use std::hash::RandomState;
@@ -25,12 +25,15 @@ fn answer_of<S: LogSink, L: Ledger, R: Wait>(
 ) -> Result<String, Fail> {
     let command = command(alloc, text)?;
     if command.key().is_none() {
-        return Err("no key")?;
+        drop(command);
+        return Err(Fail::new("no key"));
     }
-    match cell.run(rt, &command, shares, log) {
-        Ok(answer) => reply_text(alloc, &answer.into_reply()),
+    let told = match cell.run(rt, &command, shares, log) {
+        Ok(answer) => reply_text(alloc, answer.into_reply()),
         Err(refusal) => refusal_text(alloc, refusal),
-    }
+    };
+    drop(command);
+    told
 }
 
 // What the cell of place 0 answers to a command with the shares of place 1, and with its own then.
@@ -47,6 +50,19 @@ fn answers_of_both<S: LogSink, L: Ledger, R: Wait>(
     Ok((refused, card))
 }
 
+// The same of a cell that is let go then.
+fn answers_of_new<S: LogSink, L: Ledger, R: Wait>(
+    rt: &R,
+    alloc: Global,
+    cell: OneCell<L>,
+    log: &Mutex<Log<S, L>>,
+) -> Result<(String, String), Fail> {
+    let mut cell = cell;
+    let told = answers_of_both(rt, alloc, &mut cell, log);
+    drop(cell);
+    told
+}
+
 // The answers of a cell without members to commands with the shares of another place and with its own.
 fn by_the_wrong_shares<L: Ledger, R: Wait + AllocGlobal>(
     rt: &R,
@@ -60,21 +76,24 @@ fn by_the_wrong_shares<L: Ledger, R: Wait + AllocGlobal>(
 {
     let alloc = rt.alloc();
     let set = owner.empty_set()?;
-    let mut log = Log::<_, L>::new(blank, MemorySink::new(alloc, 64), 1000);
+    let mut log = Log::<_, L>::new(blank, NoSink::new(), 1000);
     let share = log.split();
-    let mut cell = Cell::new(alloc, 0, set, 1000, 2, share)?;
     let log = Mutex::new(log);
-    answers_of_both(rt, alloc, &mut cell, &log)
+    let told = match Cell::new(alloc, 0, set, 1000, 2, share) {
+        Ok(cell) => answers_of_new(rt, alloc, cell, &log),
+        Err(_) => Err(Fail::new("no memory")),
+    };
+    drop(log);
+    told
 }
 
 // The shares of another place are refused, and the set stays empty.
 #[test]
 fn a_cell_refuses_shares_of_another_place(rt: HostRuntime) -> Result<(), Fail> {
-    let (refused, card) = by_the_wrong_shares::<Brand, _>(
-        &rt,
-        Blank::new(4),
-        &owner_of(&rt, &[])?,
-    )?;
+    let owner = owner_of(&rt, &[])?;
+    let told = by_the_wrong_shares::<Brand, _>(&rt, Blank::new(4), &owner);
+    drop(owner);
+    let (refused, card) = told?;
     assert!(rt; (refused.as_str(), card.as_str()) == ("r17", ":0~"));
     Ok(())
 }

@@ -7,8 +7,8 @@ use append_log::LogSink;
 use resp_wire::{Bytes, BytesList, Reply, Request, write_reply};
 use set_table::{Answer, Answered, Pass, Table, TestGate};
 use sorted_sets::OneOwner;
-use std::alloc::Global;
-use std::hash::RandomState;
+use std::alloc::{AllocError, Allocator, Global};
+use std::hash::{BuildHasher, RandomState};
 use std::sync::Wait;
 use std::sync::ledger::Ledger;
 use std::test::Fail;
@@ -19,50 +19,52 @@ pub type Owner = OneOwner<RandomState, Global>;
 pub type SetsOver<S, L> = Table<RandomState, S, L, Global>;
 
 /// The request of a text's words, which single spaces part.
-fn request(alloc: Global, text: &str) -> Result<Request<Global>, Fail> {
+fn request<A: Allocator + Copy>(alloc: A, text: &str) -> Result<Request<A>, Fail> {
     let mut words = Vec::new(alloc);
     for word in text.split(' ') {
         words.push(Bytes::from_slice(alloc, word.as_bytes())?)?;
     }
-    Ok(Request::new(BytesList::new(words)).ok_or("no request")?)
-}
-
-/// The command of a text's words.
-pub fn command(alloc: Global, text: &str) -> Result<Command<Global>, Fail> {
-    match Command::read(alloc, request(alloc, text)?) {
-        Ok(command) => Ok(command),
-        Err(_) => Err("no command")?,
+    match Request::new(BytesList::new(words)) {
+        Some(request) => Ok(request),
+        None => Err(Fail::new("no request")),
     }
 }
 
+/// The command of a text's words.
+pub fn command<A: Allocator + Copy>(alloc: A, text: &str) -> Result<Command<A>, Fail> {
+    Command::read(alloc, request(alloc, text)?).map_err(|_| Fail::from("no command"))
+}
+
 /// Bytes as a text, an end of line as `~`.
-pub fn text_of(alloc: Global, bytes: &[u8]) -> Result<String, Fail> {
+pub fn text_of<A: Allocator + Copy>(alloc: A, bytes: &[u8]) -> Result<String<A>, Fail> {
     match std::str::from_utf8(bytes) {
         Ok(text) => Ok(text.replace(alloc, "\r\n", "~")?),
-        Err(_) => Err("no text")?,
+        Err(_) => Err(Fail::new("no text")),
     }
 }
 
 /// A reply's bytes as a text.
-pub fn reply_text(alloc: Global, reply: &Reply<Global>) -> Result<String, Fail> {
+pub fn reply_text<A: Allocator + Copy>(alloc: A, reply: Reply<A>) -> Result<String<A>, Fail> {
     let mut bytes = Vec::new(alloc);
-    write_reply(reply, &mut bytes)?;
+    let written = write_reply(&reply, &mut bytes);
+    drop(reply);
+    written?;
     text_of(alloc, &bytes)
 }
 
 /// The number of a refusal behind `r`.
-pub fn refusal_text(alloc: Global, refusal: Refusal) -> Result<String, Fail> {
+pub fn refusal_text<A: Allocator + Copy>(alloc: A, refusal: Refusal) -> Result<String<A>, Fail> {
     Ok(format!(in alloc; "r{}", refusal.number())?)
 }
 
 /// The bytes of what was answered, or the number of a refusal behind `r`.
-fn answer_text(
-    alloc: Global,
-    answer: Result<Answered<'_, Global>, Refusal>,
-) -> Result<String, Fail> {
+fn answer_text<A: Allocator + Copy>(
+    alloc: A,
+    answer: Result<Answered<'_, A>, Refusal>,
+) -> Result<String<A>, Fail> {
     match answer {
-        Ok(Answered::Ran(answer)) => reply_text(alloc, &answer.into_reply()),
-        Ok(Answered::NoPlace(reply)) => reply_text(alloc, &reply),
+        Ok(Answered::Ran(answer)) => reply_text(alloc, answer.into_reply()),
+        Ok(Answered::NoPlace(reply)) => reply_text(alloc, reply),
         Err(refusal) => refusal_text(alloc, refusal),
     }
 }
@@ -80,32 +82,47 @@ fn answer<S: LogSink, L: Ledger, R: Wait, G: TestGate>(
     ensures { IsPassOf table.now pass.new }
 {
     let command = command(alloc, text)?;
-    answer_text(alloc, table.run(rt, pass, &command, gate))
+    let told = answer_text(alloc, table.run(rt, pass, &command, gate));
+    drop(command);
+    told
 }
 
 /// The place that an answer is of, the members that the command found there, and those that came in and left by it.
-fn place_and_counts(alloc: Global, answer: &Answer<'_, Global>) -> Result<String, Fail> {
+fn place_and_counts<A: Allocator + Copy>(
+    alloc: A,
+    answer: &Answer<'_, A>,
+) -> Result<String<A>, AllocError> {
     let found = answer.found();
     let own = answer.own();
     let (opened, added, removed) = (found.opened, found.added, found.removed);
     let place = answer.place();
     let counts = format!(in alloc; "{opened}+{added}-{removed}")?;
-    Ok(format!(in alloc; "@{place}:{counts}:+{}-{}", own.added, own.removed)?)
+    format!(in alloc; "@{place}:{counts}:+{}-{}", own.added, own.removed)
 }
 
 /// The reply of an answer with these.
-fn counts_text(
-    alloc: Global,
-    answer: Result<Answered<'_, Global>, Refusal>,
-) -> Result<String, Fail> {
+fn reply_and_counts<A: Allocator + Copy>(
+    alloc: A,
+    answer: Answer<'_, A>,
+) -> Result<String<A>, Fail> {
+    let counts = place_and_counts(alloc, &answer);
+    let mut text = reply_text(alloc, answer.into_reply())?;
+    text.push_str(counts?.as_str())?;
+    Ok(text)
+}
+
+/// The same of what was answered.
+fn counts_text<A: Allocator + Copy>(
+    alloc: A,
+    answer: Result<Answered<'_, A>, Refusal>,
+) -> Result<String<A>, Fail> {
     match answer {
-        Ok(Answered::Ran(answer)) => {
-            let counts = place_and_counts(alloc, &answer)?;
-            let mut text = reply_text(alloc, &answer.into_reply())?;
-            text.push_str(counts.as_str())?;
-            Ok(text)
+        Ok(Answered::Ran(answer)) => reply_and_counts(alloc, answer),
+        Ok(Answered::NoPlace(reply)) => {
+            drop(reply);
+            Err(Fail::new("no place"))
         }
-        _ => Err("no answer")?,
+        Err(_) => Err(Fail::new("refused")),
     }
 }
 
@@ -122,7 +139,9 @@ fn counted<S: LogSink, L: Ledger, R: Wait, G: TestGate>(
     ensures { IsPassOf table.now pass.new }
 {
     let command = command(alloc, text)?;
-    counts_text(alloc, table.run(rt, pass, &command, gate))
+    let told = counts_text(alloc, table.run(rt, pass, &command, gate));
+    drop(command);
+    told
 }
 
 /// What a table answers to a command's text, and the last record that the answer may tell of.
@@ -142,7 +161,10 @@ fn recorded<S: LogSink, L: Ledger, R: Wait, G: TestGate>(
 }
 
 /// The place that a key was given, or the number of a refusal.
-fn claim_text(alloc: Global, claimed: Result<usize, Refusal>) -> Result<String, Fail> {
+fn claim_text<A: Allocator + Copy>(
+    alloc: A,
+    claimed: Result<usize, Refusal>,
+) -> Result<String<A>, Fail> {
     match claimed {
         Ok(place) => Ok(format!(in alloc; "{place}")?),
         Err(refusal) => refusal_text(alloc, refusal),
@@ -150,7 +172,7 @@ fn claim_text(alloc: Global, claimed: Result<usize, Refusal>) -> Result<String, 
 }
 
 /// The place that a key was found at.
-fn place_text(alloc: Global, found: Option<usize>) -> Result<String, Fail> {
+fn place_text<A: Allocator + Copy>(alloc: A, found: Option<usize>) -> Result<String<A>, Fail> {
     match found {
         Some(place) => Ok(format!(in alloc; "{place}")?),
         None => Ok("none".to_string(alloc)?),
@@ -179,6 +201,11 @@ fn told<S: LogSink, L: Ledger, R: Wait, G: TestGate>(
     }
 }
 
+fn put_answer<A: Allocator>(answer: &str, answers: &mut String<A>) -> Result<(), AllocError> {
+    answers.push_str(answer)?;
+    answers.push(' ')
+}
+
 /// What a worker is told, a space behind each answer.
 pub fn answers<S: LogSink, L: Ledger, R: Wait, G: TestGate>(
     rt: &R,
@@ -193,23 +220,43 @@ pub fn answers<S: LogSink, L: Ledger, R: Wait, G: TestGate>(
 {
     let mut answers = String::new(alloc);
     for text in texts {
-        answers.push_str(told(rt, alloc, table, pass, text, gate)?.as_str())?;
-        answers.push(' ')?;
+        let told = told(rt, alloc, table, pass, text, gate)?;
+        put_answer(&told, &mut answers)?;
     }
     Ok(answers)
 }
 
-/// An owner of the sets that commands make, none of which is refused.
+/// Has an owner run commands, none of which is refused.
+fn accept<H: BuildHasher + Clone + Drop, A: Allocator + Copy>(
+    alloc: A,
+    owner: &mut OneOwner<H, A>,
+    texts: &[&str],
+) -> Result<(), Fail>
+    requires { owner.old.next ≡ None }
+    ensures { owner.new.next ≡ None }
+{
+    for text in texts {
+        let command = command(alloc, text)?;
+        let answer = owner.run(&command);
+        drop(command);
+        match answer {
+            Ok(reply) => drop(reply),
+            Err(_) => return Err(Fail::new("refused")),
+        }
+    }
+    Ok(())
+}
+
+/// An owner of the sets that commands make.
 pub fn owner_of(rt: &HostRuntime, texts: &[&str]) -> Result<Owner, Fail>
     ensures { IfOk result (λ owner. owner.next ≡ None) }
 {
-    let alloc = rt.alloc();
-    let mut owner = OneOwner::new(alloc, RandomState::new(rt)?);
-    for text in texts {
-        let command = command(alloc, text)?;
-        if owner.run(&command).is_err() {
-            return Err("refused")?;
+    let mut owner = OneOwner::new(rt.alloc(), RandomState::new(rt)?);
+    match accept(rt.alloc(), &mut owner, texts) {
+        Ok(()) => Ok(owner),
+        Err(fault) => {
+            drop(owner);
+            Err(fault)
         }
     }
-    Ok(owner)
 }

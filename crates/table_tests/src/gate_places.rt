@@ -39,7 +39,7 @@ fn the_gate_is_called_with_the_key_s_place(rt: HostRuntime) -> Result<(), Fail> 
     let recorder = Recorder {
         places: AtomicU64::new(0),
     };
-    gated_day(&rt, &rt, &AT_TWO_PLACES, &recorder)?;
+    drop(gated_day(&rt, &rt, &AT_TWO_PLACES, &recorder)?);
     assert_eq!(rt; recorder.places.load(Ordering::SeqCst), 2_323_332);
     Ok(())
 }

@@ -2,8 +2,7 @@
 //! answered meanwhile, of the same place it waits unless both read.
 
 use crate::tables::FOUR_PLACES;
-use crate::workers::{AtOnce, Lists, MANY_TURNS, Manner, commands, race_of};
-use std::process::Abort;
+use crate::workers::{AtOnce, MANY_TURNS, Manner, Texts, race_of};
 use std::sync::Wait;
 use std::test::*;
 use std::thread::Threads;
@@ -29,37 +28,31 @@ fn told_to<R: Threads + Wait + AllocGlobal + Sync>(
     locks: &R,
     pair: &Pair,
 ) -> Result<(AtOnce, Totals), Fail> {
-    let before = commands(rt.alloc(), pair.before)?;
-    let held = commands(rt.alloc(), &[pair.held])?;
-    let beside = commands(rt.alloc(), &[pair.beside])?;
     let turns = if pair.is_beside {
         MANY_TURNS
     } else {
         FEW_TURNS
     };
-    let lists = Lists {
-        before: &before,
-        first: &held,
-        second: &beside,
+    let texts = Texts {
+        before: pair.before,
+        first: &[pair.held],
+        second: &[pair.beside],
     };
-    race_of(rt, locks, FOUR_PLACES, Manner::Held(turns), lists)
+    race_of(rt, locks, FOUR_PLACES, Manner::Held(turns), texts)
 }
 
-// Both are answered as wanted. Gives the totals of their table.
-fn expect_pair<R: Abort + Threads + Wait + AllocGlobal + Sync>(
+// The totals of their table, where both are answered as wanted.
+fn totals_of<R: Threads + Wait + AllocGlobal + Sync>(
     rt: &HostRuntime,
     locks: &R,
     pair: &Pair,
-) -> Result<Totals, Fail> {
+) -> Result<Option<Totals>, Fail> {
     let (told, totals) = told_to(rt, locks, pair)?;
-    let replies = told.text(rt.alloc())?;
-    assert!(locks;
-        (replies.as_str(), !told.ran_out) == (pair.replies, pair.is_beside),
-        "{} is held beside {}",
-        pair.held,
-        pair.beside
-    );
-    Ok(totals)
+    let replies = told.text(rt.alloc());
+    let is_beside = !told.ran_out;
+    drop(told);
+    let is_right = replies?.as_str() == pair.replies && is_beside == pair.is_beside;
+    Ok(if is_right { Some(totals) } else { None })
 }
 
 // Commands of two places. One Mutex round all sets would let the wait run out.
@@ -109,8 +102,13 @@ static COUNTED: [(Pair, Totals); 2] = [
 #[test]
 fn what_pairs_change_is_in_the_totals(rt: HostRuntime) -> Result<(), Fail> {
     for (pair, totals) in &COUNTED {
-        let told = expect_pair(&rt, &rt, pair)?;
-        assert_eq!(rt; told, *totals, "of {} beside {}", pair.held, pair.beside);
+        let told = totals_of(&rt, &rt, pair)?;
+        assert!(rt;
+            told == Some(*totals),
+            "{} beside {}",
+            pair.held,
+            pair.beside
+        );
     }
     Ok(())
 }
@@ -182,7 +180,8 @@ static PAIRS: [Pair; 9] = [
 #[test]
 fn a_held_place_leaves_readers(rt: HostRuntime) -> Result<(), Fail> {
     for pair in &PAIRS {
-        expect_pair(&rt, &rt, pair)?;
+        let told = totals_of(&rt, &rt, pair)?;
+        assert!(rt; told.is_some(), "{} beside {}", pair.held, pair.beside);
     }
     Ok(())
 }

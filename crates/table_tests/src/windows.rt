@@ -1,6 +1,6 @@
 //! A window of a long set, which is readied by one run.
 
-use crate::tables::{FOUR_PLACES, Plan, day_of_texts};
+use crate::tables::{FOUR_PLACES, Plan, Talk, day_of};
 use std::alloc::Global;
 use std::test::*;
 
@@ -40,8 +40,17 @@ fn a_window_takes_one_run(rt: HostRuntime) -> Result<(), Fail> {
         "ZADD k 1000 m1000",
         "ZADD k 1000 m1000",
     ];
-    let told = day_of_texts(&rt, &rt, FIVE_RUNS, &texts, &[])?.told;
+    let talk = Talk {
+        plan: FIVE_RUNS,
+        sets: &[],
+        first: &texts,
+        second: &[],
+    };
+    let told = day_of(&rt, &rt, &talk);
+    drop(low);
+    drop(high);
+    let told = told?;
     let wanted = ":510~ :510~ :1020~ :1020~ *1~$4~m500~ *1~$4~m500~ *1~$4~m500~ :0~ r12 ";
-    assert_eq!(rt; told.as_str(), wanted);
+    assert!(rt; told.as_str() == wanted, "{told}");
     Ok(())
 }

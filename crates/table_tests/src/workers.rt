@@ -1,6 +1,6 @@
 //! Two workers of a table at once, each on a thread of its own.
 
-ghost use Rattle.std.specs.Prelude.{◌≡◌, ◌≤◌, None, IfOk};
+ghost use Rattle.std.specs.Prelude.{◌≡◌, ◌≤◌, None};
 ghost use Rattle.set_table.specs.TableAndPassViews.{IsPassOf};
 
 use crate::exchange::{Owner, SetsOver, command, owner_of, text_of};
@@ -226,10 +226,18 @@ fn work_at_once<S: LogSink + Send, L: Ledger + Send + Sync, R: Threads + Wait + 
 
 /// The commands that the second worker runs before, and those that both run at once.
 #[derive(Clone, Copy)]
-pub struct Lists<'c> {
-    pub before: &'c [Command<Global>],
-    pub first: &'c [Command<Global>],
-    pub second: &'c [Command<Global>],
+struct Lists<'c> {
+    before: &'c [Command<Global>],
+    first: &'c [Command<Global>],
+    second: &'c [Command<Global>],
+}
+
+/// Their texts.
+#[derive(Clone, Copy)]
+pub struct Texts<'t> {
+    pub before: &'t [&'t str],
+    pub first: &'t [&'t str],
+    pub second: &'t [&'t str],
 }
 
 /// What two workers are told at once, and whether the first was held for all of its turns.
@@ -243,13 +251,18 @@ pub struct AtOnce {
 impl AtOnce {
     /// Both texts, a space between them.
     pub fn text(&self, alloc: Global) -> Result<String, Fail> {
-        let one = text_of(alloc, self.one.as_ref().ok_or("no reply")?)?;
-        let other = text_of(alloc, self.other.as_ref().ok_or("no reply")?)?;
-        Ok(format!(in alloc; "{one} {other}")?)
+        let (Some(one), Some(other)) = (&self.one, &self.other) else {
+            return Err(Fail::new("no reply"));
+        };
+        let mut bytes = Vec::from_slice(alloc, one)?;
+        bytes.push(b' ')?;
+        bytes.extend_from_slice(other)?;
+        text_of(alloc, &bytes)
     }
 }
 
-/// What two workers are told at once of a table, behind what the second runs before, and their passes.
+/// What two workers are told at once of a table, behind what the second runs before, or None where that is refused, and
+/// their passes.
 fn told_at_once<S: LogSink + Send, L: Ledger + Send + Sync, R: Threads + Wait + Sync>(
     rt: &R,
     alloc: Global,
@@ -257,16 +270,16 @@ fn told_at_once<S: LogSink + Send, L: Ledger + Send + Sync, R: Threads + Wait + 
     passes: (Pass<Global>, Pass<Global>),
     manner: Manner,
     lists: Lists<'_>,
-) -> Result<(AtOnce, Pass<Global>, Pass<Global>), Fail>
+) -> (Option<AtOnce>, Pass<Global>, Pass<Global>)
     requires first { IsPassOf table.now passes.0 }
     requires second { IsPassOf table.now passes.1 }
-    ensures first { IfOk result (λ told. IsPassOf table.now told.1) }
-    ensures second { IfOk result (λ told. IsPassOf table.now told.2) }
+    ensures first { IsPassOf table.now result.1 }
+    ensures second { IsPassOf table.now result.2 }
 {
     let (first, second) = passes;
     let (before, second) = work(rt, alloc, table, second, lists.before, NoGate);
     if before.is_none() {
-        return Err("refused")?;
+        return (None, first, second);
     }
     let signals = Signals::new(manner);
     let at_once = (lists.first, lists.second);
@@ -278,7 +291,7 @@ fn told_at_once<S: LogSink + Send, L: Ledger + Send + Sync, R: Threads + Wait + 
         other,
         ran_out,
     };
-    Ok((at_once, first, second))
+    (Some(at_once), first, second)
 }
 
 /// What two workers are told at once of a table of an owner's sets, and its totals.
@@ -297,14 +310,22 @@ fn race_with<L: Ledger + Send + Sync, R: Threads + Wait + AllocGlobal + Sync>(
 {
     let alloc = rt.alloc();
     let (table, first, second) = opened::<L>(alloc, blank, owner, plan)?;
-    let (at_once, first, second) = told_at_once(rt, alloc, &table, (first, second), manner, lists)?;
-    let closed = close(alloc, table, first, second)?;
-    Ok((at_once, closed.totals))
+    let (at_once, first, second) = told_at_once(rt, alloc, &table, (first, second), manner, lists);
+    let totals = close(alloc, table, first, second);
+    let Some(at_once) = at_once else {
+        return Err(Fail::new("refused"));
+    };
+    match totals {
+        Some(totals) => Ok((at_once, totals)),
+        None => {
+            drop(at_once);
+            Err(Fail::new("not closed"))
+        }
+    }
 }
 
-/// What two workers are told at once of a table that is empty at opening, and its totals. `locks` waits for the table's
-/// locks.
-pub fn race_of<R: Threads + Wait + AllocGlobal + Sync>(
+/// The same of a table that is empty at opening. `locks` waits for the table's locks.
+fn race_anew<R: Threads + Wait + AllocGlobal + Sync>(
     rt: &HostRuntime,
     locks: &R,
     plan: Plan,
@@ -316,10 +337,33 @@ pub fn race_of<R: Threads + Wait + AllocGlobal + Sync>(
 }
 
 /// The commands of texts.
-pub fn commands(alloc: Global, texts: &[&str]) -> Result<Vec<Command<Global>>, Fail> {
+fn commands(alloc: Global, texts: &[&str]) -> Result<Vec<Command<Global>>, Fail> {
     let mut commands = Vec::new(alloc);
     for text in texts {
         commands.push(command(alloc, text)?)?;
     }
     Ok(commands)
+}
+
+/// What two workers are told at once of a table that is empty at opening, and its totals.
+pub fn race_of<R: Threads + Wait + AllocGlobal + Sync>(
+    rt: &HostRuntime,
+    locks: &R,
+    plan: Plan,
+    manner: Manner,
+    texts: Texts<'_>,
+) -> Result<(AtOnce, Totals), Fail> {
+    let before = commands(rt.alloc(), texts.before)?;
+    let first = commands(rt.alloc(), texts.first)?;
+    let second = commands(rt.alloc(), texts.second)?;
+    let lists = Lists {
+        before: &before,
+        first: &first,
+        second: &second,
+    };
+    let raced = race_anew(rt, locks, plan, manner, lists);
+    drop(before);
+    drop(first);
+    drop(second);
+    raced
 }

@@ -1,4 +1,4 @@
-use Rattle.connections_tests.proofs.looks.serve.Given as goal
+use Rattle.connections_tests.proofs.looks.ends.Given as goal
 
 abbrev pub invariant-loop : goal.invariant-loop
 invariant-loop g l = g.E.Exec.settled l.exec
