@@ -3,7 +3,7 @@
 ghost use Rattle.std.specs.Prelude.{◌≡◌, ◌≤◌, None};
 
 use crate::exchange::{Owner, command, owner_of, refusal_text, reply_text};
-use append_log::{Log, LogSink, NoSink};
+use append_log::{Log, LogSink, MemorySink};
 use set_table::{Cell, Shares};
 use std::alloc::Global;
 use std::hash::RandomState;
@@ -76,7 +76,7 @@ fn by_the_wrong_shares<L: Ledger, R: Wait + AllocGlobal>(
 {
     let alloc = rt.alloc();
     let set = owner.empty_set()?;
-    let mut log = Log::<_, L>::new(blank, NoSink::new(), 1000);
+    let mut log = Log::<_, L>::new(blank, MemorySink::new(alloc, 64), 1000);
     let share = log.split();
     let log = Mutex::new(log);
     let told = match Cell::new(alloc, 0, set, 1000, 2, share) {

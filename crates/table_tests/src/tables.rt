@@ -1,11 +1,11 @@
-//! Tables with two passes, over a log that keeps nothing, and what both are told one after the other.
+//! Tables with two passes, over a log in memory, and what both are told one after the other.
 
 ghost use Rattle.std.specs.Prelude.{◌≡◌, ◌≤◌, ◌^◌, None, length, IfOk, IfSome, IsTrue};
 ghost use Rattle.table_lifetime.specs.ClosingAudit.{pass_at};
 ghost use Rattle.set_table.specs.TableAndPassViews.{IsPassOf};
 
 use crate::exchange::{Owner, SetsOver, answers, owner_of};
-use append_log::{Log, LogSink, NoSink};
+use append_log::{Log, LogSink, MemorySink};
 use set_table::{NoGate, Pass, TestGate};
 use std::alloc::{Allocator, Global};
 use std::marker::Brand;
@@ -15,7 +15,13 @@ use std::sync::ledger::{Blank, Ledger};
 use std::test::*;
 use table_lifetime::{Totals, open};
 
-pub type Sets<L> = SetsOver<NoSink, L>;
+/// What the log writes to.
+pub type Sink = MemorySink<Global>;
+
+pub type Sets<L> = SetsOver<Sink, L>;
+
+/// So many bytes a call of the sink takes at most.
+const CHUNK: usize = 4096;
 
 /// How a table is opened, and whether appends to its log leave their syncs to later.
 #[derive(Clone, Copy)]
@@ -67,16 +73,17 @@ fn pair<A: Allocator + Copy>(passes: Vec<Pass<A>, A>) -> Option<(Pass<A>, Pass<A
 }
 
 /// The log of a plan.
-fn log_of<L: Ledger>(blank: Blank, is_deferred: bool) -> Log<NoSink, L>
+fn log_of<L: Ledger>(alloc: Global, blank: Blank, is_deferred: bool) -> Log<Sink, L>
     requires name { blank.name ≡ L.name }
     requires parts { blank.parts ≡ L.parts }
     requires many { 4098 ≤ blank.parts }
     ensures { 4098 ≤ result.parts }
 {
+    let sink = MemorySink::new(alloc, CHUNK);
     if is_deferred {
-        Log::deferred(blank, NoSink::new(), 1_000_000)
+        Log::deferred(blank, sink, 1_000_000)
     } else {
-        Log::new(blank, NoSink::new(), 1_000_000)
+        Log::new(blank, sink, 1_000_000)
     }
 }
 
@@ -121,7 +128,7 @@ pub fn opened<L: Ledger>(
     ensures first { IfOk result (λ opened. IsPassOf opened.0 opened.1) }
     ensures second { IfOk result (λ opened. IsPassOf opened.0 opened.2) }
 {
-    let log = log_of::<L>(blank, plan.is_deferred);
+    let log = log_of::<L>(alloc, blank, plan.is_deferred);
     match open_two(alloc, owner, log, plan) {
         Some(opened) => Ok(opened),
         None => Err(Fail::new("not opened")),
