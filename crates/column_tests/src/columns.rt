@@ -134,7 +134,7 @@ const NARROWED: &[Step] = &[
     Step::State(&[(100, 101), (151, 152), (200, 201)], 4097, (0, 0)),
 ];
 
-const COURSES: &[Course] = &[
+static COURSES: [Course; 7] = [
     ("a range is cracked and merged", CRACKED_AND_MERGED),
     ("a row moves between pieces", MOVED),
     ("the last row goes", EMPTIED),
@@ -146,5 +146,5 @@ const COURSES: &[Course] = &[
 
 #[test]
 fn ranges_are_cracked_and_merged(rt: HostRuntime) -> Result<(), AllocError> {
-    expect_courses(&rt, rt.alloc(), COURSES)
+    expect_courses(&rt, rt.alloc(), &COURSES)
 }

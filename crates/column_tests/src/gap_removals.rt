@@ -1,6 +1,7 @@
 //! Few rows leave from the midst of many: by a gap that is carried over few pieces, or by closing up where the pieces
 //! are many beside the rows.
 
+use crate::expectations::expect_all;
 use crate::rows::{RISING, Ranges, Scores, add_each, count_each, has_rows};
 use crate::steps::is_removed;
 use crack_kernel::Row;
@@ -28,12 +29,14 @@ fn without(
 
 // Whether rows have just these scores, in this order.
 fn have_scores(rows: &[Row<Global>], scores: &[i64]) -> bool {
-    for (row, score) in rows.iter().zip(scores.iter()) {
-        if row.score() != *score {
+    let mut place = 0usize;
+    for row in rows {
+        if scores.get(place).copied() != Some(row.score()) {
             return false;
         }
+        place = place.saturating_add(1);
     }
-    rows.len() == scores.len()
+    place == scores.len()
 }
 
 // Selects the scores from one on and below another.
@@ -62,36 +65,60 @@ struct Shape {
 // Scores from one on that leave, so many, with pivots inside them, and whether they leave by a gap.
 type Leaving = (i64, u8, bool);
 
-// They leave, and the others stay, with their members: in their order where these close up.
+// The first of them, and the first score behind them.
+fn ends_of(leaving: &Leaving) -> (i64, i64) {
+    let (low, width, _) = *leaving;
+    (low, low.saturating_add(i64::from(width)))
+}
+
+// They leave, and the others, given in the order of their rows, keep it where they close up.
+fn leave(
+    column: &mut Column<Global>,
+    leaving: &Leaving,
+    others: &[i64],
+) -> Result<bool, AllocError> {
+    let (_, width, is_carried) = *leaving;
+    let (low, high) = ends_of(leaving);
+    let (min, max) = (Bound::Incl(low), Bound::Excl(high));
+    let is_done = is_removed(column, min, max, usize::from(width))?;
+    let keeps_order = have_scores(column.rows(0, column.len()), others);
+    Ok(is_done && keeps_order != is_carried)
+}
+
+// The same, and the others stay, with their members.
 fn have_left(
     alloc: Global,
     column: &mut Column<Global>,
     scores: &Scores,
     leaving: &Leaving,
 ) -> Result<bool, AllocError> {
-    let (low, width, is_carried) = *leaving;
-    let high = low.saturating_add(i64::from(width));
+    let (low, high) = ends_of(leaving);
     part(column, low, high)?;
-    let mut left = without(alloc, column.rows(0, column.len()), low, high)?;
-    let (min, max) = (Bound::Incl(low), Bound::Excl(high));
-    let is_done = is_removed(column, min, max, usize::from(width))?;
-    let keeps_order = have_scores(column.rows(0, column.len()), &left);
-    left.sort_unstable();
-    Ok(is_done && keeps_order != is_carried && has_rows(alloc, column, scores, &left)?)
+    let mut others = without(alloc, column.rows(0, column.len()), low, high)?;
+    let leave = leave(column, leaving, &others);
+    others.sort_unstable();
+    let has_others = has_rows(alloc, column, scores, &others);
+    drop(others);
+    Ok(leave? && has_others?)
 }
 
-// Fills a column, parts it by inner pivots around two places and by the bounds, and lets rows leave in turn; how many
-// of these leave as told.
+// Fills a column, and parts it by inner pivots around two places and by the bounds.
+fn fill(alloc: Global, column: &mut Column<Global>, shape: &Shape) -> Result<(), AllocError> {
+    add_each(alloc, column, &shape.rows)?;
+    column.merge_all()?;
+    column.narrow(5000, 15_000);
+    count_each(column, &shape.bounds)?;
+    Ok(())
+}
+
+// Fills a column, and lets rows leave in turn; how many of these leave as told.
 fn count_left(
     alloc: Global,
     column: &mut Column<Global>,
     shape: &Shape,
     all: &[Leaving],
 ) -> Result<usize, AllocError> {
-    add_each(alloc, column, &shape.rows)?;
-    column.merge_all()?;
-    column.narrow(5000, 15_000);
-    count_each(column, &shape.bounds)?;
+    fill(alloc, column, shape)?;
     let mut count = 0usize;
     for leaving in all {
         if !have_left(alloc, column, &shape.rows, leaving)? {
@@ -162,16 +189,16 @@ const AMONG_MANY: [Leaving; 4] = [
     (30_000, 10, false),
 ];
 
-const COLUMNS: [(&str, Shape, &[Leaving]); 2] = [
-    ("few pivots", FEW_PIVOTS, &AMONG_FEW),
-    ("many pivots", MANY_PIVOTS, &AMONG_MANY),
+static COLUMNS: [(&str, Shape, &[Leaving]); 2] = [
+    ("among few pivots", FEW_PIVOTS, &AMONG_FEW),
+    ("among many pivots", MANY_PIVOTS, &AMONG_MANY),
 ];
 
 #[test]
 fn few_rows_leave_by_a_gap_or_close_up(rt: HostRuntime) -> Result<(), Fail> {
     for (what, shape, all) in &COLUMNS {
         let count = count_left_anew(rt.alloc(), shape, all)?;
-        assert!(rt; count == all.len(), "among {what}: {count}");
+        expect_all(&rt, count, all.len(), what);
     }
     Ok(())
 }

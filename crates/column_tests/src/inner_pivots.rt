@@ -52,7 +52,7 @@ const INNER_ONES_DROPPED: &[Step] = &[
     Step::HasInner(false),
 ];
 
-const COURSES: &[Course] = &[
+static COURSES: [Course; 2] = [
     ("cuts that move on keep inner pivots", MOVED_ON),
     (
         "few inner pivots beside many are dropped",
@@ -62,5 +62,5 @@ const COURSES: &[Course] = &[
 
 #[test]
 fn inner_pivots_are_kept_and_dropped(rt: HostRuntime) -> Result<(), AllocError> {
-    expect_courses(&rt, rt.alloc(), COURSES)
+    expect_courses(&rt, rt.alloc(), &COURSES)
 }

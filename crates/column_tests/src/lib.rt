@@ -3,7 +3,11 @@
 #![tactic(auto)]
 
 #[cfg(test)]
+mod alike;
+#[cfg(test)]
 mod columns;
+#[cfg(test)]
+mod expectations;
 #[cfg(test)]
 mod gap_removals;
 #[cfg(test)]

@@ -3,6 +3,8 @@
 ghost use Rattle.std.specs.Prelude.{◌<◌, length, OnOk};
 ghost use Rattle.ripple_column.specs.Content.{Holds, SameContent};
 
+use crate::alike::are_alike;
+use crate::expectations::expect_that;
 use crate::rows::{Ranges, Scores, count_each};
 use crate::steps::{add_known, take_known};
 use crack_kernel::Row;
@@ -75,8 +77,25 @@ fn take(
     take_known(column, held, index)
 }
 
-// Adds rows and takes rows out, `adds` of four times an addition, and merges all that waits after each `each` of these
-// changes.
+// Adds a row or takes one out, `adds` of four times the first.
+fn change_one(
+    alloc: Global,
+    column: &mut Column<Global>,
+    held: &mut Vec<Row<Global>>,
+    numbers: &mut Numbers,
+    adds: u32,
+) -> Result<(), AllocError>
+    requires { Holds column.old held.old.items }
+    ensures { OnOk result (Holds column.new held.new.items) }
+{
+    if numbers.next() % 4 < adds || held.is_empty() {
+        return add(alloc, column, held, numbers);
+    }
+    let index = numbers.below(held.len());
+    take(column, held, index)
+}
+
+// Makes 600 such changes, and merges all that waits after each `each` of them.
 fn change(
     alloc: Global,
     column: &mut Column<Global>,
@@ -89,56 +108,12 @@ fn change(
     ensures { OnOk result (Holds column.new held.new.items) }
 {
     for i in 1..601u32 {
-        if numbers.next() % 4 < adds || held.is_empty() {
-            add(alloc, column, held, numbers)?;
-        } else {
-            let index = numbers.below(held.len());
-            take(column, held, index)?;
-        }
+        change_one(alloc, column, held, numbers, adds)?;
         if i.checked_rem(each) == Some(0) {
             column.merge_all()?;
         }
     }
     Ok(())
-}
-
-// A number for a score and a member of up to 40 equal bytes, another for each; `None` for another member.
-fn number_of(row: &Row<Global>) -> Option<i64> {
-    let member = row.member();
-    let byte = member.first().copied().unwrap_or(0);
-    if member.len() > 40 || member != &[byte; 40][..member.len()] {
-        return None;
-    }
-    let place = i64::from(byte) * 41 + member.len() as i64;
-    Some(row.score().saturating_mul(16_384).saturating_add(place))
-}
-
-// These numbers of rows, in order.
-fn sorted(alloc: Global, rows: &[Row<Global>]) -> Result<Vec<i64>, Fail> {
-    let mut numbers = Vec::new(alloc);
-    for row in rows {
-        numbers.push(number_of(row).ok_or("a row of another member")?)?;
-    }
-    numbers.sort_unstable();
-    Ok(numbers)
-}
-
-// Whether nothing waits in a column, and its rows are just those of such numbers.
-fn has_just(alloc: Global, column: &Column<Global>, wanted: &[i64]) -> Result<bool, Fail> {
-    let numbers = sorted(alloc, column.rows(0, column.len()))?;
-    Ok(column.pending() == (0, 0) && numbers.as_slice() == wanted)
-}
-
-// Whether in two columns nothing waits, and they have the rows of a list, and the same pivots at the same places.
-fn are_alike(
-    alloc: Global,
-    one: &Column<Global>,
-    other: &Column<Global>,
-    held: &[Row<Global>],
-) -> Result<bool, Fail> {
-    let wanted = sorted(alloc, held)?;
-    let have_rows = has_just(alloc, one, &wanted)? && has_just(alloc, other, &wanted)?;
-    Ok(have_rows && one.pivot_list() == other.pivot_list())
 }
 
 // A column, the rows that it holds, the numbers that drive it, and after how many changes each all that waits is
@@ -164,8 +139,23 @@ impl Driven {
     }
 }
 
-// Changes a column, and selects a range where the numbers say, of which a window of ten ranks is
-// then wanted: the range's lower end, and how many rows it has.
+// Selects a range where the numbers say, of which a window of ten ranks is then wanted: the range's lower end, and how
+// many rows it has.
+fn ask(column: &mut Column<Global>, numbers: &mut Numbers) -> Result<(i64, usize), AllocError>
+    ensures { SameContent column.old column.new }
+{
+    let low = numbers.score();
+    let range = Range {
+        min: Bound::Incl(low),
+        max: Bound::Excl(low.saturating_add(30)),
+    };
+    let (from, to) = column.select(&range)?;
+    let start = from.saturating_add(numbers.below(1000)).min(to);
+    column.narrow(start, start.saturating_add(10).min(to));
+    Ok((low, to - from))
+}
+
+// Changes a column, and asks for a range.
 fn drive(alloc: Global, driven: &mut Driven, adds: u32) -> Result<(i64, usize), AllocError>
     requires { Holds driven.old.column driven.old.held.items }
     ensures { OnOk result (Holds driven.new.column driven.new.held.items) }
@@ -177,15 +167,7 @@ fn drive(alloc: Global, driven: &mut Driven, adds: u32) -> Result<(i64, usize), 
         each,
     } = driven;
     change(alloc, column, held, numbers, adds, *each)?;
-    let low = numbers.score();
-    let range = Range {
-        min: Bound::Incl(low),
-        max: Bound::Excl(low.saturating_add(30)),
-    };
-    let (from, to) = column.select(&range)?;
-    let start = from.saturating_add(numbers.below(1000)).min(to);
-    column.narrow(start, start.saturating_add(10).min(to));
-    Ok((low, to - from))
+    ask(column, numbers)
 }
 
 // All that waits in both is merged: whether they are alike, with the rows that the first holds.
@@ -215,8 +197,23 @@ struct Course {
     each: (u32, u32),
 }
 
-// Drives both in rounds by the same numbers, and merges them in each third: whether their ranges are the same, and they
-// are alike.
+// Drives both by the same numbers: whether their ranges are the same.
+fn are_driven(
+    alloc: Global,
+    one: &mut Driven,
+    other: &mut Driven,
+    adds: u32,
+) -> Result<bool, AllocError>
+    requires one { Holds one.old.column one.old.held.items }
+    requires other { Holds other.old.column other.old.held.items }
+    ensures one { OnOk result (Holds one.new.column one.new.held.items) }
+    ensures other { OnOk result (Holds other.new.column other.new.held.items) }
+{
+    let in_one = drive(alloc, one, adds)?;
+    Ok(drive(alloc, other, adds)? == in_one)
+}
+
+// Drives both in rounds, and merges them in each third: whether their ranges are the same, and they are alike.
 fn are_driven_alike(
     alloc: Global,
     one: &mut Driven,
@@ -227,11 +224,8 @@ fn are_driven_alike(
     requires other { Holds other.old.column other.old.held.items }
 {
     for round in 0..course.rounds {
-        let adds = course.adds[round % 4];
-        if drive(alloc, one, adds)? != drive(alloc, other, adds)? {
-            return Ok(false);
-        }
-        if round % 3 == 0 && !are_merged_alike(alloc, one, other)? {
+        let is_alike = are_driven(alloc, one, other, course.adds[round % 4])?;
+        if !is_alike || round % 3 == 0 && !are_merged_alike(alloc, one, other)? {
             return Ok(false);
         }
     }
@@ -239,8 +233,9 @@ fn are_driven_alike(
 }
 
 // Selects the ranges of a course, each of which leaves two pivots.
-fn show_pivots(column: &mut Column<Global>, course: &Course) -> Result<bool, AllocError>
-    ensures { SameContent column.old column.new }
+fn show_pivots(driven: &mut Driven, course: &Course) -> Result<bool, AllocError>
+    requires { Holds driven.old.column driven.old.held.items }
+    ensures { OnOk result (Holds driven.new.column driven.new.held.items) }
 {
     let ranges = Ranges {
         from: Scores {
@@ -251,8 +246,8 @@ fn show_pivots(column: &mut Column<Global>, course: &Course) -> Result<bool, All
         },
         width: Some(30),
     };
-    count_each(column, &ranges)?;
-    Ok(column.pivot_list().len() == 2 * usize::from(course.ranges))
+    count_each(&mut driven.column, &ranges)?;
+    Ok(driven.column.pivot_list().len() == 2 * usize::from(course.ranges))
 }
 
 // Shows the pivots of a course in both, and drives them.
@@ -265,9 +260,8 @@ fn are_alike_all_along(
     requires one { Holds one.old.column one.old.held.items }
     requires other { Holds other.old.column other.old.held.items }
 {
-    let is_one_shown = show_pivots(&mut one.column, course)?;
-    let is_other_shown = show_pivots(&mut other.column, course)?;
-    Ok(is_one_shown && is_other_shown && are_driven_alike(alloc, one, other, course)?)
+    let are_shown = show_pivots(one, course)? && show_pivots(other, course)?;
+    Ok(are_shown && are_driven_alike(alloc, one, other, course)?)
 }
 
 // Whether random changes, merges and selects lead to the same rows and pivots, however many changes each all that waits
@@ -314,12 +308,12 @@ const MANY_PIVOTS: Course = Course {
 // The columns of each course are alike all along.
 fn expect_alike<R: Abort>(rt: &R, alloc: Global, courses: &[Course]) -> Result<(), Fail> {
     for course in courses {
-        assert!(rt; is_alike(alloc, course)?, "{}", course.what);
+        expect_that(rt, is_alike(alloc, course)?, course.what);
     }
     Ok(())
 }
 
-const FEW_ROWS: [Course; 4] = [
+static FEW_ROWS: [Course; 4] = [
     FEW_PIVOTS,
     Course {
         what: "200 scores again",
@@ -345,7 +339,7 @@ fn merging_at_once_is_merging_row_by_row(rt: HostRuntime) -> Result<(), Fail> {
     expect_alike(&rt, rt.alloc(), &FEW_ROWS)
 }
 
-const MANY_ROWS: [Course; 2] = [
+static MANY_ROWS: [Course; 2] = [
     Course {
         what: "many scores",
         scores: 1_000_000,
@@ -367,7 +361,7 @@ fn many_rows_are_merged_alike(rt: HostRuntime) -> Result<(), Fail> {
     expect_alike(&rt, rt.alloc(), &MANY_ROWS)
 }
 
-const AMONG_MANY_PIVOTS: [Course; 3] = [
+static AMONG_MANY_PIVOTS: [Course; 3] = [
     MANY_PIVOTS,
     Course {
         what: "five rows at once",

@@ -124,7 +124,7 @@ const GREAT_RANGE_REMOVED: &[Step] = &[
     Step::Parted,
 ];
 
-const COURSES: &[Course] = &[
+static COURSES: [Course; 7] = [
     ("rows in the middle leave", MIDDLE_REMOVED),
     ("rows at an end leave", ENDS_REMOVED),
     ("all rows leave", ALL_REMOVED),
@@ -139,5 +139,5 @@ const COURSES: &[Course] = &[
 
 #[test]
 fn rows_of_ranges_leave(rt: HostRuntime) -> Result<(), AllocError> {
-    expect_courses(&rt, rt.alloc(), COURSES)
+    expect_courses(&rt, rt.alloc(), &COURSES)
 }

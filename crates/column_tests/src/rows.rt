@@ -143,12 +143,22 @@ pub fn count_each<A: Allocator + Copy>(
     Ok(rows)
 }
 
-/// The scores of rows, in the order of these.
-pub fn scores_of<A: Allocator>(alloc: Global, rows: &[Row<A>]) -> Result<Vec<i64>, AllocError> {
+// The scores of rows, in the order of these.
+fn scores_of<A: Allocator>(alloc: Global, rows: &[Row<A>]) -> Result<Vec<i64>, AllocError> {
     let mut scores = Vec::new(alloc);
     for row in rows {
         scores.push(row.score())?;
     }
+    Ok(scores)
+}
+
+/// The scores of a column's rows, in order.
+pub fn sorted_scores<A: Allocator + Copy>(
+    alloc: Global,
+    column: &Column<A>,
+) -> Result<Vec<i64>, AllocError> {
+    let mut scores = scores_of(alloc, column.rows(0, column.len()))?;
+    scores.sort_unstable();
     Ok(scores)
 }
 
@@ -194,9 +204,9 @@ pub fn has_rows<A: Allocator + Copy>(
     scores: &Scores,
     wanted: &[i64],
 ) -> Result<bool, AllocError> {
-    let rows = column.rows(0, column.len());
-    let mut sorted = scores_of(alloc, rows)?;
-    sorted.sort_unstable();
+    let sorted = sorted_scores(alloc, column)?;
+    let has_scores = sorted.as_slice() == wanted;
     let is_parted = are_parted(&sorted, column.piece_list());
-    Ok(is_parted && are_named(rows, scores) && sorted.as_slice() == wanted)
+    drop(sorted);
+    Ok(has_scores && is_parted && are_named(column.rows(0, column.len()), scores))
 }

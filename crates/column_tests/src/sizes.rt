@@ -1,6 +1,7 @@
 //! What a column takes, in a heap that counts it: the memory of rows that left, and of lists that were merged, comes
 //! back.
 
+use crate::expectations::expect_that;
 use crate::rows::add;
 use linked_list_allocator::LocalHeap;
 use ripple_column::{Column, MAX_RESERVED};
@@ -110,6 +111,11 @@ fn merge<A: Allocator + Copy>(
     Ok(used)
 }
 
+/// Has room for so many rows more to wait, or for as many as a call may ask for.
+fn reserve<A: Allocator + Copy>(column: &mut Column<A>, room: u16) -> Result<(), AllocError> {
+    column.reserve_write(usize::from(room).min(MAX_RESERVED))
+}
+
 /// Gives room back, beside so many rows, for which so many more were to wait.
 fn give_room_back<A: Allocator + Copy>(
     heap: &LocalHeap,
@@ -119,7 +125,7 @@ fn give_room_back<A: Allocator + Copy>(
     room: u16,
 ) -> Result<usize, AllocError> {
     merge(heap, alloc, column, rows)?;
-    column.reserve_write(usize::from(room).min(MAX_RESERVED))?;
+    reserve(column, room)?;
     let used = heap.used();
     column.give_back_room();
     Ok(used)
@@ -197,7 +203,7 @@ fn is_done_in_heap(alloc: Global, work: &Work) -> Result<bool, Fail> {
 
 /// The works: 7,500 rows of a window come; ranges leave at either end of 1,000 rows and between them, of 400 rows each,
 /// and one of few rows.
-const WORKS: [(&str, Work); 13] = [
+static WORKS: [(&str, Work); 13] = [
     ("a sliding window", Work::Slide(750)),
     (
         "rows at the low end",
@@ -231,7 +237,8 @@ const WORKS: [(&str, Work); 13] = [
 #[test]
 fn memory_comes_back(rt: HostRuntime) -> Result<(), Fail> {
     for (what, work) in &WORKS {
-        assert!(rt; is_done_in_heap(rt.alloc(), work)?, "{what}");
+        let is_done = is_done_in_heap(rt.alloc(), work)?;
+        expect_that(&rt, is_done, what);
     }
     Ok(())
 }

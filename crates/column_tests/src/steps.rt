@@ -4,8 +4,9 @@ ghost use Rattle.std.specs.Prelude.{◌<◌, length, OnOk};
 ghost use Rattle.ripple_column.specs.Content.{SameContent};
 ghost use Rattle.column_tests.specs.Known.{HoldsAll, KeepsOthers};
 
+use crate::expectations::expect_all;
 use crate::rows::{
-    RISING, Ranges, Scores, add, add_at, add_each, are_parted, count, count_each, scores_of,
+    RISING, Ranges, Scores, add, add_at, add_each, are_parted, count, count_each, sorted_scores,
 };
 use crack_kernel::Row;
 use ripple_column::Column;
@@ -186,9 +187,10 @@ fn are_between(rows: &[Row<Global>], low: i64, high: i64) -> bool {
 }
 
 fn is_parted(alloc: Global, column: &Column<Global>) -> Result<bool, AllocError> {
-    let mut scores = scores_of(alloc, column.rows(0, column.len()))?;
-    scores.sort_unstable();
-    Ok(are_parted(&scores, column.piece_list()))
+    let scores = sorted_scores(alloc, column)?;
+    let is_parted = are_parted(&scores, column.piece_list());
+    drop(scores);
+    Ok(is_parted)
 }
 
 fn removes_beside_inner(
@@ -319,7 +321,7 @@ pub fn expect_courses<R: Abort>(
 ) -> Result<(), AllocError> {
     for (what, steps) in courses {
         let count = right_steps_anew(alloc, steps)?;
-        assert!(rt; count == steps.len(), "{what}: step {count}");
+        expect_all(rt, count, steps.len(), what);
     }
     Ok(())
 }

@@ -1,6 +1,7 @@
 //! Each allocation of a column's calls refused in turn: where a call is refused for want of one, the column is as
 //! before and answers once it is asked again. Inner pivots are done without.
 
+use crate::expectations::expect_that;
 use crate::rows::{RISING, Ranges, Scores, add_each, count_each, has_rows};
 use fuse_alloc::Fuse;
 use ripple_column::Column;
@@ -230,7 +231,7 @@ fn points_of(alloc: Global, setup: Setup, call: Call, end: Numbers) -> Result<Po
         let after = refused(alloc, setup, call, allocation)?;
         let is_right = after.is_made || after.has_stayed && !after.is_whole;
         if after.end != end || !is_right || !after.has_rows {
-            return Err("neither refused nor made")?;
+            return Err(Fail::new("neither refused nor made"));
         }
         if after.is_whole {
             return Ok(Points {
@@ -241,7 +242,7 @@ fn points_of(alloc: Global, setup: Setup, call: Call, end: Numbers) -> Result<Po
         }
         refusals = refusals.saturating_add(u64::from(!after.is_made));
     }
-    Err("no end")?
+    Err(Fail::new("no end"))
 }
 
 const SCORES: Range = Range {
@@ -290,7 +291,7 @@ const LONG: Setup = Setup {
 type Least = (u64, u64, usize);
 
 /// Calls, with the rows, the insertions and deletions that wait, and the shown pivots that each leaves.
-const CALLS: [(&str, Setup, Call, Numbers, Least); 6] = [
+static CALLS: [(&str, Setup, Call, Numbers, Least); 6] = [
     (
         "a first range of rows that wait",
         TEN,
@@ -339,7 +340,7 @@ const CALLS: [(&str, Setup, Call, Numbers, Least); 6] = [
 fn calls_meet_each_refused_allocation(rt: HostRuntime) -> Result<(), Fail> {
     for (name, setup, call, end, least) in &CALLS {
         let points = points_of(rt.alloc(), *setup, *call, *end)?;
-        assert!(rt; points.are_at_least(*least), "{name}");
+        expect_that(&rt, points.are_at_least(*least), name);
     }
     Ok(())
 }
@@ -372,7 +373,7 @@ const MIDDLE: Range = Range {
 
 /// Changes that take no memory, of so many rows, with so many that wait behind them: a range leaves, or all is merged.
 /// Beside many rows there is room for those that wait, so that rows can leave where there is none left.
-const WITHOUT_MEMORY: [(&str, u16, u16, Option<Range>); 9] = [
+static WITHOUT_MEMORY: [(&str, u16, u16, Option<Range>); 9] = [
     ("ten rows: some near the low end leave", 10, 0, Some(FOUR)),
     ("ten rows: some in the middle leave", 10, 0, Some(MIDDLE)),
     ("ten rows: all leave", 10, 0, Some(ALL)),
@@ -387,10 +388,8 @@ const WITHOUT_MEMORY: [(&str, u16, u16, Option<Range>); 9] = [
 #[test]
 fn rows_leave_and_are_merged_without_memory(rt: HostRuntime) -> Result<(), Fail> {
     for (name, first, then, leaving) in &WITHOUT_MEMORY {
-        assert!(rt;
-            is_made_without_memory(rt.alloc(), *first, *then, *leaving)?,
-            "{name}"
-        );
+        let is_made = is_made_without_memory(rt.alloc(), *first, *then, *leaving)?;
+        expect_that(&rt, is_made, name);
     }
     Ok(())
 }

@@ -1,5 +1,6 @@
 //! Windows that slide: rows come at the high end, and as many leave at the low one.
 
+use crate::expectations::expect_all;
 use crate::rows::{RISING, add_at, has_rows};
 use crate::steps::{Step, is_removed, right_steps};
 use ripple_column::Column;
@@ -219,26 +220,26 @@ type Course = (&'static str, u16, &'static [Turn]);
 fn expect_turns<R: Abort>(rt: &R, alloc: Global, courses: &[Course]) -> Result<(), AllocError> {
     for (what, len, turns) in courses {
         let count = right_turns_anew(alloc, *len, turns)?;
-        assert!(rt; count == turns.len(), "{what}: turn {count}");
+        expect_all(rt, count, turns.len(), what);
     }
     Ok(())
 }
 
-const LEAVING: [Course; 2] = [("ten rows", 10, TEN), ("many rows", 3000, MANY)];
+static LEAVING: [Course; 2] = [("ten rows", 10, TEN), ("many rows", 3000, MANY)];
 
 #[test]
 fn the_first_row_leaves_again_and_again(rt: HostRuntime) -> Result<(), AllocError> {
     expect_turns(&rt, rt.alloc(), &LEAVING)
 }
 
-const WAITING: [Course; 1] = [("many rows", 3000, SELDOM_MERGED)];
+static WAITING: [Course; 1] = [("many rows", 3000, SELDOM_MERGED)];
 
 #[test]
 fn the_first_row_leaves_while_others_wait(rt: HostRuntime) -> Result<(), AllocError> {
     expect_turns(&rt, rt.alloc(), &WAITING)
 }
 
-const PARTED: [Course; 2] = [
+static PARTED: [Course; 2] = [
     ("pivots close up behind rows that left", 10, CLOSED_UP),
     ("a sliding cut finds short pieces", 9000, SHORT_PIECES),
 ];

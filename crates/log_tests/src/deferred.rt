@@ -2,55 +2,58 @@
 
 ghost use Rattle.std.specs.Prelude.{◌≡◌};
 
-use crate::owners::{AMPLE, Limits, Logged, Sink, opened, replies_to};
-use append_log::{FuseHandle, Syncer};
-use std::alloc::Global;
+use crate::owners::{AMPLE, Limits, are_logged, log_of, opened};
+use append_log::{FuseHandle, Log, LogSink, SyncHandle, Syncer};
 use std::cell::Cell;
 use std::marker::Brand;
 use std::sync::ledger::{Blank, Ledger};
 use std::sync::{Mutex, Wait};
 use std::test::*;
 
-/// Appends three records, each by one call of the sink.
-fn append_three<L: Ledger>(alloc: Global, owner: &mut Logged<Sink, L, Global>) -> Result<(), Fail> {
-    let commands = ["ZADD k 1 a", "ZADD k 2 a", "ZCARD k", "ZADD j 1 a"];
-    if replies_to(alloc, owner, &commands)?.as_str() != ":1~ :0~ :1~ :1~ " {
-        return Err("other replies")?;
-    }
-    Ok(())
-}
-
-/// An owner whose log syncs later and has three records.
-fn owner_of_three<L: Ledger>(
-    rt: &HostRuntime,
-    blank: Blank,
-) -> Result<Logged<Sink, L, Global>, Fail>
-    requires name { blank.name ≡ L.name }
-    requires parts { blank.parts ≡ L.parts }
-    requires two { blank.parts ≡ 2 }
-{
-    let limits = Limits {
-        is_deferred: true,
-        ..AMPLE
-    };
-    let mut owner = opened::<L>(rt, blank, limits)?;
-    match append_three(rt.alloc(), &mut owner) {
-        Ok(()) => Ok(owner),
-        Err(fail) => {
-            drop(owner);
-            Err(fail)
-        }
-    }
-}
+/// Three of these append a record, each by one call of the sink.
+static COMMANDS: [&str; 4] = ["ZADD k 1 a", "ZADD k 2 a", "ZCARD k", "ZADD j 1 a"];
 
 /// How many records are settled, 99 where they can't be.
 fn count(settled: Option<u64>) -> u64 {
     settled.unwrap_or(99)
 }
 
+/// What a syncer tells that settles the second record, then the third, then none.
+fn settled_by<R: Wait, S: LogSink, L: Ledger, H: SyncHandle>(
+    rt: &R,
+    log: &Mutex<Log<S, L>>,
+    syncer: &mut Syncer<H>,
+) -> [u64; 3] {
+    [
+        count(syncer.settle(rt, log, 2)),
+        count(syncer.settle(rt, log, 3)),
+        count(syncer.settle(rt, log, 0)),
+    ]
+}
+
 /// What a syncer beside a log of three records tells that settles the second one, then the third, then none, how often
 /// it synced, and whether the log is broken then.
-fn settled_beside<L: Ledger, R: Wait>(
+fn settled_beside<S: LogSink + Drop, L: Ledger, R: Wait>(
+    rt: &R,
+    log: Log<S, L>,
+    fails_at: u64,
+) -> ([u64; 4], bool) {
+    let log = Mutex::new(log);
+    let syncs = Cell::new(0);
+    let mut syncer = Syncer::new(FuseHandle::new(&syncs, fails_at));
+    let [second, third, none] = settled_by(rt, &log, &mut syncer);
+    let is_broken = log.lock(rt).is_broken();
+    drop(log);
+    ([second, third, none, syncs.get()], is_broken)
+}
+
+const DEFERRED: Limits = Limits {
+    is_deferred: true,
+    ..AMPLE
+};
+
+/// The same of a new owner, whose log leaves its syncs to later.
+fn settled_anew<L: Ledger, R: Wait>(
     rt: &R,
     host: &HostRuntime,
     blank: Blank,
@@ -60,16 +63,14 @@ fn settled_beside<L: Ledger, R: Wait>(
     requires parts { blank.parts ≡ L.parts }
     requires two { blank.parts ≡ 2 }
 {
-    let (sets, log) = owner_of_three::<L>(host, blank)?.into_parts();
-    drop(sets);
-    let log = Mutex::new(log);
-    let syncs = Cell::new(0);
-    let mut syncer = Syncer::new(FuseHandle::new(&syncs, fails_at));
-    let second = count(syncer.settle(rt, &log, 2));
-    let third = count(syncer.settle(rt, &log, 3));
-    let none = count(syncer.settle(rt, &log, 0));
-    let is_broken = log.lock(rt).is_broken();
-    Ok(([second, third, none, syncs.get()], is_broken))
+    let mut owner = opened::<L>(host, blank, DEFERRED)?;
+    let are_told = are_logged(host.alloc(), &mut owner, &COMMANDS, ":1~ :0~ :1~ :1~ ");
+    let settled = settled_beside(rt, log_of(owner), fails_at);
+    if are_told? {
+        Ok(settled)
+    } else {
+        Err(Fail::new("other replies"))
+    }
 }
 
 /// Which sync fails, 0 for none, and what [`settled_beside`] tells then.
@@ -83,7 +84,7 @@ const SETTLED: [(u64, ([u64; 4], bool)); 2] = [
 #[test]
 fn a_syncer_settles_all_records_at_once_or_none(rt: HostRuntime) -> Result<(), Fail> {
     for (fails_at, wanted) in SETTLED {
-        let told = settled_beside::<Brand, _>(&rt, &rt, Blank::new(2), fails_at)?;
+        let told = settled_anew::<Brand, _>(&rt, &rt, Blank::new(2), fails_at)?;
         assert!(rt; told == wanted, "fails at {fails_at}");
     }
     Ok(())

@@ -2,7 +2,7 @@
 
 ghost use Rattle.std.specs.Prelude.{◌≡◌, None};
 
-use crate::owners::{Logged, Owner, accepted, addition, command, unkept};
+use crate::owners::{Logged, Owner, accept, addition, are_told, command, unkept};
 use append_log::NoSink;
 use linked_list_allocator::LocalHeap;
 use sorted_sets::OneOwner;
@@ -19,52 +19,73 @@ const HEAP: usize = 1 << 20;
 /// The bytes of the least block that is taken of it. The rows of a long piece would take over fifteen times as many.
 const LEAST: usize = 1_024;
 
+/// Takes a block of a heap, if it has one of this size.
+fn take_block<A: Allocator>(
+    heap: A,
+    size: usize,
+    taken: &mut Vec<Vec<u8, A>, A>,
+) -> Result<bool, AllocError> {
+    match Vec::with_capacity(heap, size) {
+        Ok(block) => {
+            taken.push(block)?;
+            Ok(true)
+        }
+        Err(_) => Ok(false),
+    }
+}
+
 /// Takes room of a heap until no block of [`LEAST`] bytes is left.
-fn take_room<A: Allocator + Copy>(heap: A) -> Result<Vec<Vec<u8, A>, A>, AllocError> {
-    let mut taken: Vec<Vec<u8, A>, A> = Vec::with_capacity(heap, 100)?;
+fn take_room<A: Allocator + Copy>(
+    heap: A,
+    taken: &mut Vec<Vec<u8, A>, A>,
+) -> Result<(), AllocError> {
     let mut size = HEAP;
     for _ in 0..100u8 {
-        match Vec::with_capacity(heap, size) {
-            Ok(block) => taken.push(block)?,
-            Err(_) => size = (size / 2).max(LEAST),
+        if !take_block(heap, size, taken)? {
+            size = (size / 2).max(LEAST);
         }
     }
-    Ok(taken)
+    Ok(())
 }
 
 /// A window of two members of 500 that stand in one piece.
-fn window<A: Allocator + Copy>(heap: A, owner: &mut Owner<A>) -> Result<bool, Fail>
+const WINDOW: &[&str] = &["ZRANGEBYSCORE k -inf +inf LIMIT 0 2"];
+
+/// Whether the window is told in a heap with so little left.
+fn is_told_in_little<A: Allocator + Copy>(heap: A, owner: &mut Owner<A>) -> Result<bool, Fail>
     requires { owner.old.next ≡ None }
 {
-    let told = accepted(heap, owner, &["ZRANGEBYSCORE k -inf +inf LIMIT 0 2"])?;
-    let is_told = told.as_str() == "*2~$8~member-0~$8~member-1~ ";
-    drop(told);
-    Ok(is_told)
+    let mut taken = Vec::with_capacity(heap, 100)?;
+    let is_told = match take_room(heap, &mut taken) {
+        Ok(()) => are_told(heap, owner, WINDOW, "*2~$8~member-0~$8~member-1~ "),
+        Err(_) => Err(Fail::new("no memory")),
+    };
+    drop(taken);
+    is_told
 }
 
-/// Whether it is told in a heap with so little left.
-fn is_told_in_little<A: Allocator + Copy>(
+/// The same of the owner of a set that a command has made.
+fn is_told_anew<A: Allocator + Copy>(
     heap: A,
-    owner: &mut Owner<A>,
+    hasher: RandomState,
     text: &str,
-) -> Result<bool, Fail>
-    requires { owner.old.next ≡ None }
-{
-    drop(accepted(heap, owner, &[text, "ZCOUNT k -inf +inf"])?);
-    let taken = take_room(heap)?;
-    let is_told = window(heap, owner);
-    drop(taken);
+) -> Result<bool, Fail> {
+    let mut owner = OneOwner::new(heap, hasher);
+    let is_told = match accept(heap, &mut owner, &[text, "ZCOUNT k -inf +inf"]) {
+        Ok(()) => is_told_in_little(heap, &mut owner),
+        Err(fail) => Err(fail),
+    };
+    drop(owner);
     is_told
 }
 
 #[test]
 fn a_short_window_of_a_long_piece_takes_little(rt: HostRuntime) -> Result<(), Fail> {
-    let text = addition(rt.alloc(), 500)?;
     let hasher = RandomState::new(&rt)?;
+    let text = addition(rt.alloc(), 500)?;
     let heap = LocalHeap::new(rt.alloc(), HEAP)?;
-    let mut owner = OneOwner::new(&heap, hasher);
-    let is_told = is_told_in_little(&heap, &mut owner, text.as_str());
-    drop(owner);
+    let is_told = is_told_anew(&heap, hasher, text.as_str());
+    drop(text);
     assert!(rt; is_told?);
     Ok(())
 }
@@ -112,32 +133,45 @@ fn is_taken_out<L: Ledger, A: Allocator + Copy>(
 }
 
 /// The same of the owner of no sets.
-fn is_taken_out_anew<L: Ledger>(
-    texts: Global,
+fn is_taken_out_anew<L: Ledger, A: Allocator + Copy>(
     heap: &LocalHeap,
+    alloc: A,
     hasher: RandomState,
     blank: Blank,
-) -> Result<bool, Fail>
+    addition: Command<A>,
+    removal: Command<A>,
+) -> bool
     requires name { blank.name ≡ L.name }
     requires parts { blank.parts ≡ L.parts }
     requires two { blank.parts ≡ 2 }
 {
-    let addition = long_command(texts, heap, "ZADD k 3")?;
-    let removal = long_command(texts, heap, "ZREM k")?;
-    let mut owner = unkept::<L, _>(heap, hasher, blank);
-    let is_out = is_taken_out(heap, heap, &mut owner, &addition, &removal);
+    let mut owner = unkept::<L, _>(alloc, hasher, blank);
+    let is_out = is_taken_out(heap, alloc, &mut owner, &addition, &removal);
     drop(addition);
     drop(removal);
     drop(owner);
-    Ok(is_out)
+    is_out
+}
+
+/// The same in a heap of its own.
+fn is_taken_out_in_heap(alloc: Global, hasher: RandomState) -> Result<bool, Fail> {
+    let heap = LocalHeap::new(alloc, HEAP)?;
+    let addition = long_command(alloc, &heap, "ZADD k 3")?;
+    let removal = match long_command(alloc, &heap, "ZREM k") {
+        Ok(removal) => removal,
+        Err(fail) => {
+            drop(addition);
+            return Err(fail);
+        }
+    };
+    let blank = Blank::new(2);
+    Ok(is_taken_out_anew::<Brand, _>(&heap, &heap, hasher, blank, addition, removal))
 }
 
 // A removal whose record finds no room lets go what was kept back, and is made.
 #[test]
 fn a_removal_has_room_for_its_record(rt: HostRuntime) -> Result<(), Fail> {
-    let heap = LocalHeap::new(rt.alloc(), HEAP)?;
     let hasher = RandomState::new(&rt)?;
-    let is_out = is_taken_out_anew::<Brand>(rt.alloc(), &heap, hasher, Blank::new(2))?;
-    assert!(rt; is_out);
+    assert!(rt; is_taken_out_in_heap(rt.alloc(), hasher)?);
     Ok(())
 }

@@ -3,7 +3,7 @@
 
 ghost use Rattle.std.specs.Prelude.{◌≡◌, ◌≤◌, length, None};
 
-use crate::owners::{Owner, accepted, command};
+use crate::owners::{Owner, accept, command};
 use fuse_alloc::Fuse;
 use resp_wire::Decoder;
 use sorted_sets::OneOwner;
@@ -13,7 +13,7 @@ use std::test::*;
 use zset_commands::Command;
 
 /// A set with rows in pieces and rows that wait, and a set of one member.
-const SETUP: [&str; 5] = [
+static SETUP: [&str; 5] = [
     "ZADD k 5 a 6 b 7 c 7 d 9 e 12 f",
     "ZCOUNT k 6 9",
     "ZADD k 8 g -1 h 6 a",
@@ -22,7 +22,7 @@ const SETUP: [&str; 5] = [
 ];
 
 /// Changes of these, each of which is prepared with memory and made without.
-const CHANGES: [&str; 11] = [
+static CHANGES: [&str; 11] = [
     "ZADD k 1 i 2 j 3 a",
     "ZADD new 1 a",
     "ZADD k XX CH 3 a 9 nobody",
@@ -60,34 +60,57 @@ fn is_made_without<A: Allocator + Copy>(
     }
 }
 
-/// The first of the changes that is not, where there is one.
+/// The same of a change's words.
+fn are_made_without<A: Allocator + Copy>(
+    fuse: &Fuse<Global>,
+    alloc: A,
+    owner: &mut Owner<A>,
+    words: &str,
+) -> Result<bool, Fail>
+    requires { owner.old.next ≡ None }
+    ensures { owner.new.next ≡ None }
+{
+    let change = command(alloc, words)?;
+    let are_made = is_made_without(fuse, owner, &change);
+    drop(change);
+    Ok(are_made)
+}
+
+/// The first of the changes that is not made so, or "none".
 fn first_with_memory<A: Allocator + Copy>(
     fuse: &Fuse<Global>,
     alloc: A,
     owner: &mut Owner<A>,
-) -> Result<Option<&'static str>, Fail>
+) -> Result<&'static str, Fail>
     requires { owner.old.next ≡ None }
 {
-    drop(accepted(alloc, owner, &SETUP)?);
-    for text in CHANGES {
-        let change = command(alloc, text)?;
-        let is_made = is_made_without(fuse, owner, &change);
-        drop(change);
-        if !is_made {
-            return Ok(Some(text));
+    accept(alloc, owner, &SETUP)?;
+    for text in &CHANGES {
+        if !are_made_without(fuse, alloc, owner, text)? {
+            return Ok(text);
         }
     }
-    Ok(None)
+    Ok("none")
+}
+
+/// The same of the owner of no sets.
+fn first_with_memory_anew<A: Allocator + Copy>(
+    fuse: &Fuse<Global>,
+    alloc: A,
+    hasher: RandomState,
+) -> Result<&'static str, Fail> {
+    let mut owner = OneOwner::new(alloc, hasher);
+    let first = first_with_memory(fuse, alloc, &mut owner);
+    drop(owner);
+    first
 }
 
 // A change whose record is written is made, whatever memory there is then.
 #[test]
 fn a_prepared_change_takes_no_memory(rt: HostRuntime) -> Result<(), Fail> {
+    let hasher = RandomState::new(&rt)?;
     let fuse = Fuse::new(rt.alloc(), 0);
-    let mut owner = OneOwner::new(&fuse, RandomState::new(&rt)?);
-    let first = first_with_memory(&fuse, &fuse, &mut owner);
-    drop(owner);
-    let first = first?.unwrap_or("none");
+    let first = first_with_memory_anew(&fuse, &fuse, hasher)?;
     assert!(rt; first == "none", "{first}");
     Ok(())
 }
@@ -106,26 +129,27 @@ fn leaves_without<A: Allocator + Copy>(fuse: &Fuse<Global>, owner: &mut Owner<A>
     is_told && has_left && is_armed
 }
 
-/// The same behind the commands that set up the sets.
-fn leaves_without_behind<A: Allocator + Copy>(
+/// The same of a new owner, behind the commands that set up the sets.
+fn leaves_without_anew<A: Allocator + Copy>(
     fuse: &Fuse<Global>,
     alloc: A,
-    owner: &mut Owner<A>,
-) -> Result<bool, Fail>
-    requires { owner.old.next ≡ None }
-{
-    drop(accepted(alloc, owner, &SETUP)?);
-    Ok(leaves_without(fuse, owner))
+    hasher: RandomState,
+) -> Result<bool, Fail> {
+    let mut owner = OneOwner::new(alloc, hasher);
+    let leaves = match accept(alloc, &mut owner, &SETUP) {
+        Ok(()) => Ok(leaves_without(fuse, &mut owner)),
+        Err(fail) => Err(fail),
+    };
+    drop(owner);
+    leaves
 }
 
 // A server takes the sets of its file over, however many they are.
 #[test]
 fn a_set_that_leaves_takes_no_memory(rt: HostRuntime) -> Result<(), Fail> {
+    let hasher = RandomState::new(&rt)?;
     let fuse = Fuse::new(rt.alloc(), 0);
-    let mut owner = OneOwner::new(&fuse, RandomState::new(&rt)?);
-    let leaves = leaves_without_behind(&fuse, &fuse, &mut owner);
-    drop(owner);
-    assert!(rt; leaves?);
+    assert!(rt; leaves_without_anew(&fuse, &fuse, hasher)?);
     Ok(())
 }
 
@@ -137,6 +161,28 @@ const OF_NINE_WORDS: &[u8] =
     b"*9\r\n$1\r\n1\r\n$1\r\n2\r\n$1\r\n3\r\n$1\r\n4\r\n$1\r\n5\r\n$1\r\n6\r\n$1\r\n7\r\n$1\r\n8\r\n$1\r\n9\r\n\
       *9\r\n$1\r\n1\r\n$1\r\n2\r\n$1\r\n3\r\n$1\r\n4\r\n$1\r\n5\r\n$1\r\n6\r\n$1\r\n7\r\n$1\r\n8\r\n$1\r\n9\r\n";
 
+/// Whether a request is read, which is reused then.
+fn reuses_one<A: Allocator + Copy>(decoder: &mut Decoder<A>) -> bool {
+    match decoder.next() {
+        Ok(Some(request)) => {
+            decoder.reuse(request);
+            true
+        }
+        _ => false,
+    }
+}
+
+/// Whether a request is read without an allocation.
+fn reads_one_without<A: Allocator + Copy>(fuse: &Fuse<Global>, decoder: &mut Decoder<A>) -> bool {
+    fuse.arm(1);
+    let next = decoder.next();
+    let is_given = matches!(&next, Ok(Some(_)));
+    drop(next);
+    let is_armed = fuse.is_armed();
+    fuse.arm(0);
+    is_given && is_armed
+}
+
 /// Whether the second of two requests is read without an allocation, where the first was answered and is reused.
 fn is_read_without<A: Allocator + Copy>(
     fuse: &Fuse<Global>,
@@ -146,18 +192,15 @@ fn is_read_without<A: Allocator + Copy>(
     requires { length two.now ≤ 1000 }
 {
     let mut decoder = Decoder::new(alloc);
-    decoder.feed(two)?;
-    let Ok(Some(answered)) = decoder.next() else {
-        return Err(Fail::new("no request"));
-    };
-    decoder.reuse(answered);
-    fuse.arm(1);
-    let next = decoder.next();
-    let is_given = matches!(&next, Ok(Some(_)));
-    drop(next);
-    let is_armed = fuse.is_armed();
-    fuse.arm(0);
-    Ok(is_given && is_armed)
+    let is_fed = decoder.feed(two).is_ok();
+    let is_answered = is_fed && reuses_one(&mut decoder);
+    let is_read = is_answered && reads_one_without(fuse, &mut decoder);
+    drop(decoder);
+    if is_answered {
+        Ok(is_read)
+    } else {
+        Err(Fail::new("no request"))
+    }
 }
 
 // Where memory is exhausted, requests of few words are still read. A longer list is given up.

@@ -5,7 +5,7 @@ ghost use Rattle.std.specs.Prelude.{◌≡◌, ◌≤◌, ◌^◌, None};
 use append_log::{FuseSink, Log, LogSink, LoggedOwner, MemorySink, NoSink, ReloadFault, reload};
 use resp_wire::{Bytes, BytesList, FuseSource, MemorySource, Reply, Request, write_reply};
 use sorted_sets::OneOwner;
-use std::alloc::{Allocator, Global};
+use std::alloc::{AllocError, Allocator, Global};
 use std::hash::RandomState;
 use std::sync::ledger::{Blank, Ledger};
 use std::test::*;
@@ -18,11 +18,21 @@ pub type Logged<S, L, A> = LoggedOwner<RandomState, S, L, A>;
 /// A sink in memory one of whose calls may fail.
 pub type Sink = FuseSink<MemorySink<Global>>;
 
+/// Puts an argument behind others.
+fn put_argument<A: Allocator + Copy>(
+    alloc: A,
+    argument: &str,
+    arguments: &mut Vec<Bytes<A>, A>,
+) -> Result<(), AllocError> {
+    arguments.push(Bytes::from_slice(alloc, argument.as_bytes())?)?;
+    Ok(())
+}
+
 /// The request of a text's arguments, which single spaces part.
 pub fn request<A: Allocator + Copy>(alloc: A, text: &str) -> Result<Request<A>, Fail> {
     let mut arguments = Vec::new(alloc);
     for argument in text.split(' ') {
-        arguments.push(Bytes::from_slice(alloc, argument.as_bytes())?)?;
+        put_argument(alloc, argument, &mut arguments)?;
     }
     match Request::new(BytesList::new(arguments)) {
         Some(request) => Ok(request),
@@ -50,7 +60,7 @@ pub fn put_answer<A: Allocator + Copy>(
 }
 
 /// These bytes as text, an end of line as `~`, which is in none of them.
-pub fn shown<A: Allocator + Copy>(alloc: A, bytes: &[u8]) -> Result<String<A>, Fail> {
+fn shown<A: Allocator + Copy>(alloc: A, bytes: &[u8]) -> Result<String<A>, Fail> {
     if bytes.contains(&b'~') {
         return Err(Fail::new("a tilde in a reply"));
     }
@@ -58,6 +68,14 @@ pub fn shown<A: Allocator + Copy>(alloc: A, bytes: &[u8]) -> Result<String<A>, F
         Ok(text) => Ok(text.replace(alloc, "\r\n", "~")?),
         Err(_) => Err(Fail::new("no text")),
     }
+}
+
+/// Whether bytes are shown as this text.
+pub fn are_shown<A: Allocator + Copy>(alloc: A, bytes: &[u8], wanted: &str) -> Result<bool, Fail> {
+    let text = shown(alloc, bytes)?;
+    let are_shown = text.as_str() == wanted;
+    drop(text);
+    Ok(are_shown)
 }
 
 /// The replies to commands in turn, each with a space behind it.
@@ -79,30 +97,66 @@ pub fn answers<A: Allocator + Copy>(
     shown(alloc, &bytes)
 }
 
-/// The replies to commands none of which is refused.
-pub fn accepted<A: Allocator + Copy>(
+/// Whether the replies to commands are these.
+pub fn are_told<A: Allocator + Copy>(
     alloc: A,
     owner: &mut Owner<A>,
     texts: &[&str],
-) -> Result<String<A>, Fail>
+    wanted: &str,
+) -> Result<bool, Fail>
     requires { owner.old.next ≡ None }
     ensures { owner.new.next ≡ None }
 {
     let told = answers(alloc, owner, texts)?;
-    if told.contains("-ERR") {
-        drop(told);
+    let are_told = told.as_str() == wanted;
+    drop(told);
+    Ok(are_told)
+}
+
+/// Has an owner run commands none of which is refused.
+pub fn accept<A: Allocator + Copy>(
+    alloc: A,
+    owner: &mut Owner<A>,
+    texts: &[&str],
+) -> Result<(), Fail>
+    requires { owner.old.next ≡ None }
+    ensures { owner.new.next ≡ None }
+{
+    let told = answers(alloc, owner, texts)?;
+    let is_refused = told.contains("-ERR");
+    drop(told);
+    if is_refused {
         return Err(Fail::new("refused"));
     }
-    Ok(told)
+    Ok(())
+}
+
+/// Puts a member, with its number as its score.
+fn put_member(alloc: Global, number: u64, text: &mut String) -> Result<(), AllocError> {
+    let member = format!(in alloc; " {number} member-{number}")?;
+    text.push_str(&member)
 }
 
 /// `ZADD k` with so many members, each with its number as its score.
-pub fn addition(alloc: Global, members: u64) -> Result<String, Fail> {
+pub fn addition(alloc: Global, members: u64) -> Result<String, AllocError> {
     let mut text = "ZADD k".to_string(alloc)?;
     for number in 0..members {
-        text.push_str(&format!(in alloc; " {number} member-{number}")?)?;
+        put_member(alloc, number, &mut text)?;
     }
     Ok(text)
+}
+
+/// Puts the reply of an owner with a log.
+fn put_reply<S: LogSink, L: Ledger, A: Allocator + Copy>(
+    alloc: A,
+    owner: &mut Logged<S, L, A>,
+    text: &str,
+    bytes: &mut Vec<u8, A>,
+) -> Result<(), Fail> {
+    let command = command(alloc, text)?;
+    let answer = owner.run(&command);
+    drop(command);
+    put_answer(answer, bytes)
 }
 
 /// Puts the replies of an owner with a log.
@@ -113,22 +167,21 @@ pub fn put_replies<S: LogSink, L: Ledger, A: Allocator + Copy>(
     bytes: &mut Vec<u8, A>,
 ) -> Result<(), Fail> {
     for text in texts {
-        let command = command(alloc, text)?;
-        let answer = owner.run(&command);
-        drop(command);
-        put_answer(answer, bytes)?;
+        put_reply(alloc, owner, text, bytes)?;
     }
     Ok(())
 }
 
-pub fn replies_to<S: LogSink, L: Ledger, A: Allocator + Copy>(
+/// Whether the replies of an owner with a log are these.
+pub fn are_logged<S: LogSink, L: Ledger, A: Allocator + Copy>(
     alloc: A,
     owner: &mut Logged<S, L, A>,
     texts: &[&str],
-) -> Result<String<A>, Fail> {
+    wanted: &str,
+) -> Result<bool, Fail> {
     let mut bytes = Vec::new(alloc);
     put_replies(alloc, owner, texts, &mut bytes)?;
-    shown(alloc, &bytes)
+    are_shown(alloc, &bytes, wanted)
 }
 
 /// How many bytes a sink writes at once, which of its calls fails, 0 for none, how many records its log takes, and
@@ -186,6 +239,13 @@ pub fn unkept<L: Ledger, A: Allocator + Copy>(
     LoggedOwner::new(alloc, OneOwner::new(alloc, hasher), log)
 }
 
+/// The log of an owner whose sets are let go.
+pub fn log_of<S: LogSink, L: Ledger, A: Allocator + Copy>(owner: Logged<S, L, A>) -> Log<S, L> {
+    let (sets, log) = owner.into_parts();
+    drop(sets);
+    log
+}
+
 /// The version of a file, its records, its whole bytes and its torn ones, or why it is not reloaded.
 pub type Found = Result<(u8, u64, u64, u64), ReloadFault>;
 
@@ -204,6 +264,25 @@ pub const WHOLE_READS: Reads = Reads {
     most: 1000,
 };
 
+/// What a reload of these bytes finds.
+fn found_in<A: Allocator + Copy>(
+    alloc: A,
+    owner: &mut Owner<A>,
+    bytes: &[u8],
+    reads: Reads,
+) -> Found
+    requires idle { owner.old.next ≡ None }
+    requires some { 1 ≤ reads.chunk }
+    requires few { reads.most ≤ 1000 }
+    ensures { owner.new.next ≡ None }
+{
+    let mut source = FuseSource::new(MemorySource::new(bytes, reads.chunk), reads.fails_at);
+    match reload(alloc, &mut source, owner, 35, reads.most) {
+        Ok(it) => Ok((it.version, it.records, it.whole, it.torn)),
+        Err(fault) => Err(fault),
+    }
+}
+
 /// Whether a reload of these bytes gives that, and a command after it this reply.
 pub fn reloads_to(
     rt: &HostRuntime,
@@ -218,13 +297,8 @@ pub fn reloads_to(
     let alloc = rt.alloc();
     let (question, reply) = asked;
     let mut owner = OneOwner::new(alloc, RandomState::new(rt)?);
-    let mut source = FuseSource::new(MemorySource::new(bytes, reads.chunk), reads.fails_at);
-    let found = match reload(alloc, &mut source, &mut owner, 35, reads.most) {
-        Ok(it) => Ok((it.version, it.records, it.whole, it.torn)),
-        Err(fault) => Err(fault),
-    };
-    let replies = answers(alloc, &mut owner, &[question]);
+    let is_found = found_in(alloc, &mut owner, bytes, reads) == wanted;
+    let is_told = are_told(alloc, &mut owner, &[question], reply);
     drop(owner);
-    let replies = replies?;
-    Ok(found == wanted && replies.as_str() == reply)
+    Ok(is_told? && is_found)
 }

@@ -3,7 +3,7 @@
 ghost use Rattle.std.specs.Prelude.{◌≡◌};
 
 use crate::owners::{
-    AMPLE, Found, Limits, Logged, Sink, WHOLE_READS, opened, reloads_to, replies_to,
+    AMPLE, Found, Limits, Logged, Sink, WHOLE_READS, are_logged, log_of, opened, reloads_to,
 };
 use crate::versions;
 use append_log::ReloadFault;
@@ -47,8 +47,7 @@ const FULL: Case = Case {
 
 /// Whether an owner leaves its log as a case says.
 fn leaves_log<L: Ledger>(owner: Logged<Sink, L, Global>, case: &Case) -> bool {
-    let (sets, log) = owner.into_parts();
-    drop(sets);
+    let log = log_of(owner);
     let is_so = (log.appended(), log.is_broken()) == (case.appended, case.is_broken);
     let sink = log.into_sink();
     let is_called = sink.calls() == case.calls;
@@ -67,9 +66,9 @@ fn goes_so<L: Ledger>(rt: &HostRuntime, blank: Blank, case: &Case) -> Result<boo
         return Err(Fail::new("no limits of a log"));
     }
     let mut owner = opened::<L>(rt, blank, limits)?;
-    let replies = replies_to(rt.alloc(), &mut owner, case.commands);
+    let are_told = are_logged(rt.alloc(), &mut owner, case.commands, case.replies);
     let is_left = leaves_log(owner, case);
-    Ok(replies?.as_str() == case.replies && is_left)
+    Ok(are_told? && is_left)
 }
 
 #[test]
@@ -143,8 +142,18 @@ fn is_reloaded(rt: &HostRuntime, reload: &Reload) -> Result<bool, Fail> {
     reloads_to(rt, &bytes, WHOLE_READS, found, (LISTING, listed))
 }
 
+/// How many files are reloaded so, until one is not.
+fn reloaded(rt: &HostRuntime, reloads: &[Reload]) -> Result<usize, Fail> {
+    for (at, reload) in reloads.iter().enumerate() {
+        if !is_reloaded(rt, reload)? {
+            return Ok(at);
+        }
+    }
+    Ok(reloads.len())
+}
+
 /// Files by what they show.
-const THEMES: [(&str, &[Reload]); 3] = [
+static THEMES: [(&str, &[Reload]); 3] = [
     ("files that are whole, cut and damaged", &RELOADS),
     ("the first record tells the version", &versions::READ),
     ("what is no effect ends a reload", &versions::NOT_READ),
@@ -152,10 +161,9 @@ const THEMES: [(&str, &[Reload]); 3] = [
 
 #[test]
 fn files_are_reloaded_as_told(rt: HostRuntime) -> Result<(), Fail> {
-    for (theme, reloads) in THEMES {
-        for (at, reload) in reloads.iter().enumerate() {
-            assert!(rt; is_reloaded(&rt, reload)?, "{theme}: case {at}");
-        }
+    for (theme, reloads) in &THEMES {
+        let reloaded = reloaded(&rt, reloads)?;
+        assert!(rt; reloaded == reloads.len(), "{theme}: case {reloaded}");
     }
     Ok(())
 }

@@ -2,7 +2,7 @@
 
 ghost use Rattle.std.specs.Prelude.{◌≡◌, None};
 
-use crate::owners::{Owner, accepted, addition};
+use crate::owners::{Owner, accept, addition};
 use linked_list_allocator::LocalHeap;
 use sorted_sets::OneOwner;
 use std::alloc::{Allocator, Global};
@@ -21,31 +21,43 @@ fn size_of<A: Allocator + Copy>(
 ) -> Result<usize, Fail>
     requires { owner.old.next ≡ None }
 {
-    drop(accepted(alloc, owner, &["ZADD j 1 x"])?);
+    accept(alloc, owner, &["ZADD j 1 x"])?;
     let before = heap.used();
-    drop(accepted(alloc, owner, &[text])?);
+    accept(alloc, owner, &[text])?;
     Ok(heap.used().saturating_sub(before))
 }
 
-/// The same of an owner in a heap of its own, to whose set so many members are added.
+/// The same of the owner of no sets.
+fn size_anew<A: Allocator + Copy>(
+    heap: &LocalHeap,
+    alloc: A,
+    hasher: RandomState,
+    text: &str,
+) -> Result<usize, Fail> {
+    let mut owner = OneOwner::new(alloc, hasher);
+    let bytes = size_of(heap, alloc, &mut owner, text);
+    drop(owner);
+    bytes
+}
+
+/// The same in a heap of its own, where so many members are added.
 fn size_in_heap(alloc: Global, hasher: RandomState, members: u64) -> Result<usize, Fail> {
     let text = addition(alloc, members)?;
     let heap = LocalHeap::new(alloc, HEAP)?;
-    let mut owner = OneOwner::new(&heap, hasher);
-    let bytes = size_of(&heap, &heap, &mut owner, text.as_str());
-    drop(owner);
+    let bytes = size_anew(&heap, &heap, hasher, &text);
+    drop(text);
     bytes
 }
 
 /// How many members are added, and how many bytes their set takes at the most. Its map and one list of rows that wait
 /// are in use; a list for rows that leave would take 32 bytes a member more.
-const SIZES: [(u64, usize); 3] = [(1, 1500), (50, 6600), (200, 23_500)];
+static SIZES: [(u64, usize); 3] = [(1, 1500), (50, 6600), (200, 23_500)];
 
 #[test]
 fn a_new_set_keeps_no_room_for_removals(rt: HostRuntime) -> Result<(), Fail> {
-    for (members, most) in SIZES {
-        let bytes = size_in_heap(rt.alloc(), RandomState::new(&rt)?, members)?;
-        assert!(rt; bytes <= most, "{members} members: {bytes}");
+    for (members, most) in &SIZES {
+        let bytes = size_in_heap(rt.alloc(), RandomState::new(&rt)?, *members)?;
+        assert!(rt; bytes <= *most, "{members} members: {bytes}");
     }
     Ok(())
 }

@@ -3,8 +3,9 @@
 
 ghost use Rattle.std.specs.Prelude.{◌≡◌, None};
 
+use crate::changes::{ASKED_ONCE, BROKEN, FAILING, FULL, LOGGED};
 use crate::owners::{
-    Logged, Owner, accepted, answers, command, put_answer, put_replies, replies_to, shown,
+    Logged, Owner, accept, answers, are_logged, are_shown, command, log_of, put_answer, put_replies,
 };
 use crate::records::{LISTING, THREE_RECORDS, TWO_SETS_REWRITTEN};
 use append_log::{
@@ -66,7 +67,7 @@ fn reload_once<A: Allocator + Copy>(
     let is_whole = fuse.is_armed();
     fuse.arm(0);
     let listed = answers(alloc, owner, &[LISTING])?;
-    let (are_all, are_some) = replayed(listed.as_str());
+    let (are_all, are_some) = replayed(&listed);
     drop(listed);
     Ok((
         is_whole,
@@ -100,14 +101,23 @@ fn reload_twice<A: Allocator + Copy>(
     Ok(Outcome::of(is_whole, is_told && is_made_again))
 }
 
+/// The same by the owner of no sets.
+fn reload_anew<A: Allocator + Copy>(
+    fuse: &Fuse<Global>,
+    alloc: A,
+    hasher: RandomState,
+) -> Result<Outcome, Fail> {
+    let mut owner = OneOwner::new(alloc, hasher);
+    let outcome = reload_twice(fuse, alloc, &mut owner);
+    drop(owner);
+    outcome
+}
+
 /// Refuses one allocation of a reload.
 fn reload_refused(rt: &HostRuntime, allocation: u64) -> Result<Outcome, Fail> {
     let hasher = RandomState::new(rt)?;
     let fuse = Fuse::new(rt.alloc(), allocation);
-    let mut owner = OneOwner::new(&fuse, hasher);
-    let outcome = reload_twice(&fuse, &fuse, &mut owner);
-    drop(owner);
-    outcome
+    reload_anew(&fuse, &fuse, hasher)
 }
 
 /// Rewrites two sets. Where it is refused it is out of memory, or the sink in memory failed, which could not grow.
@@ -139,21 +149,31 @@ fn rewrite_twice<A: Allocator + Copy>(
 ) -> Result<Outcome, Fail>
     requires { owner.old.next ≡ None }
 {
-    drop(accepted(alloc, owner, &["ZADD k 1 b 1 a 1 B", "ZADD j -3 x"])?);
+    accept(alloc, owner, &["ZADD k 1 b 1 a 1 B", "ZADD j -3 x"])?;
     let (is_whole, is_made, is_refused) = rewrite_once(fuse, alloc, owner, allocation);
     let (_, is_made_again, _) = rewrite_once(fuse, alloc, owner, 0);
     let is_told = if is_whole { is_made } else { is_refused };
     Ok(Outcome::of(is_whole, is_told && is_made_again))
 }
 
+/// The same by the owner of no sets.
+fn rewrite_anew<A: Allocator + Copy>(
+    fuse: &Fuse<Global>,
+    alloc: A,
+    hasher: RandomState,
+    allocation: u64,
+) -> Result<Outcome, Fail> {
+    let mut owner = OneOwner::new(alloc, hasher);
+    let outcome = rewrite_twice(fuse, alloc, &mut owner, allocation);
+    drop(owner);
+    outcome
+}
+
 /// Refuses one allocation of a rewrite.
 fn rewrite_refused(rt: &HostRuntime, allocation: u64) -> Result<Outcome, Fail> {
     let hasher = RandomState::new(rt)?;
     let fuse = Fuse::new(rt.alloc(), 0);
-    let mut owner = OneOwner::new(&fuse, hasher);
-    let outcome = rewrite_twice(&fuse, &fuse, &mut owner, allocation);
-    drop(owner);
-    outcome
+    rewrite_anew(&fuse, &fuse, hasher, allocation)
 }
 
 /// A change of an owner whose records go to a log that keeps nothing.
@@ -196,24 +216,23 @@ fn told<S: LogSink, L: Ledger, A: Allocator + Copy>(
     let is_whole = fuse.is_armed();
     fuse.arm(0);
     drop(command);
-    let told = shown_with(alloc, owner, answer, change.behind)?;
     let (replies, _) = change.wanted(is_whole);
-    let is_told = told.as_str() == replies;
-    drop(told);
+    let is_told = are_told(alloc, owner, answer, change.behind, replies)?;
     Ok((is_whole, is_told))
 }
 
-/// An answer, and the replies to commands behind it.
-fn shown_with<S: LogSink, L: Ledger, A: Allocator + Copy>(
+/// Whether an answer and the replies to commands behind it are these.
+fn are_told<S: LogSink, L: Ledger, A: Allocator + Copy>(
     alloc: A,
     owner: &mut Logged<S, L, A>,
     answer: Result<Reply<A>, Refusal>,
     behind: &[&str],
-) -> Result<String<A>, Fail> {
+    wanted: &str,
+) -> Result<bool, Fail> {
     let mut bytes = Vec::new(alloc);
     put_answer(answer, &mut bytes)?;
     put_replies(alloc, owner, behind, &mut bytes)?;
-    shown(alloc, &bytes)
+    are_shown(alloc, &bytes, wanted)
 }
 
 /// The same behind the commands before it.
@@ -224,9 +243,7 @@ fn told_behind<S: LogSink, L: Ledger, A: Allocator + Copy>(
     change: &Change,
     allocation: u64,
 ) -> Result<(bool, bool), Fail> {
-    let before = replies_to(alloc, owner, change.before)?;
-    let was_told = before.as_str() == change.told_before;
-    drop(before);
+    let was_told = are_logged(alloc, owner, change.before, change.told_before)?;
     let (is_whole, is_told) = told(fuse, alloc, owner, change, allocation)?;
     Ok((is_whole, was_told && is_told))
 }
@@ -241,8 +258,7 @@ fn outcome_behind<S: LogSink + Drop, L: Ledger, A: Allocator + Copy>(
 ) -> Result<Outcome, Fail> {
     let mut owner = owner;
     let told = told_behind(fuse, alloc, &mut owner, change, allocation);
-    let (sets, log) = owner.into_parts();
-    drop(sets);
+    let log = log_of(owner);
     let records = log.appended();
     drop(log);
     let (is_whole, is_told) = told?;
@@ -251,8 +267,10 @@ fn outcome_behind<S: LogSink + Drop, L: Ledger, A: Allocator + Copy>(
 }
 
 /// The same of an owner with a log of its own.
-fn change_refused<L: Ledger>(
-    rt: &HostRuntime,
+fn change_anew<L: Ledger, A: Allocator + Copy>(
+    fuse: &Fuse<Global>,
+    alloc: A,
+    hasher: RandomState,
     blank: Blank,
     change: &Change,
     allocation: u64,
@@ -264,12 +282,17 @@ fn change_refused<L: Ledger>(
     if change.max_records == 0 || change.max_records > 10 {
         return Err(Fail::new("no limits of a log"));
     }
-    let hasher = RandomState::new(rt)?;
-    let fuse = Fuse::new(rt.alloc(), 0);
     let sink = FuseSink::new(NoSink::new(), change.fails_at);
     let log = Log::<_, L>::new(blank, sink, change.max_records);
-    let owner = LoggedOwner::new(&fuse, OneOwner::new(&fuse, hasher), log);
-    outcome_behind(&fuse, &fuse, owner, change, allocation)
+    let owner = LoggedOwner::new(alloc, OneOwner::new(alloc, hasher), log);
+    outcome_behind(fuse, alloc, owner, change, allocation)
+}
+
+/// Refuses one allocation of a change.
+fn change_refused(rt: &HostRuntime, change: &Change, allocation: u64) -> Result<Outcome, Fail> {
+    let hasher = RandomState::new(rt)?;
+    let fuse = Fuse::new(rt.alloc(), 0);
+    change_anew::<Brand, _>(&fuse, &fuse, hasher, Blank::new(2), change, allocation)
 }
 
 /// What is done whose allocations are refused.
@@ -285,7 +308,7 @@ fn outcome_of(rt: &HostRuntime, work: Work<'_>, allocation: u64) -> Result<Outco
     match work {
         Work::Reload => reload_refused(rt, allocation),
         Work::Rewrite => rewrite_refused(rt, allocation),
-        Work::Change(change) => { change_refused::<Brand>(rt, Blank::new(2), change, allocation) }
+        Work::Change(change) => change_refused(rt, change, allocation),
     }
 }
 
@@ -302,72 +325,6 @@ pub fn allocations_of(rt: &HostRuntime, work: Work<'_>) -> Result<u64, Fail> {
     Err(Fail::new("no end"))
 }
 
-/// A member gets another score, and another member is added.
-const CHANGE: &str = "ZADD k 1 a 2 b";
-
-/// The log takes all records. A change that is refused is made when it is asked again.
-const LOGGED: Change = Change {
-    fails_at: 0,
-    max_records: 10,
-    before: &["ZADD k 9 a", "ZADD j 1 x"],
-    told_before: ":1~ :1~ ",
-    words: CHANGE,
-    behind: &["ZCARD k", "ZCOUNT k 9 9", CHANGE],
-    whole: (":1~ :2~ :0~ :0~ ", 3),
-    refused: ("-ERR 1 out of memory~ :1~ :1~ :1~ ", 3),
-};
-
-/// The same, asked once: the log has its record only where it was made.
-const ASKED_ONCE: Change = Change {
-    behind: &["ZSCORE k a", "ZCARD k"],
-    whole: (":1~ $1~1~ :2~ ", 3),
-    refused: ("-ERR 1 out of memory~ $1~9~ :1~ ", 2),
-    ..LOGGED
-};
-
-/// The log was broken by the record before.
-const BROKEN: Change = Change {
-    fails_at: 3,
-    told_before: ":1~ -ERR 16 append file failed~ ",
-    whole: (
-        "-ERR 14 append file failed earlier~ :1~ :1~ -ERR 14 append file failed earlier~ ",
-        1,
-    ),
-    refused: (
-        "-ERR 1 out of memory~ :1~ :1~ -ERR 14 append file failed earlier~ ",
-        1,
-    ),
-    ..LOGGED
-};
-
-/// The log is full with the record before.
-const FULL: Change = Change {
-    max_records: 2,
-    whole: (
-        "-ERR 15 append file is full~ :1~ :1~ -ERR 15 append file is full~ ",
-        2,
-    ),
-    refused: (
-        "-ERR 1 out of memory~ :1~ :1~ -ERR 15 append file is full~ ",
-        2,
-    ),
-    ..LOGGED
-};
-
-/// The log's sink fails at its next call.
-const FAILING: Change = Change {
-    fails_at: 5,
-    whole: (
-        "-ERR 16 append file failed~ :1~ :1~ -ERR 14 append file failed earlier~ ",
-        2,
-    ),
-    refused: (
-        "-ERR 1 out of memory~ :1~ :1~ -ERR 16 append file failed~ ",
-        2,
-    ),
-    ..LOGGED
-};
-
 /// What is done, and the least number of allocations that it makes, a sink's and a record's included.
 static WORKS: [(&str, Work<'static>, u64); 7] = [
     ("a reload", Work::Reload, 20),
@@ -379,11 +336,15 @@ static WORKS: [(&str, Work<'static>, u64); 7] = [
     ("over a failing sink", Work::Change(&FAILING), 5),
 ];
 
+/// Whether so many of its allocations are refused at least.
+fn is_met(rt: &HostRuntime, work: Work<'_>, least: u64) -> Result<bool, Fail> {
+    Ok(allocations_of(rt, work)? >= least)
+}
+
 #[test]
 fn each_refused_allocation_is_met(rt: HostRuntime) -> Result<(), Fail> {
     for (name, work, least) in &WORKS {
-        let made = allocations_of(&rt, *work)?;
-        assert!(rt; made >= *least, "{name}: {made}");
+        assert!(rt; is_met(&rt, *work, *least)?, "{name}");
     }
     Ok(())
 }

@@ -3,7 +3,7 @@ use score_bounds::{Bound, Cut, Range, read_integer};
 use std::test::Fail;
 
 // Texts of integers and the numbers that they spell, `None` where they spell none.
-const INTEGERS: [(&[u8], Option<i64>); 4] = [
+static INTEGERS: [(&[u8], Option<i64>); 4] = [
     (b"-12", Some(-12)),
     (b"+9223372036854775807", Some(i64::MAX)),
     (b"1.0", None),
@@ -12,14 +12,11 @@ const INTEGERS: [(&[u8], Option<i64>); 4] = [
 
 // A text, or words in its place where its bytes are no text.
 fn name_of(text: &[u8]) -> &str {
-    match std::str::from_utf8(text) {
-        Ok(name) => name,
-        Err(_) => "bytes that are no text",
-    }
+    std::str::from_utf8(text).unwrap_or("bytes that are no text")
 }
 
 // Texts of bounds, and the bounds that they spell as both ends of a range.
-const BOUNDS: [(&[u8], Option<Bound>); 17] = [
+static BOUNDS: [(&[u8], Option<Bound>); 17] = [
     (b"5", Some(Bound::Incl(5))),
     (b"(5", Some(Bound::Excl(5))),
     (b"(+5.0", Some(Bound::Excl(5))),
@@ -48,7 +45,7 @@ fn is_read_as(text: &[u8], bound: Option<Bound>) -> bool {
 }
 
 // Two bounds, a score, whether it is in their range, and the cuts.
-const RANGES: [(&[u8], &[u8], i64, bool, (Cut, Cut)); 13] = [
+static RANGES: [(&[u8], &[u8], i64, bool, (Cut, Cut)); 13] = [
     (
         b"(9223372036854775807",
         b"+inf",
@@ -108,17 +105,32 @@ fn is_range(min: &[u8], max: &[u8], score: i64, is_in: bool, cuts: (Cut, Cut)) -
     }
 }
 
-#[test]
-fn integers_and_bounds_are_read_and_ranges_are_cut(rt: HostRuntime) -> Result<(), Fail> {
+fn expect_integers() -> Result<(), Fail> {
     for (text, integer) in &INTEGERS {
         expect_that(read_integer(text) == *integer, name_of(text))?;
     }
+    Ok(())
+}
+
+fn expect_bounds() -> Result<(), Fail> {
     for (text, bound) in &BOUNDS {
         expect_that(is_read_as(text, *bound), name_of(text))?;
     }
+    Ok(())
+}
+
+fn expect_ranges() -> Result<(), Fail> {
     for (min, max, score, is_in, cuts) in &RANGES {
         expect_that(is_range(min, max, *score, *is_in, *cuts), name_of(min))?;
     }
+    Ok(())
+}
+
+#[test]
+fn integers_and_bounds_are_read_and_ranges_are_cut(rt: HostRuntime) -> Result<(), Fail> {
+    expect_integers()?;
+    expect_bounds()?;
+    expect_ranges()?;
     let are_ends_outside = Cut::Start < Cut::At(i64::MIN) && Cut::At(i64::MAX) < Cut::End;
     assert!(rt; are_ends_outside && Cut::At(-1) < Cut::At(0));
     Ok(())

@@ -4,8 +4,9 @@ ghost use Rattle.zset_commands.specs.AbstractCommand.{is_writing};
 use crate::owners::{command, expect_that, text_of};
 use crate::trials::{SetTrial, expect_of_sets};
 use resp_wire::Reply;
+use ripple_column::Column;
 use sorted_sets::ZSet;
-use std::alloc::Global;
+use std::alloc::{Allocator, Global};
 use std::hash::RandomState;
 use std::test::Fail;
 use zset_commands::Command;
@@ -37,7 +38,7 @@ fn change(set: &mut Set, command: &Command<Global>) -> Result<Reply<Global>, Fai
 }
 
 /// The reply to a command that is run on a set, as an owner runs it.
-pub fn run(alloc: Global, set: &mut Set, text: &str) -> Result<Reply<Global>, Fail>
+fn reply_to(alloc: Global, set: &mut Set, text: &str) -> Result<Reply<Global>, Fail>
     requires { set.old.next ≡ None }
     ensures { set.new.next ≡ None }
 {
@@ -51,47 +52,67 @@ pub fn run(alloc: Global, set: &mut Set, text: &str) -> Result<Reply<Global>, Fa
     reply
 }
 
-/// The bytes of the reply to a command that is run on a set.
-fn reply_of(alloc: Global, set: &mut Set, text: &str) -> Result<String, Fail>
+/// Runs a command on a set, whatever the reply.
+pub fn run(alloc: Global, set: &mut Set, text: &str) -> Result<(), Fail>
     requires { set.old.next ≡ None }
     ensures { set.new.next ≡ None }
 {
-    let reply = run(alloc, set, text)?;
+    let reply = reply_to(alloc, set, text)?;
+    drop(reply);
+    Ok(())
+}
+
+/// The bytes of the reply to a command that is run on a set.
+fn shown_reply(alloc: Global, set: &mut Set, text: &str) -> Result<String, Fail>
+    requires { set.old.next ≡ None }
+    ensures { set.new.next ≡ None }
+{
+    let reply = reply_to(alloc, set, text)?;
     let shown = text_of(alloc, &reply);
     drop(reply);
     shown
 }
 
 /// Runs a command on a set: the reply is as wanted.
-pub fn expect_run(alloc: Global, set: &mut Set, text: &str, want: &str) -> Result<(), Fail>
+fn expect_run(alloc: Global, set: &mut Set, text: &str, want: &str) -> Result<(), Fail>
     requires { set.old.next ≡ None }
     ensures { set.new.next ≡ None }
 {
-    let reply = reply_of(alloc, set, text)?;
-    expect_that(reply.as_str() == want, text)
+    let reply = shown_reply(alloc, set, text)?;
+    let is_wanted = reply.as_str() == want;
+    drop(reply);
+    expect_that(is_wanted, text)
 }
 
-// How many rows the column of a set has, how many wait to come in and to go out, and its pivots.
-fn state_of(alloc: Global, set: &Set) -> Result<String, Fail> {
-    let column = set.column();
+// How many rows a column has, how many wait to come in and to go out, and its pivots.
+fn state_of(alloc: Global, column: &Column<Global>) -> Result<String, Fail> {
     let (coming, leaving) = column.pending();
     let mut text = format!(in alloc; "{} rows +{} -{}", column.len(), coming, leaving)?;
-    note_pivots(alloc, column.pivot_list(), &mut text)?;
+    for pivot in column.pivot_list() {
+        note_pivot(alloc, pivot, &mut text)?;
+    }
     Ok(text)
 }
 
-// Appends pivots.
-fn note_pivots(alloc: Global, pivots: &[(i64, usize)], out: &mut String) -> Result<(), Fail> {
-    for (value, place) in pivots {
-        out.push_str(format!(in alloc; " ({value}, {place})")?.as_str())?;
-    }
-    Ok(())
+// Appends a pivot.
+fn note_pivot<A: Allocator + Copy>(
+    alloc: A,
+    pivot: &(i64, usize),
+    out: &mut String<A>,
+) -> Result<(), Fail> {
+    let (value, place) = *pivot;
+    let text = format!(in alloc; " ({value}, {place})")?;
+    let noted = out.push_str(&text);
+    drop(text);
+    Ok(noted?)
 }
 
-// The column of a set is in this state.
-fn expect_state(alloc: Global, set: &Set, want: &str) -> Result<(), Fail> {
-    let state = state_of(alloc, set)?;
-    expect_that(state.as_str() == want, state.as_str())
+// A column is in this state.
+fn expect_state(alloc: Global, column: &Column<Global>, want: &str) -> Result<(), Fail> {
+    let state = state_of(alloc, column)?;
+    let told = expect_that(state.as_str() == want, &state);
+    drop(state);
+    told
 }
 
 /// Commands in turn on one set, with their replies and with the column that they leave.
@@ -100,7 +121,7 @@ pub fn expect(alloc: Global, set: &mut Set, rows: &[(&str, &str, &str)]) -> Resu
 {
     for (text, reply, state) in rows {
         expect_run(alloc, set, text, reply)?;
-        expect_state(alloc, set, state)?;
+        expect_state(alloc, set.column(), state)?;
     }
     Ok(())
 }
@@ -216,7 +237,9 @@ fn count_from(alloc: Global, set: &mut Set, low: u32) -> Result<(), Fail>
     ensures { set.new.next ≡ None }
 {
     let text = format!(in alloc; "ZCOUNT k {} {}", low, low.saturating_add(4))?;
-    run(alloc, set, text.as_str()).map(drop)
+    let ran = run(alloc, set, &text);
+    drop(text);
+    ran
 }
 
 // Counts 2,048 ranges, whose cuts are 4,096 pivots.
@@ -230,18 +253,23 @@ fn count_all(alloc: Global, set: &mut Set) -> Result<(), Fail>
     Ok(())
 }
 
+// The column of a set shows so many pivots.
+fn expect_pivots(set: &Set, count: usize, text: &str) -> Result<(), Fail> {
+    expect_that(set.column().pivot_list().len() == count, text)
+}
+
 /// As many pivots as there may be, and one range more.
 pub fn expect_few_pivots(alloc: Global, set: &mut Set) -> Result<(), Fail>
     requires { set.old.next ≡ None }
 {
     expect_run(alloc, set, "ZADD k 5 a", ":1~")?;
     count_all(alloc, set)?;
-    expect_that(set.column().pivot_list().len() == 4096, "all pivots")?;
+    expect_pivots(set, 4096, "all pivots")?;
     count_from(alloc, set, 50001)?;
-    expect_that(set.column().pivot_list().len() == 2, "two pivots")
+    expect_pivots(set, 2, "two pivots")
 }
 
-const TRIALS: &[SetTrial] = &[
+static TRIALS: [SetTrial; 6] = [
     SetTrial::Rows(MERGED_AND_CRACKED),
     SetTrial::Rows(CLOSED_UP),
     SetTrial::Rows(MERGED_AND_REMOVED),
@@ -252,5 +280,5 @@ const TRIALS: &[SetTrial] = &[
 
 #[test]
 fn ranges_merge_crack_and_close_up(rt: HostRuntime) -> Result<(), Fail> {
-    expect_of_sets(&rt, TRIALS)
+    expect_of_sets(&rt, &TRIALS)
 }

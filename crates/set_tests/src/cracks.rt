@@ -1,3 +1,5 @@
+ghost use Rattle.std.specs.Prelude.{◌≡◌, ◌∷◌, [], pos, IsTrue};
+
 use crack_kernel::{Pivots, Row, crack_three, crack_two};
 use short_bytes::ShortBytes;
 use std::alloc::{AllocError, Global};
@@ -15,8 +17,11 @@ fn rows_of(alloc: Global, scores: &[i64]) -> Result<Vec<Row<Global>>, AllocError
 fn places_of(alloc: Global, scores: &[i64]) -> Result<(usize, (usize, usize)), AllocError> {
     let mut rows = rows_of(alloc, scores)?;
     let place = crack_two(&mut rows, 5);
+    drop(rows);
     let mut rows = rows_of(alloc, scores)?;
-    Ok((place, crack_three(&mut rows, 3, 6)))
+    let places = crack_three(&mut rows, 3, 6);
+    drop(rows);
+    Ok((place, places))
 }
 
 // 4,096 scores from 0 on, in no order.
@@ -58,6 +63,8 @@ fn stay_on_their_side(alloc: Global) -> Result<bool, AllocError> {
     let mut rows = rows_of(alloc, &scores)?;
     let place = crack_two(&mut rows, 2048);
     let (stood, kept) = kept_places(&scores, &rows, place, 2048);
+    drop(rows);
+    drop(scores);
     Ok(stood > 1000 && kept.saturating_mul(8) > stood.saturating_mul(7))
 }
 
@@ -70,7 +77,7 @@ fn rows_are_cracked(rt: HostRuntime) -> Result<(), AllocError> {
 }
 
 // Each score stands in this piece among ten rows.
-const PIECES: [(i64, (usize, usize)); 4] = [(1, (0, 2)), (3, (2, 6)), (5, (2, 6)), (7, (6, 10))];
+static PIECES: [(i64, (usize, usize)); 4] = [(1, (0, 2)), (3, (2, 6)), (5, (2, 6)), (7, (6, 10))];
 
 // Whether pieces are found by the scores in them.
 fn has_pieces(pivots: &Pivots<Global>) -> bool {
@@ -84,31 +91,34 @@ fn has_pieces(pivots: &Pivots<Global>) -> bool {
 
 // Two pivots are found by their values.
 fn has_two(pivots: &Pivots<Global>) -> bool {
-    pivots.list() == [(3, 2), (7, 6)].as_slice()
-        && (pivots.find(3), pivots.find(4)) == (Some(2), None)
+    are_at(pivots, 2, 6) && pivots.find(3) == Some(2) && pivots.find(4).is_none()
 }
 
-// Shifts pivots that all have room below and above, and says whether they have.
-fn are_shifted(pivots: &mut Pivots<Global>, from_index: usize, up: bool) -> bool {
-    if from_index > pivots.len() {
-        return false;
+// Whether the pivots are 3 and 7, at these places.
+fn are_at(pivots: &Pivots<Global>, low: usize, high: usize) -> bool
+    ensures { IsTrue result → pivots.now.list ≡ (pos 3, low) ∷ (pos 7, high) ∷ [] }
+{
+    match pivots.list() {
+        [first, second] => *first == (3, low) && *second == (7, high),
+        _ => false,
     }
-    let moving = &pivots.list()[from_index..];
-    let have_room = moving.iter().all(|pivot| 0 < pivot.1 && pivot.1 < 100);
-    if have_room {
-        pivots.shift(from_index, up);
-    }
-    have_room
 }
 
 // Whether the places of two pivots are moved as they should be, and close up.
 fn are_moved(pivots: &mut Pivots<Global>) -> bool {
-    let are_raised = are_shifted(pivots, 1, true) && pivots.list() == [(3, 2), (7, 7)].as_slice();
-    let are_lowered = are_shifted(pivots, 0, false) && pivots.list() == [(3, 1), (7, 6)].as_slice();
+    if !are_at(pivots, 2, 6) {
+        return false;
+    }
+    pivots.shift(1, true);
+    if !are_at(pivots, 2, 7) {
+        return false;
+    }
+    pivots.shift(0, false);
+    let are_lowered = are_at(pivots, 1, 6);
     pivots.close_up(2, 4);
-    let are_closed = pivots.list() == [(3, 1), (7, 4)].as_slice();
+    let are_closed = are_at(pivots, 1, 4);
     pivots.close_up(0, 3);
-    are_raised && are_lowered && are_closed && pivots.list() == [(3, 0), (7, 1)].as_slice()
+    are_lowered && are_closed && are_at(pivots, 0, 1)
 }
 
 #[test]

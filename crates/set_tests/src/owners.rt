@@ -6,18 +6,27 @@ use crate::trials::{Trial, expect_of_owners};
 use crack_kernel::Row;
 use resp_wire::{Bytes, BytesList, Reply, Request, write_reply};
 use sorted_sets::OneOwner;
-use std::alloc::Global;
+use std::alloc::{AllocError, Allocator, Global};
 use std::hash::RandomState;
 use std::test::Fail;
 use zset_commands::Command;
 
 pub type Owner = OneOwner<RandomState, Global>;
 
+fn put_word<A: Allocator + Copy>(
+    alloc: A,
+    word: &str,
+    words: &mut Vec<Bytes<A>, A>,
+) -> Result<(), AllocError> {
+    words.push(Bytes::from_slice(alloc, word.as_bytes())?)?;
+    Ok(())
+}
+
 /// The request of a text's words, which single spaces part.
-pub fn request(alloc: Global, text: &str) -> Result<Request<Global>, Fail> {
+fn request<A: Allocator + Copy>(alloc: A, text: &str) -> Result<Request<A>, Fail> {
     let mut words = Vec::new(alloc);
     for word in text.split(' ') {
-        words.push(Bytes::from_slice(alloc, word.as_bytes())?)?;
+        put_word(alloc, word, &mut words)?;
     }
     match Request::new(BytesList::new(words)) {
         Some(request) => Ok(request),
@@ -26,7 +35,7 @@ pub fn request(alloc: Global, text: &str) -> Result<Request<Global>, Fail> {
 }
 
 /// The command of a text's words.
-pub fn command(alloc: Global, text: &str) -> Result<Command<Global>, Fail> {
+pub fn command<A: Allocator + Copy>(alloc: A, text: &str) -> Result<Command<A>, Fail> {
     Command::read(alloc, request(alloc, text)?).map_err(|_| Fail::from("no command"))
 }
 
@@ -35,14 +44,21 @@ pub fn expect_that(is_so: bool, text: &str) -> Result<(), Fail> {
     if is_so { Ok(()) } else { Err(Fail::new(text)) }
 }
 
-/// The bytes of a reply, an end of line as `~`.
-pub fn text_of(alloc: Global, reply: &Reply<Global>) -> Result<String, Fail> {
-    let mut bytes = Vec::new(alloc);
-    write_reply(reply, &mut bytes)?;
-    match std::str::from_utf8(bytes.as_slice()) {
+// These bytes, an end of line as `~`.
+fn shown<A: Allocator + Copy>(alloc: A, bytes: &[u8]) -> Result<String<A>, Fail> {
+    match std::str::from_utf8(bytes) {
         Ok(text) => Ok(text.replace(alloc, "\r\n", "~")?),
         Err(_) => Err(Fail::new("no text")),
     }
+}
+
+/// The bytes of a reply, an end of line as `~`.
+pub fn text_of<A: Allocator + Copy>(alloc: A, reply: &Reply<A>) -> Result<String<A>, Fail> {
+    let mut bytes = Vec::new(alloc);
+    write_reply(reply, &mut bytes)?;
+    let shown = shown(alloc, &bytes);
+    drop(bytes);
+    shown
 }
 
 // The bytes of the reply to a command, an end of line as `~`.
@@ -69,7 +85,9 @@ pub fn expect_reply(alloc: Global, owner: &mut Owner, text: &str, want: &str) ->
     ensures { owner.new.next ≡ None }
 {
     let reply = reply_to(alloc, owner, text)?;
-    expect_that(reply.as_str() == want, text)
+    let is_wanted = reply.as_str() == want;
+    drop(reply);
+    expect_that(is_wanted, text)
 }
 
 // Commands in turn on one owner's sets, with their replies.
@@ -84,7 +102,7 @@ fn expect_replies(alloc: Global, owner: &mut Owner, rows: &[(&str, &str)]) -> Re
 }
 
 // Sets at two keys, and one that is gone again.
-const TWO_KEYS: [(&str, &str); 4] = [
+static TWO_KEYS: [(&str, &str); 4] = [
     ("ZADD k 1 b 1 a 1 B", ":3~"),
     ("ZADD j -3 x", ":1~"),
     ("ZADD empty 1 a", ":1~"),
@@ -133,12 +151,14 @@ pub fn expect_listed(alloc: Global, owner: &mut Owner) -> Result<(), Fail>
     expect_replies(alloc, owner, &TWO_KEYS)?;
     expect_that(has_two_keys(owner), "two keys")?;
     let rows = owner.pairs(b"k".as_slice())?;
-    expect_that(are_rows_of_k(&rows), "the pairs of a key")
+    let are_listed = are_rows_of_k(&rows);
+    drop(rows);
+    expect_that(are_listed, "the pairs of a key")
 }
 
-const LISTED: &[Trial] = &[Trial::Listed];
+static LISTED: [Trial; 1] = [Trial::Listed];
 
 #[test]
 fn keys_and_pairs_are_listed_in_order(rt: HostRuntime) -> Result<(), Fail> {
-    expect_of_owners(&rt, LISTED)
+    expect_of_owners(&rt, &LISTED)
 }

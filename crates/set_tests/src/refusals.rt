@@ -1,9 +1,10 @@
 use crate::owners::expect_that;
+use std::alloc::Global;
 use std::test::Fail;
 use zset_commands::Refusal;
 
 // Why requests are refused.
-const REFUSALS: [Refusal; 9] = [
+static REFUSALS: [Refusal; 9] = [
     Refusal::UnknownCommand,
     Refusal::WrongArity,
     Refusal::Syntax,
@@ -15,11 +16,17 @@ const REFUSALS: [Refusal; 9] = [
     Refusal::GtLtNx,
 ];
 
+fn expect_shown(alloc: Global, refusal: &Refusal) -> Result<(), Fail> {
+    let shown = refusal.to_string(alloc)?;
+    let is_text = shown.as_str() == refusal.text();
+    drop(shown);
+    expect_that(is_text, refusal.text())
+}
+
 #[test]
 fn refusals_are_shown_by_their_texts(rt: HostRuntime) -> Result<(), Fail> {
-    for refusal in REFUSALS {
-        let shown = refusal.to_string(rt.alloc())?;
-        expect_that(shown.as_str() == refusal.text(), refusal.text())?;
+    for refusal in &REFUSALS {
+        expect_shown(rt.alloc(), refusal)?;
     }
     assert!(rt; Refusal::OutOfStep.number() == 17);
     assert!(rt; Refusal::NoMemory.text() == "ERR 1 out of memory");

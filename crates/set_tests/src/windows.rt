@@ -6,16 +6,24 @@ use crate::columns::{Set, run};
 use crate::owners::{Owner, command, expect_reply, expect_that};
 use crate::trials::{SetTrial, Trial, expect_of_owners, expect_of_sets};
 use ripple_column::Column;
-use std::alloc::Global;
+use sorted_sets::ZSet;
+use std::alloc::{Allocator, Global};
+use std::hash::BuildHasher;
 use std::test::Fail;
 use zset_commands::Command;
 
+fn put_pair<A: Allocator + Copy>(alloc: A, number: u64, text: &mut String<A>) -> Result<(), Fail> {
+    let pair = format!(in alloc; " {number} m{number}")?;
+    let put = text.push_str(&pair);
+    drop(pair);
+    Ok(put?)
+}
+
 /// `ZADD k` with 500 pairs: each member is `m` and its number, which is its score.
-fn addition(alloc: Global, from: u32) -> Result<String, Fail> {
+fn addition<A: Allocator + Copy>(alloc: A, from: u32) -> Result<String<A>, Fail> {
     let mut text = "ZADD k".to_string(alloc)?;
     for index in 0..500u32 {
-        let number = u64::from(from) + u64::from(index);
-        text.push_str(&format!(in alloc; " {number} m{number}")?)?;
+        put_pair(alloc, u64::from(from) + u64::from(index), &mut text)?;
     }
     Ok(text)
 }
@@ -26,7 +34,9 @@ fn expect_added(alloc: Global, owner: &mut Owner, from: u32) -> Result<(), Fail>
     ensures { owner.new.next ≡ None }
 {
     let text = addition(alloc, from)?;
-    expect_reply(alloc, owner, text.as_str(), ":500~")
+    let told = expect_reply(alloc, owner, &text, ":500~");
+    drop(text);
+    told
 }
 
 /// A set of 4,500 members.
@@ -41,7 +51,7 @@ fn fill(alloc: Global, owner: &mut Owner) -> Result<(), Fail>
 }
 
 /// How many rows stand between the pivots around a place.
-fn rows_around(column: &Column<Global>, place: usize) -> usize {
+fn rows_around<A: Allocator + Copy>(column: &Column<A>, place: usize) -> usize {
     let (mut from, mut to) = (0, column.len());
     for (_, at) in column.piece_list() {
         if *at <= place {
@@ -73,11 +83,11 @@ pub fn expect_short_pieces(alloc: Global, owner: &mut Owner) -> Result<(), Fail>
     expect_that(rows_of_k(owner, 2000) <= 1024, "a short piece")
 }
 
-const SHORT_PIECES: &[Trial] = &[Trial::ShortPieces];
+static SHORT_PIECES: [Trial; 1] = [Trial::ShortPieces];
 
 #[test]
 fn a_window_leaves_short_pieces(rt: HostRuntime) -> Result<(), Fail> {
-    expect_of_owners(&rt, SHORT_PIECES)
+    expect_of_owners(&rt, &SHORT_PIECES)
 }
 
 // Adds a member, with one of a million scores by its number (the generator of Park and Miller).
@@ -87,7 +97,9 @@ fn add(alloc: Global, set: &mut Set, member: u64) -> Result<(), Fail>
 {
     let score = member.wrapping_add(1).wrapping_mul(48271) % 2147483647 % 1_000_000;
     let text = format!(in alloc; "ZADD k {score} m{member}")?;
-    run(alloc, set, text.as_str()).map(drop)
+    let ran = run(alloc, set, &text);
+    drop(text);
+    ran
 }
 
 // Adds three thousand members.
@@ -101,24 +113,27 @@ fn add_many(alloc: Global, set: &mut Set) -> Result<(), Fail>
     Ok(())
 }
 
+// Whether there is an answer, which is let go.
+fn is_there<T: Drop>(answer: Option<T>) -> bool {
+    let is_there = answer.is_some();
+    drop(answer);
+    is_there
+}
+
 // Whether a set is ready for a command on a key, and would read many rows for it.
-fn reads_many(set: &Set, command: &Command<Global>) -> bool
+fn reads_many<H: BuildHasher, A: Allocator + Copy>(set: &ZSet<H, A>, command: &Command<A>) -> bool
     requires { set.now.next ≡ None }
 {
     if command.key().is_none() {
         return false;
     }
-    let few = set.ready_by_few(command);
-    let are_many = few.is_none();
-    drop(few);
-    let answer = set.ready(command);
-    let is_ready = answer.is_some();
-    drop(answer);
-    are_many && is_ready
+    let are_few = is_there(set.ready_by_few(command));
+    let is_ready = is_there(set.ready(command));
+    is_ready && !are_few
 }
 
 // Whether a listing of the ten lowest would read many rows of a set that is ready for it.
-fn is_wide(alloc: Global, set: &Set) -> Result<bool, Fail>
+fn is_wide<H: BuildHasher, A: Allocator + Copy>(alloc: A, set: &ZSet<H, A>) -> Result<bool, Fail>
     requires { set.now.next ≡ None }
 {
     let command = command(alloc, "ZRANGEBYSCORE k -inf +inf LIMIT 0 10")?;
@@ -137,7 +152,7 @@ fn expect_wide(alloc: Global, set: &mut Set, text: &str, wide: bool) -> Result<(
 }
 
 // Commands on them, and whether a listing of the ten lowest is wide then.
-const NARROWED: [(&str, bool); 3] = [
+static NARROWED: [(&str, bool); 3] = [
     ("ZCOUNT k -inf +inf", true),
     ("ZRANGEBYSCORE k -inf +inf", true),
     ("ZRANGEBYSCORE k -inf +inf LIMIT 0 10", false),
@@ -147,15 +162,15 @@ pub fn expect_narrowed(alloc: Global, set: &mut Set) -> Result<(), Fail>
     requires { set.old.next ≡ None }
 {
     add_many(alloc, set)?;
-    for (text, wide) in NARROWED {
-        expect_wide(alloc, set, text, wide)?;
+    for (text, wide) in &NARROWED {
+        expect_wide(alloc, set, text, *wide)?;
     }
     Ok(())
 }
 
-const NARROWING: &[SetTrial] = &[SetTrial::Narrowed];
+static NARROWING: [SetTrial; 1] = [SetTrial::Narrowed];
 
 #[test]
 fn a_window_of_a_long_piece_narrows_it(rt: HostRuntime) -> Result<(), Fail> {
-    expect_of_sets(&rt, NARROWING)
+    expect_of_sets(&rt, &NARROWING)
 }

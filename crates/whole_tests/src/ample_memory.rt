@@ -1,18 +1,15 @@
 //! What commands are told by an owner with ample memory, by which those whose allocations are refused are judged.
 
-ghost use Rattle.std.specs.Prelude.{◌≡◌, None};
-
 use resp_wire::{Bytes, BytesList, Reply, Request, write_reply};
+use session_core::Exec;
 use sorted_sets::OneOwner;
 use std::alloc::{Allocator, Global};
 use std::hash::RandomState;
 use std::test::Fail;
-use zset_commands::{Command, Refusal};
-
-type Owner<A> = OneOwner<RandomState, A>;
+use zset_commands::Command;
 
 /// The request whose words stand between single blanks, in memory of the owner's kind.
-fn request<A: Allocator + Copy>(alloc: A, words: &str) -> Result<Request<A>, Fail> {
+pub fn request<A: Allocator + Copy>(alloc: A, words: &str) -> Result<Request<A>, Fail> {
     let mut list = Vec::new(alloc);
     for word in words.split(' ') {
         list.push(Bytes::from_slice(alloc, word.as_bytes())?)?;
@@ -28,88 +25,74 @@ pub fn command<A: Allocator + Copy>(alloc: A, words: &str) -> Result<Command<A>,
     Command::read(alloc, request(alloc, words)?).map_err(|_| Fail::from("no command"))
 }
 
-/// What an owner answers: the reply, or the refusal, of the command's reading or of its run.
-fn answer<A: Allocator + Copy>(
+/// Whether a reply has these bytes.
+pub fn has_bytes<A: Allocator + Copy>(
     alloc: A,
-    owner: &mut Owner<A>,
-    request: Request<A>,
-) -> Result<Reply<A>, Refusal>
-    requires { owner.old.next ≡ None }
-    ensures { owner.new.next ≡ None }
-{
-    let command = Command::read(alloc, request)?;
-    let answer = owner.run(&command);
-    drop(command);
-    answer
-}
-
-/// What a client is told, a refusal by its error reply. None for want of memory.
-fn told<A: Allocator>(answer: Result<Reply<A>, Refusal>) -> Option<Reply<A>> {
-    match answer {
-        Ok(reply) => Some(reply),
-        Err(Refusal::NoMemory) => None,
-        Err(refusal) => Some(Reply::Fault(refusal.text())),
-    }
-}
-
-/// The bytes of a reply.
-pub fn bytes_of<A: Allocator + Copy>(alloc: A, reply: &Reply<A>) -> Result<Vec<u8, A>, Fail> {
+    reply: Reply<A>,
+    wanted: &[u8],
+) -> Result<bool, Fail> {
     let mut bytes = Vec::new(alloc);
-    write_reply(reply, &mut bytes)?;
-    Ok(bytes)
+    write_bytes(reply, &mut bytes)?;
+    Ok(bytes.as_slice() == wanted)
 }
 
-/// The bytes of the reply to a command that is not refused.
-fn reply<A: Allocator + Copy>(
+fn write_bytes<A: Allocator>(reply: Reply<A>, out: &mut Vec<u8, A>) -> Result<(), Fail> {
+    let written = write_reply(&reply, out);
+    drop(reply);
+    Ok(written?)
+}
+
+/// Writes the reply to a command that is not refused.
+fn ask<R, A: Allocator + Copy, E: Exec<R, A>>(
+    rt: &R,
     alloc: A,
-    owner: &mut Owner<A>,
+    exec: &mut E,
     words: &str,
-) -> Result<Vec<u8, A>, Fail>
-    requires { owner.old.next ≡ None }
-    ensures { owner.new.next ≡ None }
+    out: &mut Vec<u8, A>,
+) -> Result<(), Fail>
+    requires { E.settled exec.old }
+    ensures { E.settled exec.new }
 {
-    match answer(alloc, owner, request(alloc, words)?) {
-        Ok(reply) => {
-            let bytes = bytes_of(alloc, &reply);
-            drop(reply);
-            bytes
-        }
+    let command = command(alloc, words)?;
+    let answer = exec.run(rt, &command);
+    drop(command);
+    match answer {
+        Ok(reply) => write_bytes(reply, out),
         Err(_) => Err(Fail::new("refused")),
     }
 }
 
-/// The bytes of what a client is told where there is memory.
-fn told_bytes<A: Allocator + Copy>(
+/// The same of commands, one after the other.
+pub fn ask_all<R, A: Allocator + Copy, E: Exec<R, A>>(
+    rt: &R,
     alloc: A,
-    owner: &mut Owner<A>,
-    words: &str,
-) -> Result<Vec<u8, A>, Fail>
-    requires { owner.old.next ≡ None }
-    ensures { owner.new.next ≡ None }
+    exec: &mut E,
+    commands: &[&str],
+    out: &mut Vec<u8, A>,
+) -> Result<(), Fail>
+    requires { E.settled exec.old }
+    ensures { E.settled exec.new }
 {
-    match told(answer(alloc, owner, request(alloc, words)?)) {
-        Some(reply) => {
-            let bytes = bytes_of(alloc, &reply);
-            drop(reply);
-            bytes
-        }
-        None => Err(Fail::new("out of memory")),
+    for words in commands {
+        ask(rt, alloc, exec, words, out)?;
     }
+    Ok(())
 }
 
 /// Runs commands none of which is refused.
-fn run_all<A: Allocator + Copy>(
+fn run_all<R, A: Allocator + Copy, E: Exec<R, A>>(
+    rt: &R,
     alloc: A,
-    owner: &mut Owner<A>,
+    exec: &mut E,
     commands: &[&str],
 ) -> Result<(), Fail>
-    requires { owner.old.next ≡ None }
-    ensures { owner.new.next ≡ None }
+    requires { E.settled exec.old }
+    ensures { E.settled exec.new }
 {
-    for words in commands {
-        drop(reply(alloc, owner, words)?);
-    }
-    Ok(())
+    let mut replies = Vec::new(alloc);
+    let are_run = ask_all(rt, alloc, exec, commands, &mut replies);
+    drop(replies);
+    are_run
 }
 
 pub const LISTING: &str = "ZRANGEBYSCORE k -inf +inf WITHSCORES";
@@ -121,35 +104,42 @@ pub struct Ample {
     pub reply: Vec<u8>,
 }
 
-/// What an owner of the sets that commands set up gives.
-fn given_by(
+/// Writes what is given where commands set up the set.
+fn give<R, E: Exec<R, Global>>(
+    rt: &R,
     alloc: Global,
-    owner: &mut Owner<Global>,
+    exec: &mut E,
     setup: &[&str],
     words: &str,
-) -> Result<Ample, Fail>
-    requires { owner.old.next ≡ None }
+    ample: &mut Ample,
+) -> Result<(), Fail>
+    requires { E.settled exec.old }
 {
-    run_all(alloc, owner, setup)?;
-    let before = reply(alloc, owner, LISTING)?;
-    match told_bytes(alloc, owner, words) {
-        Ok(reply) => Ok(Ample { before, reply }),
+    run_all(rt, alloc, exec, setup)?;
+    ask(rt, alloc, exec, LISTING, &mut ample.before)?;
+    ask(rt, alloc, exec, words, &mut ample.reply)
+}
+
+pub fn with_memory(rt: &HostRuntime, setup: &[&str], words: &str) -> Result<Ample, Fail> {
+    let alloc = rt.alloc();
+    let mut owner = OneOwner::new(alloc, RandomState::new(rt)?);
+    let mut ample = Ample {
+        before: Vec::new(alloc),
+        reply: Vec::new(alloc),
+    };
+    let given = give(rt, alloc, &mut owner, setup, words, &mut ample);
+    drop(owner);
+    match given {
+        Ok(()) => Ok(ample),
         Err(fail) => {
-            drop(before);
+            drop(ample);
             Err(fail)
         }
     }
 }
 
-pub fn with_memory(rt: &HostRuntime, setup: &[&str], words: &str) -> Result<Ample, Fail> {
-    let mut owner = OneOwner::new(rt.alloc(), RandomState::new(rt)?);
-    let ample = given_by(rt.alloc(), &mut owner, setup, words);
-    drop(owner);
-    ample
-}
-
 /// What came of one refused allocation of a command.
-#[derive(Clone, Copy, PartialEq, Eq)]
+#[derive(Clone, Copy)]
 pub enum Outcome {
     /// There were fewer allocations.
     Whole,
@@ -161,21 +151,14 @@ pub enum Outcome {
 }
 
 impl Outcome {
-    /// That of a reply: it is to be the one with memory.
-    pub fn of_reply(is_whole: bool, reply: &[u8], ample: &Ample) -> Self {
-        match reply == ample.reply.as_slice() {
-            true if is_whole => Outcome::Whole,
-            true => Outcome::Made,
-            false => Outcome::Wrong,
-        }
-    }
-
-    /// That of a refusal for want of memory, by whether the set stayed and is told as with memory then.
-    pub fn of_refusal(recovers: bool) -> Self {
-        if recovers {
-            Outcome::Refused
-        } else {
-            Outcome::Wrong
+    /// That of a command whose allocations were all made, or not: by whether its reply is the one with memory, or None
+    /// where it was refused for want of it.
+    pub fn new(is_whole: bool, has_reply: Option<bool>) -> Self {
+        match has_reply {
+            Some(true) if is_whole => Outcome::Whole,
+            Some(true) => Outcome::Made,
+            None if !is_whole => Outcome::Refused,
+            _ => Outcome::Wrong,
         }
     }
 }

@@ -1,11 +1,11 @@
 //! Each allocation of a cell's answer refused in turn, under its lock alone and beside other readers. The log is called
 //! for the records of changes that are made, and for nothing else.
 
-ghost use Rattle.std.specs.Prelude.{◌≡◌, ◌≤◌, None, IsSome};
+ghost use Rattle.std.specs.Prelude.{◌≡◌, ◌≤◌, None, IsSome, IfOk};
 ghost use Rattle.zset_commands.specs.AbstractCommand.{key_of};
 
-use crate::ample_memory::{Ample, LISTING, Outcome, bytes_of, command, with_memory};
-use append_log::{FuseSink, Log, MemorySink};
+use crate::ample_memory::{Ample, LISTING, Outcome, command, has_bytes, with_memory};
+use append_log::{FuseSink, Log, LogSink, MemorySink};
 use fuse_alloc::Fuse;
 use resp_wire::Reply;
 use set_table::{Answer, Cell, Shares};
@@ -18,15 +18,57 @@ use std::sync::{Mutex, Wait};
 use std::test::*;
 use zset_commands::{Command, Refusal};
 
-/// A sink that counts its calls, with memory of its own.
-type Sink = FuseSink<MemorySink<Global>>;
+/// The call by which a cell is asked.
+#[derive(Clone, Copy)]
+enum Asked {
+    Run,
+    Ready,
+}
+
+/// What answers commands on keys. Helpers see a cell as this alone, so that their proofs are short.
+trait Answers<R, A: Allocator> {
+    fn reply(&mut self, rt: &R, asked: Asked, command: &Command<A>) -> Result<Reply<A>, Refusal>;
+}
 
 /// A cell, the shares of a pass, and a log.
 #[derive(Drop)]
-struct Single<L: Ledger, A: Allocator + Copy> {
+struct Single<S: LogSink, L: Ledger, A: Allocator + Copy> {
     cell: Cell<RandomState, L, A>,
     shares: Shares,
-    log: Mutex<Log<Sink, L>>,
+    log: Mutex<Log<S, L>>,
+}
+
+fn reply_of<A: Allocator>(answer: Result<Answer<'_, A>, Refusal>) -> Result<Reply<A>, Refusal> {
+    match answer {
+        Ok(answer) => Ok(answer.into_reply()),
+        Err(refusal) => Err(refusal),
+    }
+}
+
+/// The reply of a cell that is not changed.
+fn ready_reply<L: Ledger, A: Allocator + Copy>(
+    cell: &Cell<RandomState, L, A>,
+    shares: &Shares,
+    command: &Command<A>,
+) -> Result<Reply<A>, Refusal>
+    requires keyed { IsSome (key_of command.now.meaning) }
+{
+    match cell.ready(command, shares) {
+        Some(answer) => reply_of(answer),
+        None => Err(Refusal::OutOfStep),
+    }
+}
+
+impl<R: Wait, S: LogSink, L: Ledger, A: Allocator + Copy> Answers<R, A> for Single<S, L, A> {
+    fn reply(&mut self, rt: &R, asked: Asked, command: &Command<A>) -> Result<Reply<A>, Refusal> {
+        if command.key().is_none() {
+            return Err(Refusal::OutOfStep);
+        }
+        match asked {
+            Asked::Run => reply_of(self.cell.run(rt, command, &mut self.shares, &self.log)),
+            Asked::Ready => ready_reply(&self.cell, &self.shares, command),
+        }
+    }
 }
 
 /// How many records a log has, and how often its sink was called.
@@ -36,15 +78,8 @@ struct Appended {
     calls: u64,
 }
 
-/// The log's numbers, once cell and pass are gone.
-fn appended_to<L: Ledger, A: Allocator + Copy>(single: Single<L, A>) -> Appended {
-    let Single {
-        cell,
-        shares: _,
-        log,
-    } = single;
-    drop(cell);
-    let log = log.into_inner();
+/// The numbers of a log over a sink that counts its calls.
+fn appended_to<S: LogSink + Drop, L: Ledger>(log: Log<FuseSink<S>, L>) -> Appended {
     let records = log.appended();
     let sink = log.into_sink();
     let calls = sink.calls();
@@ -52,30 +87,42 @@ fn appended_to<L: Ledger, A: Allocator + Copy>(single: Single<L, A>) -> Appended
     Appended { records, calls }
 }
 
-/// The call by which a cell is asked.
-#[derive(Clone, Copy)]
-enum Asked {
-    Run,
-    Ready,
-}
-
-/// A command by its words, how it is asked, which of its allocations is refused, and the log's numbers once it is
-/// answered.
+/// A command by its words, how it is asked, and the log's numbers once it is answered.
 #[derive(Clone, Copy)]
 struct Question<'w> {
     asked: Asked,
     words: &'w str,
-    allocation: u64,
     wanted: Appended,
 }
 
-/// A cell with an empty set, and a log over a sink.
-fn opened_cell<L: Ledger, A: Allocator + Copy>(
+/// A question, which of the command's allocations the fuse refuses, and what ample memory gives.
+#[derive(Drop)]
+struct Trial<'t> {
+    question: Question<'t>,
+    fuse: &'t Fuse<Global>,
+    allocation: u64,
+    ample: &'t Ample,
+}
+
+fn empty_set<A: Allocator + Copy>(
+    alloc: A,
+    hasher: RandomState,
+) -> Result<ZSet<RandomState, A>, AllocError>
+    ensures { IfOk result (λ set. set.next ≡ None) }
+{
+    let owner = OneOwner::new(alloc, hasher);
+    let set = owner.empty_set();
+    drop(owner);
+    set
+}
+
+/// A cell with this set, and a log over a sink.
+fn opened_cell<S: LogSink + Drop, L: Ledger, A: Allocator + Copy>(
     alloc: A,
     blank: Blank,
-    sink: Sink,
+    sink: S,
     set: ZSet<RandomState, A>,
-) -> Result<Single<L, A>, AllocError>
+) -> Result<Single<S, L, A>, AllocError>
     requires idle { set.next ≡ None }
     requires name { blank.name ≡ L.name }
     requires parts { blank.parts ≡ L.parts }
@@ -96,163 +143,162 @@ fn opened_cell<L: Ledger, A: Allocator + Copy>(
     }
 }
 
-/// What the cell answers to a command, by the call that is asked for.
-fn answer<'c, L: Ledger, A: Allocator + Copy, R: Wait>(
-    rt: &R,
-    single: &mut Single<L, A>,
-    asked: Asked,
-    command: &'c Command<A>,
-) -> Result<Answer<'c, A>, Refusal>
-    requires keyed { IsSome (key_of command.now.meaning) }
-{
-    match asked {
-        Asked::Run => single
-            .cell
-            .run(rt, command, &mut single.shares, &single.log),
-        Asked::Ready => match single.cell.ready(command, &single.shares) {
-            Some(answer) => answer,
-            None => Err(Refusal::OutOfStep),
-        },
-    }
-}
-
-/// The reply to a command on a key, or its refusal.
-fn reply_or_refusal<L: Ledger, A: Allocator + Copy, R: Wait>(
-    rt: &R,
-    single: &mut Single<L, A>,
-    asked: Asked,
-    command: &Command<A>,
-) -> Result<Reply<A>, Refusal> {
-    if command.key().is_none() {
-        return Err(Refusal::OutOfStep);
-    }
-    match answer(rt, single, asked, command) {
-        Ok(answer) => Ok(answer.into_reply()),
-        Err(refusal) => Err(refusal),
-    }
-}
-
-/// The bytes of the reply to a command that is not refused.
-fn reply<L: Ledger, A: Allocator + Copy, R: Wait>(
+/// Runs a command that is not refused.
+fn run<R, A: Allocator + Copy, C: Answers<R, A>>(
     rt: &R,
     alloc: A,
-    single: &mut Single<L, A>,
+    cell: &mut C,
     words: &str,
-) -> Result<Vec<u8, A>, Fail> {
+) -> Result<(), Fail> {
     let command = command(alloc, words)?;
-    let found = reply_or_refusal(rt, single, Asked::Run, &command);
+    let reply = cell.reply(rt, Asked::Run, &command);
     drop(command);
-    match found {
+    match reply {
         Ok(reply) => {
-            let bytes = bytes_of(alloc, &reply);
             drop(reply);
-            bytes
+            Ok(())
         }
         Err(_) => Err(Fail::new("refused")),
     }
 }
 
 /// Runs the commands that set up the set.
-fn set_up<L: Ledger, A: Allocator + Copy, R: Wait>(
+fn set_up<R, A: Allocator + Copy, C: Answers<R, A>>(
     rt: &R,
     alloc: A,
-    single: &mut Single<L, A>,
+    cell: &mut C,
 ) -> Result<(), Fail> {
     for words in &SETUP {
-        drop(reply(rt, alloc, single, words)?);
+        run(rt, alloc, cell, words)?;
     }
     Ok(())
 }
 
-/// What came of a command, and whether there were fewer allocations than the one that was to be refused.
-fn ask<L: Ledger, A: Allocator + Copy, R: Wait>(
-    rt: &R,
-    fuse: &Fuse<Global>,
+/// Whether a reply has these bytes, or None where it was refused for want of memory.
+fn has_reply<A: Allocator + Copy>(
     alloc: A,
-    single: &mut Single<L, A>,
-    question: Question<'_>,
-) -> Result<(Result<Reply<A>, Refusal>, bool), Fail> {
-    let command = command(alloc, question.words)?;
-    fuse.arm(question.allocation);
-    let found = reply_or_refusal(rt, single, question.asked, &command);
-    let is_whole = fuse.is_armed();
-    fuse.arm(0);
-    drop(command);
-    Ok((found, is_whole))
-}
-
-/// The bytes of a reply, or None where it was refused for want of memory.
-fn bytes_unless_refused<A: Allocator + Copy>(
-    alloc: A,
-    found: Result<Reply<A>, Refusal>,
-) -> Result<Option<Vec<u8, A>>, Fail> {
-    match found {
-        Ok(reply) => {
-            let bytes = bytes_of(alloc, &reply);
-            drop(reply);
-            bytes.map(Some)
-        }
+    reply: Result<Reply<A>, Refusal>,
+    wanted: &[u8],
+) -> Result<Option<bool>, Fail> {
+    match reply {
+        Ok(reply) => Ok(Some(has_bytes(alloc, reply, wanted)?)),
         Err(Refusal::NoMemory) => Ok(None),
         Err(_) => Err(Fail::new("another refusal")),
     }
 }
 
-/// Whether a command that was refused for want of memory left the set, and is told as with memory now.
-fn recovers<L: Ledger, A: Allocator + Copy, R: Wait>(
+/// What comes of asking with the fuse armed.
+fn ask<R, A: Allocator + Copy, C: Answers<R, A>>(
     rt: &R,
     alloc: A,
-    single: &mut Single<L, A>,
-    words: &str,
-    ample: &Ample,
-) -> Result<bool, Fail> {
-    let has_stayed = is_told(rt, alloc, single, LISTING, &ample.before)?;
-    let is_made = is_told(rt, alloc, single, words, &ample.reply)?;
-    Ok(has_stayed && is_made)
+    cell: &mut C,
+    trial: &Trial<'_>,
+) -> Result<Outcome, Fail> {
+    let command = command(alloc, trial.question.words)?;
+    trial.fuse.arm(trial.allocation);
+    let reply = cell.reply(rt, trial.question.asked, &command);
+    let is_whole = trial.fuse.is_armed();
+    trial.fuse.arm(0);
+    drop(command);
+    let has_reply = has_reply(alloc, reply, &trial.ample.reply)?;
+    Ok(Outcome::new(is_whole, has_reply))
 }
 
 /// Whether the reply to a command that is not refused has these bytes.
-fn is_told<L: Ledger, A: Allocator + Copy, R: Wait>(
+fn is_told<R, A: Allocator + Copy, C: Answers<R, A>>(
     rt: &R,
     alloc: A,
-    single: &mut Single<L, A>,
+    cell: &mut C,
     words: &str,
     wanted: &[u8],
 ) -> Result<bool, Fail> {
-    let told = reply(rt, alloc, single, words)?;
-    let is_told = told.as_slice() == wanted;
-    drop(told);
-    Ok(is_told)
-}
-
-/// Sets up the set, and refuses one allocation of a command behind it.
-fn refuse_one<L: Ledger, A: Allocator + Copy, R: Wait>(
-    rt: &R,
-    fuse: &Fuse<Global>,
-    alloc: A,
-    single: &mut Single<L, A>,
-    question: Question<'_>,
-    ample: &Ample,
-) -> Result<Outcome, Fail> {
-    set_up(rt, alloc, single)?;
-    let (found, is_whole) = ask(rt, fuse, alloc, single, question)?;
-    match bytes_unless_refused(alloc, found)? {
-        Some(bytes) => {
-            let outcome = Outcome::of_reply(is_whole, bytes.as_slice(), ample);
-            drop(bytes);
-            Ok(outcome)
-        }
-        None if is_whole => Ok(Outcome::Wrong),
-        None => Ok(Outcome::of_refusal(recovers(rt, alloc, single, question.words, ample)?)),
+    let command = command(alloc, words)?;
+    let reply = cell.reply(rt, Asked::Run, &command);
+    drop(command);
+    match has_reply(alloc, reply, wanted)? {
+        Some(is_told) => Ok(is_told),
+        None => Err(Fail::new("refused")),
     }
 }
 
-/// The same over a cell of its own. The command is answered once, at once or asked again, and the log has the numbers
-/// that are wanted then: so the refused call did not call the sink.
+/// Refused, if a command that was refused for want of memory left the set, and is told as with memory now.
+fn recovered<R, A: Allocator + Copy, C: Answers<R, A>>(
+    rt: &R,
+    alloc: A,
+    cell: &mut C,
+    words: &str,
+    ample: &Ample,
+) -> Result<Outcome, Fail> {
+    let has_stayed = is_told(rt, alloc, cell, LISTING, &ample.before)?;
+    let is_made = is_told(rt, alloc, cell, words, &ample.reply)?;
+    Ok(if has_stayed && is_made {
+        Outcome::Refused
+    } else {
+        Outcome::Wrong
+    })
+}
+
+/// Sets up the set, and refuses one allocation of a command behind it.
+fn refuse_one<R, A: Allocator + Copy, C: Answers<R, A>>(
+    rt: &R,
+    alloc: A,
+    cell: &mut C,
+    trial: &Trial<'_>,
+) -> Result<Outcome, Fail> {
+    set_up(rt, alloc, cell)?;
+    match ask(rt, alloc, cell, trial)? {
+        Outcome::Refused => recovered(rt, alloc, cell, trial.question.words, trial.ample),
+        outcome => Ok(outcome),
+    }
+}
+
+/// The same over a cell that is let go then. The command is answered once, at once or asked again, and the log has the
+/// numbers that are wanted then: so the refused call did not call the sink.
+fn refuse_in<R: Wait, S: LogSink + Drop, L: Ledger, A: Allocator + Copy>(
+    rt: &R,
+    alloc: A,
+    single: Single<FuseSink<S>, L, A>,
+    trial: &Trial<'_>,
+) -> Result<Outcome, Fail> {
+    let mut single = single;
+    let outcome = refuse_one(rt, alloc, &mut single, trial);
+    let Single {
+        cell,
+        shares: _,
+        log,
+    } = single;
+    drop(cell);
+    let is_logged = appended_to(log.into_inner()) == trial.question.wanted;
+    let outcome = outcome?;
+    Ok(if is_logged { outcome } else { Outcome::Wrong })
+}
+
+/// The same over a new cell.
+fn refuse_anew<R: Wait, S: LogSink + Drop, L: Ledger, A: Allocator + Copy>(
+    rt: &R,
+    alloc: A,
+    blank: Blank,
+    hasher: RandomState,
+    sink: S,
+    trial: &Trial<'_>,
+) -> Result<Outcome, Fail>
+    requires name { blank.name ≡ L.name }
+    requires parts { blank.parts ≡ L.parts }
+    requires many { 2 ≤ blank.parts }
+{
+    let sink = FuseSink::new(sink, 0);
+    let set = empty_set(alloc, hasher)?;
+    let single = opened_cell::<_, L, _>(alloc, blank, sink, set)?;
+    refuse_in(rt, alloc, single, trial)
+}
+
+/// The same with memory that a fuse guards.
 fn refuse<L: Ledger, R: Wait>(
     rt: &HostRuntime,
     locks: &R,
     blank: Blank,
     question: Question<'_>,
+    allocation: u64,
     ample: &Ample,
 ) -> Result<Outcome, Fail>
     requires name { blank.name ≡ L.name }
@@ -261,35 +307,22 @@ fn refuse<L: Ledger, R: Wait>(
 {
     let hasher = RandomState::new(rt)?;
     let fuse = Fuse::new(rt.alloc(), 0);
-    let sink = FuseSink::new(MemorySink::new(rt.alloc(), 65_536), 0);
-    let owner = OneOwner::new(&fuse, hasher);
-    let set = owner.empty_set();
-    drop(owner);
-    let mut single = opened_cell::<L, _>(&fuse, blank, sink, set?)?;
-    let outcome = refuse_one(locks, &fuse, &fuse, &mut single, question, ample);
-    let is_logged = appended_to(single) == question.wanted;
-    let outcome = outcome?;
-    Ok(if is_logged { outcome } else { Outcome::Wrong })
+    let sink = MemorySink::new(rt.alloc(), 65_536);
+    let trial = Trial {
+        question,
+        fuse: &fuse,
+        allocation,
+        ample,
+    };
+    refuse_anew::<_, _, L, _>(locks, &fuse, blank, hasher, sink, &trial)
 }
 
 /// How many allocations of the command were refused, one in each run, until a run had no more. `locks` waits for
 /// the log's lock.
-fn refused<R: Wait>(
-    rt: &HostRuntime,
-    locks: &R,
-    asked: Asked,
-    words: &str,
-    wanted: Appended,
-) -> Result<u64, Fail> {
-    let ample = with_memory(rt, &SETUP, words)?;
+fn refused<R: Wait>(rt: &HostRuntime, locks: &R, question: Question<'_>) -> Result<u64, Fail> {
+    let ample = with_memory(rt, &SETUP, question.words)?;
     for allocation in 1..1000u64 {
-        let question = Question {
-            asked,
-            words,
-            allocation,
-            wanted,
-        };
-        match refuse::<Brand, _>(rt, locks, Blank::new(2), question, &ample)? {
+        match refuse::<Brand, _>(rt, locks, Blank::new(2), question, allocation, &ample)? {
             Outcome::Whole => return Ok(allocation - 1),
             Outcome::Refused => {}
             Outcome::Made | Outcome::Wrong => {
@@ -301,7 +334,7 @@ fn refused<R: Wait>(
 }
 
 /// A set whose rows from 4 to 6 stand in pieces and wait for nothing, and one row that waits behind them.
-const SETUP: [&str; 3] = [
+static SETUP: [&str; 3] = [
     "ZADD k 1 a 5 b 6 a-member-that-takes-memory 9 d",
     "ZRANGEBYSCORE k 4 6",
     "ZADD k 12 e",
@@ -320,7 +353,7 @@ const CHANGED: Appended = Appended {
 };
 
 /// How a command is asked, the log's numbers behind it, and the least and the greatest number of its allocations.
-const COMMANDS: [(Asked, &str, Appended, u64, u64); 11] = [
+static COMMANDS: [(Asked, &str, Appended, u64, u64); 11] = [
     (Asked::Run, "ZADD k 3 a 7 f", CHANGED, 1, 999),
     (Asked::Run, "ZADD k INCR 4 b", CHANGED, 1, 999),
     (Asked::Run, "ZREM k b", CHANGED, 1, 999),
@@ -337,7 +370,12 @@ const COMMANDS: [(Asked, &str, Appended, u64, u64); 11] = [
 #[test]
 fn each_command_is_refused_or_answered(rt: HostRuntime) -> Result<(), Fail> {
     for (asked, words, wanted, least, most) in &COMMANDS {
-        let made = refused(&rt, &rt, *asked, words, *wanted)?;
+        let question = Question {
+            asked: *asked,
+            words,
+            wanted: *wanted,
+        };
+        let made = refused(&rt, &rt, question)?;
         assert!(rt; *least <= made && made <= *most, "{words}: {made}");
     }
     Ok(())

@@ -3,20 +3,17 @@
 ghost use Rattle.std.specs.Prelude.{◌≡◌, ◌≤◌};
 
 use crate::exchange::write_words;
-use append_log::{FuseSink, Log, LoggedOwner, MemorySink};
+use append_log::{FuseSink, Log, LogSink, LoggedOwner, MemorySink};
 use held_replies::HeldReplies;
 use lone_sessions::serve_deferred;
-use resp_wire::{MemoryDrain, MemorySource};
+use resp_wire::{ByteDrain, MemoryDrain, MemorySource};
 use session_core::{Ended, SessionFault};
 use sorted_sets::OneOwner;
-use std::alloc::{AllocError, Global};
-use std::hash::RandomState;
+use std::alloc::{AllocError, Allocator, Global};
+use std::hash::{BuildHasher, RandomState};
 use std::marker::Brand;
 use std::sync::ledger::{Blank, Ledger};
 use std::test::Fail;
-
-/// An owner whose records go to a sink that may fail.
-type Logged<L> = LoggedOwner<RandomState, FuseSink<MemorySink<Global>>, L, Global>;
 
 /// What a client sends in one session: requests by their words, and bytes behind these that begin no request.
 #[derive(Clone, Copy)]
@@ -26,7 +23,7 @@ struct Script<'t> {
 }
 
 /// The bytes of a script.
-fn input_of(alloc: Global, script: Script<'_>) -> Result<Vec<u8>, Fail> {
+fn input_of(alloc: Global, script: &Script<'_>) -> Result<Vec<u8>, Fail> {
     let mut input = Vec::new(alloc);
     for words in script.requests {
         write_words(alloc, words, &mut input)?;
@@ -65,21 +62,25 @@ struct Outcome {
     counts: [u64; 3],
 }
 
-/// An owner over a log that leaves its syncs to later, and whose sink fails at the call of this number.
-fn opened<L: Ledger>(rt: &HostRuntime, blank: Blank, fails_at: u64) -> Result<Logged<L>, Fail>
+/// An owner over a log that leaves its syncs to later.
+fn opened<H: BuildHasher + Clone + Drop, S: LogSink, L: Ledger, A: Allocator + Copy>(
+    alloc: A,
+    hasher: H,
+    blank: Blank,
+    sink: S,
+) -> LoggedOwner<H, S, L, A>
     requires name { blank.name ≡ L.name }
     requires parts { blank.parts ≡ L.parts }
     requires two { blank.parts ≡ 2 }
 {
-    let alloc = rt.alloc();
-    let hasher = RandomState::new(rt)?;
-    let sink = FuseSink::new(MemorySink::new(alloc, 4096), fails_at);
     let log = Log::<_, L>::deferred(blank, sink, 1000);
-    Ok(LoggedOwner::new(alloc, OneOwner::new(alloc, hasher), log))
+    LoggedOwner::new(alloc, OneOwner::new(alloc, hasher), log)
 }
 
 /// How many records are settled, and how often the sink was called.
-fn numbers_of<L: Ledger>(owner: Logged<L>) -> (u64, u64) {
+fn numbers_of<H: BuildHasher + Clone + Drop, S: LogSink + Drop, L: Ledger, A: Allocator + Copy>(
+    owner: LoggedOwner<H, FuseSink<S>, L, A>,
+) -> (u64, u64) {
     let (sets, log) = owner.into_parts();
     drop(sets);
     let settled = log.settled();
@@ -90,14 +91,59 @@ fn numbers_of<L: Ledger>(owner: Logged<L>) -> (u64, u64) {
 }
 
 /// How a session ends.
-fn told(alloc: Global, end: Result<Ended, SessionFault>) -> Result<String, Fail> {
+fn told<A: Allocator + Copy>(
+    alloc: A,
+    end: Result<Ended, SessionFault>,
+) -> Result<String<A>, AllocError> {
     match end {
-        Ok(ended) => Ok(format!(in alloc; "{} requests", ended.requests)?),
-        Err(fault) => Ok(format!(in alloc; "{fault}")?),
+        Ok(ended) => format!(in alloc; "{} requests", ended.requests),
+        Err(fault) => format!(in alloc; "{fault}"),
     }
 }
 
-/// Serves the input in pieces.
+/// What a session comes to whose drain took the bytes that left.
+fn outcome_of(
+    alloc: Global,
+    end: Result<Ended, SessionFault>,
+    drain: MemoryDrain<Global>,
+    counts: [u64; 3],
+) -> Result<Outcome, Fail> {
+    let left = Vec::from_slice(alloc, drain.flushed());
+    drop(drain);
+    let left = left?;
+    match told(alloc, end) {
+        Ok(end) => Ok(Outcome { end, left, counts }),
+        Err(error) => {
+            drop(left);
+            Err(Fail::from(error))
+        }
+    }
+}
+
+/// How a session over an owner and a drain ends, with the drain and its counts.
+fn serve<
+    R,
+    D: ByteDrain + Drop,
+    H: BuildHasher + Clone + Drop,
+    S: LogSink + Drop,
+    L: Ledger,
+    A: Allocator + Copy,
+>(
+    rt: &R,
+    alloc: A,
+    source: &mut MemorySource<'_>,
+    drain: D,
+    owner: LoggedOwner<H, FuseSink<S>, L, A>,
+) -> (Result<Ended, SessionFault>, D, [u64; 3]) {
+    let mut owner = owner;
+    let mut replies = HeldReplies::new(alloc, drain);
+    let end = serve_deferred(rt, alloc, source, &mut replies, &mut owner);
+    let (settled, calls) = numbers_of(owner);
+    let (drain, held) = replies.into_parts();
+    (end, drain, [held as u64, settled, calls])
+}
+
+/// Serves the input in pieces over a new owner, whose sink fails at the call of this number.
 fn served<L: Ledger>(
     rt: &HostRuntime,
     blank: Blank,
@@ -111,25 +157,13 @@ fn served<L: Ledger>(
     requires piece { 1 ≤ piece }
 {
     let alloc = rt.alloc();
-    let mut owner = opened::<L>(rt, blank, fails_at)?;
+    let hasher = RandomState::new(rt)?;
+    let sink = FuseSink::new(MemorySink::new(alloc, 4096), fails_at);
+    let owner = opened::<_, _, L, _>(alloc, hasher, blank, sink);
     let mut source = MemorySource::new(input, piece);
-    let mut replies = HeldReplies::new(alloc, MemoryDrain::new(alloc, 4096));
-    let end = serve_deferred(rt, alloc, &mut source, &mut replies, &mut owner);
-    let (drain, held) = replies.into_parts();
-    let (settled, calls) = numbers_of(owner);
-    let left = Vec::from_slice(alloc, drain.flushed());
-    drop(drain);
-    outcome_of(told(alloc, end)?, left, [held as u64, settled, calls])
-}
-
-/// What a session comes to whose bytes that left were copied, if there was memory.
-fn outcome_of(
-    end: String,
-    left: Result<Vec<u8>, AllocError>,
-    counts: [u64; 3],
-) -> Result<Outcome, Fail> {
-    let left = left?;
-    Ok(Outcome { end, left, counts })
+    let drain = MemoryDrain::new(alloc, 4096);
+    let (end, drain, counts) = serve(rt, alloc, &mut source, drain, owner);
+    outcome_of(alloc, end, drain, counts)
 }
 
 /// The same, with a ledger of its own.
@@ -229,30 +263,34 @@ static CASES: [(Given, Wanted); 9] = [
 ];
 
 /// Whether a session comes to what is wanted.
-fn is_as_wanted(outcome: &Outcome, wanted: Wanted) -> bool {
+fn is_as_wanted(outcome: &Outcome, wanted: &Wanted) -> bool {
     let (end, left, counts) = wanted;
     let has_left = match left {
-        Left::Whole(bytes) => outcome.left.as_slice() == bytes,
+        Left::Whole(bytes) => outcome.left.as_slice() == *bytes,
         Left::Begins(bytes) => outcome.left.starts_with(bytes),
     };
-    has_left && outcome.end.as_str() == end && outcome.counts == counts
+    has_left && outcome.end.as_str() == *end && outcome.counts == *counts
 }
 
 /// Whether a session on what is given does.
-fn goes_so(rt: &HostRuntime, given: Given, wanted: Wanted) -> Result<bool, Fail> {
+fn goes_so(rt: &HostRuntime, given: &Given, wanted: &Wanted) -> Result<bool, Fail> {
     let (script, piece, fails_at) = given;
-    if piece == 0 {
+    if *piece == 0 {
         return Err(Fail::new("no piece"));
     }
     let input = input_of(rt.alloc(), script)?;
-    let outcome = ended(rt, &input, piece, fails_at)?;
-    Ok(is_as_wanted(&outcome, wanted))
+    let outcome = ended(rt, &input, *piece, *fails_at);
+    drop(input);
+    let outcome = outcome?;
+    let is_as_wanted = is_as_wanted(&outcome, wanted);
+    drop(outcome);
+    Ok(is_as_wanted)
 }
 
 #[test]
 fn replies_leave_behind_their_syncs(rt: HostRuntime) -> Result<(), Fail> {
     for (at, (given, wanted)) in CASES.iter().enumerate() {
-        assert!(rt; goes_so(&rt, *given, *wanted)?, "case {at}");
+        assert!(rt; goes_so(&rt, given, wanted)?, "case {at}");
     }
     Ok(())
 }
@@ -268,12 +306,22 @@ fn listings(alloc: Global, times: u64) -> Result<Vec<u8>, Fail> {
     Ok(input)
 }
 
+/// Whether a session over three hundred listings leaves their replies whole.
+fn are_whole(rt: &HostRuntime, input: &[u8]) -> Result<bool, Fail> {
+    let outcome = ended(rt, input, 65_536, 0)?;
+    let is_whole = outcome.end.as_str() == "301 requests"
+        && outcome.left.len() == 4 + 300 * 82
+        && outcome.counts == [0, 1, 2];
+    drop(outcome);
+    Ok(is_whole)
+}
+
 // More replies than are held at once, from one read, leave whole.
 #[test]
 fn many_replies_leave_whole(rt: HostRuntime) -> Result<(), Fail> {
     let input = listings(rt.alloc(), 300)?;
-    let outcome = ended(&rt, &input, 65_536, 0)?;
-    let told = (outcome.end.as_str(), outcome.left.len(), outcome.counts);
-    assert_eq!(rt; told, ("301 requests", 4 + 300 * 82, [0, 1, 2]));
+    let are_whole = are_whole(&rt, &input);
+    drop(input);
+    assert!(rt; are_whole?);
     Ok(())
 }

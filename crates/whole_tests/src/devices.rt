@@ -2,11 +2,10 @@
 
 ghost use Rattle.std.specs.Prelude.{◌≡◌, ◌≤◌};
 
-use crate::ample_memory::{LISTING, command};
-use crate::exchange::bytes_of;
+use crate::ample_memory::{LISTING, ask_all};
 use crate::sessions::TWO_REQUESTS;
 use lone_sessions::serve;
-use resp_wire::{FuseDrain, MemoryDrain, MemorySource, write_reply};
+use resp_wire::{FuseDrain, MemoryDrain, MemorySource};
 use session_core::{Ended, Exec, SessionFault};
 use sorted_sets::OneOwner;
 use std::alloc::Global;
@@ -28,31 +27,7 @@ struct Broken {
     listed: Vec<u8>,
 }
 
-/// The reply to the command whose words stand between single blanks.
-fn ask<R, E: Exec<R, Global>>(
-    rt: &R,
-    alloc: Global,
-    exec: &mut E,
-    words: &str,
-    out: &mut Vec<u8>,
-) -> Result<(), Fail>
-    requires { E.settled exec.old }
-    ensures { E.settled exec.new }
-{
-    let command = command(alloc, words)?;
-    let answer = exec.run(rt, &command);
-    drop(command);
-    match answer {
-        Ok(reply) => {
-            let written = write_reply(&reply, out);
-            drop(reply);
-            Ok(written?)
-        }
-        Err(_) => Ok(out.extend_from_slice(b"refused")?),
-    }
-}
-
-const LISTING_OF_J: &str = "ZRANGEBYSCORE j -inf +inf WITHSCORES";
+static LISTINGS: [&str; 2] = [LISTING, "ZRANGEBYSCORE j -inf +inf WITHSCORES"];
 
 /// All pairs of the sets that the tests change.
 fn listing<R, E: Exec<R, Global>>(rt: &R, alloc: Global, exec: &mut E) -> Result<Vec<u8>, Fail>
@@ -60,8 +35,7 @@ fn listing<R, E: Exec<R, Global>>(rt: &R, alloc: Global, exec: &mut E) -> Result
     ensures { E.settled exec.new }
 {
     let mut listed = Vec::new(alloc);
-    ask(rt, alloc, exec, LISTING, &mut listed)?;
-    ask(rt, alloc, exec, LISTING_OF_J, &mut listed)?;
+    ask_all(rt, alloc, exec, &LISTINGS, &mut listed)?;
     Ok(listed)
 }
 
@@ -82,12 +56,18 @@ fn serve_with<R, E: Exec<R, Global>>(
     let drain = drain.into_inner();
     let written = Vec::from_slice(alloc, drain.bytes());
     drop(drain);
-    let listed = listing(rt, alloc, exec)?;
-    Ok(Broken {
-        end,
-        written: written?,
-        listed,
-    })
+    let written = written?;
+    match listing(rt, alloc, exec) {
+        Ok(listed) => Ok(Broken {
+            end,
+            written,
+            listed,
+        }),
+        Err(fail) => {
+            drop(written);
+            Err(fail)
+        }
+    }
 }
 
 /// Serves the input over an owner.
@@ -102,8 +82,8 @@ fn serve_over(rt: &HostRuntime, input: &[u8], to: Device) -> Result<Broken, Fail
 }
 
 /// What a session over the two requests comes to: how it ends, the bytes that were written, and the listings of the sets
-/// then, in the texts `~` for CR LF.
-type Wanted = (Result<Ended, SessionFault>, &'static str, &'static str);
+/// then.
+type Wanted = (Result<Ended, SessionFault>, &'static [u8], &'static [u8]);
 
 /// It ends with no request cut.
 const SERVED: Result<Ended, SessionFault> = Ok(Ended {
@@ -111,49 +91,72 @@ const SERVED: Result<Ended, SessionFault> = Ok(Ended {
     rest: 0,
 });
 
-const NO_SETS: &str = "*0~*0~";
+const NO_SETS: &[u8] = b"*0\r\n*0\r\n";
 
-const ONE_SET: &str = "*2~$1~a~$1~5~*0~";
+const ONE_SET: &[u8] = b"*2\r\n$1\r\na\r\n$1\r\n5\r\n*0\r\n";
 
 /// Which call of a drain fails. The two requests come in one read, and their 15 bytes go out by three at once: a flush,
 /// two writes and four, and a flush before the next read and at the end.
-const DRAINS: [(u64, Wanted); 10] = [
-    (1, (Err(SessionFault::WriteFault(0)), "", NO_SETS)),
-    (2, (Err(SessionFault::WriteFault(0)), "", ONE_SET)),
-    (3, (Err(SessionFault::WriteFault(3)), ":1\r", ONE_SET)),
-    (4, (Err(SessionFault::WriteFault(4)), ":1~", ONE_SET)),
-    (5, (Err(SessionFault::WriteFault(7)), ":1~*1\r", ONE_SET)),
-    (6, (Err(SessionFault::WriteFault(10)), ":1~*1~$1", ONE_SET)),
+static DRAINS: [(u64, Wanted); 10] = [
+    (1, (Err(SessionFault::WriteFault(0)), b"", NO_SETS)),
+    (2, (Err(SessionFault::WriteFault(0)), b"", ONE_SET)),
+    (3, (Err(SessionFault::WriteFault(3)), b":1\r", ONE_SET)),
+    (4, (Err(SessionFault::WriteFault(4)), b":1\r\n", ONE_SET)),
+    (
+        5,
+        (Err(SessionFault::WriteFault(7)), b":1\r\n*1\r", ONE_SET),
+    ),
+    (
+        6,
+        (
+            Err(SessionFault::WriteFault(10)),
+            b":1\r\n*1\r\n$1",
+            ONE_SET,
+        ),
+    ),
     (
         7,
-        (Err(SessionFault::WriteFault(13)), ":1~*1~$1~a", ONE_SET),
+        (
+            Err(SessionFault::WriteFault(13)),
+            b":1\r\n*1\r\n$1\r\na",
+            ONE_SET,
+        ),
     ),
     (
         8,
-        (Err(SessionFault::WriteFault(15)), ":1~*1~$1~a~", ONE_SET),
+        (
+            Err(SessionFault::WriteFault(15)),
+            b":1\r\n*1\r\n$1\r\na\r\n",
+            ONE_SET,
+        ),
     ),
     (
         9,
-        (Err(SessionFault::WriteFault(15)), ":1~*1~$1~a~", ONE_SET),
+        (
+            Err(SessionFault::WriteFault(15)),
+            b":1\r\n*1\r\n$1\r\na\r\n",
+            ONE_SET,
+        ),
     ),
-    (10, (SERVED, ":1~*1~$1~a~", ONE_SET)),
+    (10, (SERVED, b":1\r\n*1\r\n$1\r\na\r\n", ONE_SET)),
 ];
 
 /// Whether a session comes to that.
-fn is_broken_so(alloc: Global, broken: &Broken, wanted: Wanted) -> Result<bool, Fail> {
+fn is_broken_so(broken: &Broken, wanted: &Wanted) -> bool {
     let (end, written, listed) = wanted;
-    let has_written = broken.written == bytes_of(alloc, written)?;
-    let has_listed = broken.listed == bytes_of(alloc, listed)?;
-    Ok(broken.end == end && has_written && has_listed)
+    broken.end == *end
+        && broken.written.as_slice() == *written
+        && broken.listed.as_slice() == *listed
 }
 
 /// Whether a session over the two requests does.
-fn fails_so(rt: &HostRuntime, to: Device, wanted: Wanted) -> Result<bool, Fail>
+fn fails_so(rt: &HostRuntime, to: Device, wanted: &Wanted) -> Result<bool, Fail>
     requires { 1 ≤ to.chunk }
 {
-    let input = bytes_of(rt.alloc(), TWO_REQUESTS)?;
-    let broken = serve_over(rt, &input, to)?;
-    is_broken_so(rt.alloc(), &broken, wanted)
+    let broken = serve_over(rt, TWO_REQUESTS, to)?;
+    let is_so = is_broken_so(&broken, wanted);
+    drop(broken);
+    Ok(is_so)
 }
 
 #[test]
@@ -163,7 +166,7 @@ fn a_drain_fails_at_each_call(rt: HostRuntime) -> Result<(), Fail> {
             chunk: 3,
             fails_at: *fails_at,
         };
-        assert!(rt; fails_so(&rt, to, *wanted)?, "call {fails_at}");
+        assert!(rt; fails_so(&rt, to, wanted)?, "call {fails_at}");
     }
     Ok(())
 }

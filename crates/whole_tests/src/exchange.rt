@@ -2,16 +2,17 @@
 
 ghost use Rattle.std.specs.Prelude.{◌≤◌, ◌^◌};
 
+use crate::ample_memory::request;
 use lone_sessions::serve;
 use resp_wire::{
-    Bytes, BytesList, MAX_READ_BUFFER, MAX_READS, MemoryDrain, MemorySource, READ_BUFFER, Request,
-    write_request,
+    MAX_READ_BUFFER, MAX_READS, MemoryDrain, MemorySource, READ_BUFFER, write_request,
 };
 use session_core::{Ended, SessionFault};
 use sorted_sets::OneOwner;
-use std::alloc::Global;
+use std::alloc::Allocator;
 use std::hash::RandomState;
 use std::io;
+use std::test::Fail;
 
 /// What a session came to: the bytes that were written, and how it ended.
 #[derive(Drop)]
@@ -62,33 +63,14 @@ pub fn serve_limited(
     })
 }
 
-/// The bytes of a text in which `~` stands for CR LF.
-pub fn bytes_of(alloc: Global, text: &str) -> io::Result<Vec<u8>> {
-    let mut bytes = Vec::new(alloc);
-    write_text(text, &mut bytes)?;
-    Ok(bytes)
-}
-
 /// Writes the request whose words stand between single blanks.
-pub fn write_words(alloc: Global, words: &str, out: &mut Vec<u8>) -> io::Result<()> {
-    let mut list = Vec::new(alloc);
-    for word in words.split(' ') {
-        list.push(Bytes::from_slice(alloc, word.as_bytes())?)?;
-    }
-    if let Some(request) = Request::new(BytesList::new(list)) {
-        write_request(&request, out)?;
-    }
-    Ok(())
-}
-
-/// Writes a text in which `~` stands for CR LF.
-fn write_text(text: &str, out: &mut Vec<u8>) -> io::Result<()> {
-    for byte in text.as_bytes() {
-        if *byte == b'~' {
-            out.extend_from_slice(b"\r\n")?;
-        } else {
-            out.push(*byte)?;
-        }
-    }
-    Ok(())
+pub fn write_words<A: Allocator + Copy>(
+    alloc: A,
+    words: &str,
+    out: &mut Vec<u8, A>,
+) -> Result<(), Fail> {
+    let request = request(alloc, words)?;
+    let written = write_request(&request, out);
+    drop(request);
+    Ok(written?)
 }

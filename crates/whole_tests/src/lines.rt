@@ -4,9 +4,10 @@
 use exit_lines::{Finish, Line, Unusable};
 use program_runs::after_session;
 use session_core::SessionFault;
+use std::alloc::{AllocError, Allocator};
 use std::test::Fail;
 
-const LINES: [(Line, u8, &str); 19] = [
+static LINES: [(Line, u8, &str); 19] = [
     (Line::BadCommandLine, 2, "zcrackd: bad command line"),
     (
         Line::CannotUseFile(Unusable::Stream),
@@ -56,11 +57,17 @@ const LINES: [(Line, u8, &str); 19] = [
     (Line::TotalsDisagree, 1, "zcrackd: totals disagree"),
 ];
 
+/// Whether a line has this text.
+fn has_text<A: Allocator + Copy>(alloc: A, line: &Line, text: &str) -> Result<bool, AllocError> {
+    let told = format!(in alloc; "{line}")?;
+    Ok(told.as_str() == text)
+}
+
 #[test]
 fn each_line_has_its_text_and_status(rt: HostRuntime) -> Result<(), Fail> {
-    for (line, status, text) in LINES {
-        let told = format!(in rt.alloc(); "{line}")?;
-        assert_eq!(rt; (line.status(), told.as_str()), (status, text));
+    for (line, status, text) in &LINES {
+        let has_text = has_text(rt.alloc(), line, text)?;
+        assert!(rt; has_text && line.status() == *status, "{text}");
     }
     Ok(())
 }

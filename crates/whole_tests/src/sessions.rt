@@ -1,23 +1,25 @@
 //! How sessions end.
 
-use crate::exchange::{bytes_of, serve_bytes, serve_limited};
+use crate::exchange::{serve_bytes, serve_limited};
 use resp_wire::ProtocolFault;
 use session_core::{Ended, SessionFault};
 use std::test::Fail;
 
 /// An addition and a range of one score: 80 bytes.
-pub const TWO_REQUESTS: &str = "*4~$4~ZADD~$1~k~$1~5~$1~a~*4~$13~ZRANGEBYSCORE~$1~k~$1~5~$1~5~";
+pub const TWO_REQUESTS: &[u8] =
+    b"*4\r\n$4\r\nZADD\r\n$1\r\nk\r\n$1\r\n5\r\n$1\r\na\r\n*4\r\n$13\r\nZRANGEBYSCORE\r\n$1\r\nk\r\n$1\r\n5\r\n$1\r\n5\r\n";
 
 /// The first 79 bytes of these.
-const CUT: &str = "*4~$4~ZADD~$1~k~$1~5~$1~a~*4~$13~ZRANGEBYSCORE~$1~k~$1~5~$1~5\r";
+const CUT: &[u8] =
+    b"*4\r\n$4\r\nZADD\r\n$1\r\nk\r\n$1\r\n5\r\n$1\r\na\r\n*4\r\n$13\r\nZRANGEBYSCORE\r\n$1\r\nk\r\n$1\r\n5\r\n$1\r\n5\r";
 
-/// The input of a session, what is written, and how it ends; `~` for CR LF.
-type Talk = (&'static str, &'static str, Result<Ended, SessionFault>);
+/// The input of a session, what is written, and how it ends.
+type Talk = (&'static [u8], &'static [u8], Result<Ended, SessionFault>);
 
-const TALKS: [Talk; 4] = [
+static TALKS: [Talk; 4] = [
     (
         TWO_REQUESTS,
-        ":1~*1~$1~a~",
+        b":1\r\n*1\r\n$1\r\na\r\n",
         Ok(Ended {
             requests: 2,
             rest: 0,
@@ -25,15 +27,15 @@ const TALKS: [Talk; 4] = [
     ),
     (
         CUT,
-        ":1~",
+        b":1\r\n",
         Ok(Ended {
             requests: 1,
             rest: 44,
         }),
     ),
     (
-        "",
-        "",
+        b"",
+        b"",
         Ok(Ended {
             requests: 0,
             rest: 0,
@@ -41,35 +43,36 @@ const TALKS: [Talk; 4] = [
     ),
     // a wrong byte ends the session
     (
-        "*0~*-1~*1~$4~ping~PING~",
-        "+PONG~-ERR protocol 2 not an array~",
+        b"*0\r\n*-1\r\n*1\r\n$4\r\nping\r\nPING\r\n",
+        b"+PONG\r\n-ERR protocol 2 not an array\r\n",
         Err(SessionFault::Wire(ProtocolFault::NotAnArray)),
     ),
 ];
 
 /// Whether a session goes so.
-fn goes_so(rt: &HostRuntime, talk: Talk) -> Result<bool, Fail> {
+fn goes_so(rt: &HostRuntime, talk: &Talk) -> Result<bool, Fail> {
     let (input, written, end) = talk;
-    let input = bytes_of(rt.alloc(), input)?;
-    let session = serve_bytes(rt, &input, 65_536)?;
-    Ok(session.end == end && session.written == bytes_of(rt.alloc(), written)?)
+    let session = serve_bytes(rt, input, 65_536)?;
+    let goes_so = session.end == *end && session.written.as_slice() == *written;
+    drop(session);
+    Ok(goes_so)
 }
 
 #[test]
 fn the_end_of_a_session_is_told(rt: HostRuntime) -> Result<(), Fail> {
-    assert_eq!(rt; bytes_of(rt.alloc(), TWO_REQUESTS)?.len(), 80);
+    assert!(rt; TWO_REQUESTS.len() == 80);
     for (at, talk) in TALKS.iter().enumerate() {
-        assert!(rt; goes_so(&rt, *talk)?, "case {at}");
+        assert!(rt; goes_so(&rt, talk)?, "case {at}");
     }
     Ok(())
 }
 
 #[test]
 fn reads_are_counted(rt: HostRuntime) -> Result<(), Fail> {
-    let alloc = rt.alloc();
-    let input = bytes_of(alloc, TWO_REQUESTS)?;
-    let session = serve_limited(&rt, &input, 65_536, 35, 1)?;
-    let has_first = session.written == bytes_of(alloc, ":1~")?;
-    assert!(rt; has_first && session.end == Err(SessionFault::TooManyReads));
+    let session = serve_limited(&rt, TWO_REQUESTS, 65_536, 35, 1)?;
+    let has_first = session.written.as_slice() == b":1\r\n".as_slice();
+    let is_told = session.end == Err(SessionFault::TooManyReads);
+    drop(session);
+    assert!(rt; has_first && is_told);
     Ok(())
 }

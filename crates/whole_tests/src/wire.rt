@@ -23,13 +23,16 @@ fn an_announced_length_reserves_nothing(rt: HostRuntime) -> Result<(), Fail> {
 }
 
 /// Whether a decoder waits for what is announced, and keeps the bytes that announce it.
-fn announces<A: Allocator + Copy>(heap: A) -> Result<bool, Fail> {
+fn announces<A: Allocator + Copy>(heap: A) -> Result<bool, AllocError> {
     let mut decoder = Decoder::new(heap);
-    decoder.feed(b"*1027\r\n$65536\r\n")?;
+    let fed = decoder.feed(b"*1027\r\n$65536\r\n");
     let next = decoder.next();
     let waits = matches!(&next, Ok(None));
     drop(next);
-    Ok(waits && (decoder.rest_len(), decoder.taken()) == (15, 0))
+    let keeps_all = decoder.rest_len() == 15 && decoder.taken() == 0;
+    drop(decoder);
+    fed?;
+    Ok(waits && keeps_all)
 }
 
 /// Feeds a piece so many times, and takes a request each time: whether each was given.
@@ -60,8 +63,13 @@ fn gives_all<A: Allocator + Copy>(heap: A, first: &[u8], piece: &[u8]) -> Result
     requires { (length first.now ≤ 100) × (length piece.now ≤ 100) }
 {
     let mut decoder = Decoder::new(heap);
-    decoder.feed(first)?;
-    Ok(are_given(&mut decoder, piece, 10_000)? && decoder.taken() == 140_000)
+    let fed = decoder.feed(first);
+    let are_given = are_given(&mut decoder, piece, 10_000);
+    let taken = decoder.taken();
+    drop(decoder);
+    let are_given = are_given?;
+    fed?;
+    Ok(are_given && taken == 140_000)
 }
 
 /// Whether it does with a little heap. These are many times as many bytes as the heap has.
@@ -96,7 +104,7 @@ fn is_request(alloc: Global, count: usize, length: usize) -> Result<bool, AllocE
 }
 
 /// How many words of how many bytes, and whether there is such a request.
-const SIZES: [(usize, usize, bool); 5] = [
+static SIZES: [(usize, usize, bool); 5] = [
     (0, 1, false),
     (1027, 1, true),
     (1028, 1, false),
@@ -106,9 +114,9 @@ const SIZES: [(usize, usize, bool); 5] = [
 
 #[test]
 fn requests_keep_their_limits(rt: HostRuntime) -> Result<(), Fail> {
-    for (count, length, wanted) in SIZES {
-        let found = is_request(rt.alloc(), count, length)?;
-        assert_eq!(rt; found, wanted, "{count} words of {length} bytes");
+    for (count, length, wanted) in &SIZES {
+        let found = is_request(rt.alloc(), *count, *length)?;
+        assert!(rt; found == *wanted, "{count} words of {length} bytes");
     }
     Ok(())
 }
@@ -154,22 +162,37 @@ fn feed<A: Allocator + Copy>(
     Ok(())
 }
 
-/// Takes the next request, which is asked for once more where there was no memory for it.
+/// The next request, which is asked for once more where there was no memory for it.
+fn next_of<A: Allocator + Copy>(
+    decoder: &mut Decoder<A>,
+    given: &mut Given,
+) -> Result<Option<Request<A>>, WireFault> {
+    match decoder.next() {
+        Err(WireFault::NoMemory) => {
+            given.was_asked_again = true;
+            decoder.next()
+        }
+        next => next,
+    }
+}
+
+/// Takes the next request, and notes it.
 fn take_next<A: Allocator + Copy>(
     decoder: &mut Decoder<A>,
     given: &mut Given,
 ) -> Result<(), AllocError> {
-    let mut next = decoder.next();
-    if matches!(next, Err(WireFault::NoMemory)) {
-        given.was_asked_again = true;
-        next = decoder.next();
+    match next_of(decoder, given) {
+        Ok(None) => Ok(()),
+        Ok(Some(request)) => {
+            let noted = note(&request, &mut given.words);
+            drop(request);
+            noted
+        }
+        Err(fault) => {
+            given.fault = Some(fault);
+            Ok(())
+        }
     }
-    match next {
-        Ok(None) => {}
-        Ok(Some(request)) => note(&request, &mut given.words)?,
-        Err(fault) => given.fault = Some(fault),
-    }
-    Ok(())
 }
 
 /// Feeds a text byte by byte, and asks for a request behind each.

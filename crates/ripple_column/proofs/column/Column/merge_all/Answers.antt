@@ -1,4 +1,4 @@
-use Rattle.std.proofs.Common.{arith}
+use Rattle.std.proofs.Common.{arith, rules}
 use Rattle.column_rows.proofs.Counts.{length-sub_bag}
 use Rattle.ripple_column.proofs.Merged.{IsScored-merged}
 use Rattle.ripple_column.proofs.column.Column.merge_all.Goals as goal
@@ -17,3 +17,12 @@ invariant_of-self g c =
       few_insertions = omega (arith, inv.few_insertions, length-sub_bag new.pending.insertions.items old.pending.insertions.items m.less_insertions);
       few_deletions = omega (arith, inv.few_deletions, length-sub_bag new.pending.deletions.items old.pending.deletions.items m.less_deletions);
     }
+
+pub returns-clause-values : goal.returns-clause-values
+returns-clause-values g c = search rules
+
+pub returns-clause-insertions : goal.returns-clause-insertions
+returns-clause-insertions g c = search rules
+
+pub returns-clause-deletions : goal.returns-clause-deletions
+returns-clause-deletions g c = search rules

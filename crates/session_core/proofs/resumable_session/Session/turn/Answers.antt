@@ -78,3 +78,6 @@ returns-in_err-answer-in-Some-clause-halted g c =
     let one = c.in_err-answer-in-Some.ensures.halted in
     let halted = halted_sending g.E.Exec.allows _ _ _ _ _ _ _ _ i.half c.next.new.self c.in-Some.request one.reply _ _ _ gave.0 one.exchange one.ends in
     search (rules, halted)
+
+pub returns-clause-answered : goal.returns-clause-answered
+returns-clause-answered g c = search rules

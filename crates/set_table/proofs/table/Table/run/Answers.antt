@@ -1,4 +1,4 @@
-use Rattle.std.proofs.Common.{◌∙◌, sym, subst, inr, List, ℕ}
+use Rattle.std.proofs.Common.{◌∙◌, sym, subst, inr, List, ℕ, rules}
 use Rattle.zset_commands.specs.AbstractCommand.{key_of}
 use Rattle.set_table.specs.TableAnswers.{HasNoPlace}
 use Rattle.place_names.proofs.PlaceLemmas.{same_some}
@@ -14,3 +14,6 @@ returns-in-None-clause-ok g c =
         λ key e. subst (λ (k : List ℕ). HasNoPlace c.args.pass.now k) (same_some c.in-Some.key.now key (key_of c.args.command.now.meaning) (sym c.in-Some.ensures.key) e) none.1,
       ),
     )
+
+pub returns-in_err-change_at-clause-err : goal.returns-in_err-change_at-clause-err
+returns-in_err-change_at-clause-err g c = search rules
